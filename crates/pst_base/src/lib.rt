@@ -2,10 +2,12 @@
 //! of names, and the answer for want of memory.
 #![tactic(auto)]
 
+mod items;
 mod memory;
 mod position;
 mod table;
 
+pub use items::Items;
 pub use memory::NoMemory;
 pub use position::Place;
 pub use table::{NameId, Names};
