@@ -1,1 +1,2 @@
+pub mod ReadEnd
 pub mod Shelf

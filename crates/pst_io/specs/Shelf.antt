@@ -1,6 +1,6 @@
 -- What a shelf of named files does when a file is opened and read.
-use Rattle.std.specs.Prelude.{◌≡◌, ℕ, ◌<◌, ◌≤◌, ◌↔◌, ◌++◌, List, [], length, take, drop, Option, Bool, is_some}
-use Rattle.std.specs.Option.{ForSome}
+use Rattle.std.specs.Prelude.{◌≡◌, ℕ, ◌-◌, ◌<◌, ◌≤◌, ◌↔◌, ◌++◌, List, [], length, take, drop, Option, Bool, is_some}
+use Rattle.std.specs.Option.{ForSome, option_map}
 
 -- the files of a shelf: the bytes of each name that there is a file of
 abbrev pub Files : Type 0
@@ -20,3 +20,10 @@ pub record MovesFront (left old new : List ℕ) (n : ℕ) : Type 0 where
   pub piece : new ≡ take n left ++ drop n old
   pub there : n ≤ length left
   pub end : 0 < length old → (n ≡ 0) ↔ (left ≡ [])
+
+-- the bytes behind the old ones are the first of what was left, and what follows them is left now
+pub record HasTaken (before after : Option (List ℕ)) (old new : List ℕ) : Type 0 where
+  pub longer : length old ≤ length new
+  pub taken : ForSome before (λ left. new ≡ old ++ take (length new - length old) left)
+  pub there : ForSome before (λ left. length new - length old ≤ length left)
+  pub rest : after ≡ option_map (drop (length new - length old)) before
