@@ -1,0 +1,14 @@
+//! What every part of the compiler and the executive stands on: places in the sources, the table
+//! of names, and the answer for want of memory.
+#![tactic(auto)]
+
+mod memory;
+mod position;
+mod table;
+
+pub use memory::NoMemory;
+pub use position::Place;
+pub use table::{NameId, Names};
+
+#[cfg(test)]
+mod tests;
