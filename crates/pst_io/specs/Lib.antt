@@ -1,2 +1,4 @@
+pub mod Named
 pub mod ReadEnd
 pub mod Shelf
+pub mod SureShelf

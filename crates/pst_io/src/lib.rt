@@ -1,12 +1,14 @@
 //! Where the product reads and writes: shelves of named files, and sinks of bytes.
 #![tactic(auto)]
 
-pub mod fault;
-pub mod shelf;
-pub mod sink;
-pub mod whole;
+mod fault;
+mod shelf;
+mod sink;
+mod sure_shelf;
+mod whole;
 
 pub use fault::Failed;
 pub use shelf::Shelf;
 pub use sink::Sink;
+pub use sure_shelf::SureShelf;
 pub use whole::write_all;
