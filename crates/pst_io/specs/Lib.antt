@@ -1,4 +1,6 @@
+pub mod Held
 pub mod Named
 pub mod ReadEnd
 pub mod Shelf
 pub mod SureShelf
+pub mod SureSink

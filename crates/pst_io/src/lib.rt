@@ -5,10 +5,12 @@ mod fault;
 mod shelf;
 mod sink;
 mod sure_shelf;
+mod sure_sink;
 mod whole;
 
 pub use fault::Failed;
 pub use shelf::Shelf;
 pub use sink::Sink;
 pub use sure_shelf::SureShelf;
+pub use sure_sink::SureSink;
 pub use whole::write_all;
