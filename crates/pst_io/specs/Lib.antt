@@ -1,5 +1,10 @@
+pub mod Failing
+pub mod FaultPlan
 pub mod Held
+pub mod MemoryShelf
+pub mod MemorySink
 pub mod Named
+pub mod Planned
 pub mod ReadEnd
 pub mod Shelf
 pub mod SureShelf

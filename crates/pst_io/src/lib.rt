@@ -2,6 +2,9 @@
 #![tactic(auto)]
 
 mod fault;
+mod fault_plan;
+mod memory_shelf;
+mod memory_sink;
 mod shelf;
 mod sink;
 mod sure_shelf;
@@ -9,8 +12,10 @@ mod sure_sink;
 mod whole;
 
 pub use fault::Failed;
+pub use memory_shelf::MemoryShelf;
+pub use memory_sink::MemorySink;
 pub use shelf::Shelf;
 pub use sink::Sink;
 pub use sure_shelf::SureShelf;
 pub use sure_sink::SureSink;
-pub use whole::write_all;
+pub use whole::{ReadEnd, read_all, write_all};
