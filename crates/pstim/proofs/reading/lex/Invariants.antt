@@ -1,0 +1,10 @@
+use Rattle.std.proofs.Common.{◌≡◌, ◌≤◌, ◌<◌, ◌^◌, ℕ, length}
+use Rattle.pstim.specs.Lexical.{tokens_of}
+use Rattle.pstim.proofs.Pieces.{HasRead}
+use Rattle.pstim.proofs.reading.lex.Given as goal
+
+abbrev pub invariant-loop-rest : goal.invariant-loop-rest
+invariant-loop-rest l = HasRead l.fn.text l.tokens.items l.rest
+
+abbrev pub decreases-loop-rest : goal.decreases-loop-rest
+decreases-loop-rest l = length l.rest

@@ -1,0 +1,8 @@
+use Rattle.std.proofs.Common.{◌≡◌, ◌≤◌, take}
+use Rattle.pstim.specs.Straight.{HaveDifferentNames}
+use Rattle.pstim.specs.Numbering.{AreNumbered}
+use Rattle.pstim.proofs.straight.number_types.Given as goal
+
+-- the declarations so far have their numbers
+abbrev pub invariant-loop-declaration : goal.invariant-loop-declaration
+invariant-loop-declaration l = AreNumbered (take l.declaration-index l.all) l.names

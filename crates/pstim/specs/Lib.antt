@@ -1,0 +1,11 @@
+pub mod Words
+pub mod Lexical
+pub mod Source
+pub mod Straight
+pub mod Numbering
+pub mod Running
+pub mod Texts
+pub mod Outcome
+pub mod Loaded
+pub mod Replies
+pub mod Status

@@ -1,0 +1,45 @@
+//! The answers of the program.
+ghost use Rattle.std.specs.Prelude.{◌≡◌};
+ghost use Rattle.pstim.specs.Status.{status_of};
+
+/// What a line of words was answered.
+#[derive(Clone, Copy, Debug, PartialEq, Eq)]
+pub enum Answer {
+    /// The scenario was run whole, and its trace was printed.
+    Done {
+        /// How many actions it has.
+        actions: u32,
+    },
+    /// The shelf has no file of that name.
+    NoFile {
+        /// The index of the word that names the file.
+        word: u32,
+    },
+    /// The file couldn't be read: the shelf's count of faults rose.
+    ReadFault {
+        /// The index of the word that names the file.
+        word: u32,
+    },
+    /// The sink's count of faults rose; a part of the text of another answer was written.
+    WriteFault,
+    /// Memory ran out; nothing was written.
+    NoMemory,
+    /// The words, or the source, are not served yet.
+    Unbuilt,
+}
+
+impl Answer {
+    /// The exit status of the program.
+    pub fn status(&self) -> u8
+        ensures { result ≡ status_of self.now }
+    {
+        match self {
+            Answer::Done { .. } => 0,
+            Answer::NoFile { .. } => 2,
+            Answer::ReadFault { .. } => 6,
+            Answer::WriteFault => 7,
+            Answer::NoMemory => 8,
+            Answer::Unbuilt => 10,
+        }
+    }
+}

@@ -1,0 +1,171 @@
+//! The words of the command line, and names.
+ghost use Rattle.std.specs.Prelude.{◌≡◌, ◌∷◌, [], List, ℕ, map, string_bytes, ◌++◌, nat_eq, codes, MatchOption, MatchBool};
+ghost use Rattle.std.specs.List.{list_any, list_all};
+ghost use Rattle.std.specs.Str.{bytes_eq};
+ghost use Rattle.pstim.specs.Words.{is_letter as is_letter_code, is_word_byte as is_word_code, is_reserved as is_reserved_text, is_name as is_name_text, is_file_name as is_file_text, IsLine};
+
+/// The reserved words of the language.
+const RESERVED: [&str; 46] = [
+    "abstract",
+    "action",
+    "activity",
+    "bind",
+    "bit",
+    "body",
+    "bool",
+    "buffer",
+    "component",
+    "constraint",
+    "default",
+    "do",
+    "else",
+    "enum",
+    "exec",
+    "false",
+    "foreach",
+    "function",
+    "if",
+    "import",
+    "in",
+    "input",
+    "int",
+    "join_branch",
+    "join_first",
+    "join_none",
+    "join_select",
+    "lock",
+    "match",
+    "output",
+    "parallel",
+    "pool",
+    "rand",
+    "repeat",
+    "resource",
+    "schedule",
+    "select",
+    "sequence",
+    "share",
+    "state",
+    "stream",
+    "target",
+    "true",
+    "unique",
+    "void",
+    "with",
+];
+
+/// A line of words that is served.
+#[derive(Clone, Copy)]
+pub struct Line<'a> {
+    /// The name of the root action in the component `pss_top`.
+    pub root: &'a [u8],
+    /// The name of the file.
+    pub file: &'a str,
+}
+
+/// Whether the byte is an ASCII letter or an underscore.
+pub fn is_letter(byte: u8) -> bool
+    ensures { result ≡ is_letter_code byte }
+{
+    matches!(byte, b'A'..=b'Z' | b'a'..=b'z' | b'_')
+}
+
+/// Whether the byte is a letter, a digit or an underscore.
+pub fn is_word_byte(byte: u8) -> bool
+    ensures { result ≡ is_word_code byte }
+{
+    is_letter(byte) || byte.is_ascii_digit()
+}
+
+/// Whether the word is one of these.
+fn is_one_of(words: &[&str], word: &[u8]) -> bool
+    ensures { result ≡ list_any (λ w. bytes_eq w.now word.now) words.now }
+{
+    words.iter().any(|w| w.as_bytes() == word)
+}
+
+/// Whether the word is reserved by the language.
+pub fn is_reserved(word: &[u8]) -> bool
+    ensures { result ≡ is_reserved_text word.now }
+{
+    is_one_of(&RESERVED, word)
+}
+
+/// Whether each byte is a letter, a digit or an underscore.
+fn are_word_bytes(word: &[u8]) -> bool
+    ensures { result ≡ list_all is_word_code word.now }
+{
+    word.iter().all(|b| is_word_byte(*b))
+}
+
+/// Whether there is a `=`.
+fn has_equals_sign(word: &[u8]) -> bool
+    ensures { result ≡ list_any (λ b. nat_eq b 61) word.now }
+{
+    word.iter().any(|b| *b == b'=')
+}
+
+/// Whether the word is a name.
+fn is_name(word: &[u8]) -> bool
+    ensures { result ≡ is_name_text word.now }
+{
+    if word.is_empty() {
+        return false;
+    }
+    is_letter(word[0]) && are_word_bytes(word) && !is_reserved(word)
+}
+
+/// Whether the word names a file: it isn't empty and has no `=`.
+fn is_file_name(word: &[u8]) -> bool
+    ensures { result ≡ is_file_text word.now }
+{
+    if word.is_empty() {
+        return false;
+    }
+    !has_equals_sign(word)
+}
+
+/// The line that the words are: `run`, `root=pss_top::NAME` and a file name.
+pub fn line_of(words: &[String]) -> Option<Line<'_>>
+    ensures { MatchOption result
+        ((root file : List ℕ) → IsLine (map string_bytes words.now) root file → ⊥)
+        (λ line. IsLine (map string_bytes words.now) line.root.now line.file.now) }
+{
+    if words.len() != 3 {
+        return None;
+    }
+    line_from(words[0].as_str(), words[1].as_str(), words[2].as_str())
+}
+
+/// The line that three words are.
+fn line_from<'a>(command: &str, key: &'a str, file: &'a str) -> Option<Line<'a>>
+    ensures { MatchOption result
+        ((root : List ℕ) → IsLine (command.now ∷ key.now ∷ file.now ∷ []) root file.now → ⊥)
+        (λ line. IsLine (command.now ∷ key.now ∷ file.now ∷ []) line.root.now line.file.now) }
+{
+    if !is_run(command) {
+        return None;
+    }
+    let root = root_of(key.as_bytes())?;
+    if is_name(root) && is_file_name(file.as_bytes()) {
+        Some(Line { root, file })
+    } else {
+        None
+    }
+}
+
+/// Whether the word is `run`.
+fn is_run(word: &str) -> bool
+    ensures { MatchBool result (word.now ≡ codes "run") (word.now ≡ codes "run" → ⊥) }
+{
+    word == "run"
+}
+
+/// What stands behind `root=pss_top::`.
+fn root_of(key: &[u8]) -> Option<&[u8]>
+    ensures { MatchOption result
+        ((root : List ℕ) → key.now ≡ codes "root=pss_top::" ++ root → ⊥)
+        (λ root. key.now ≡ codes "root=pss_top::" ++ root.now) }
+{
+    key.strip_prefix(b"root=pss_top::".as_slice())
+}
