@@ -1,4 +1,4 @@
-ghost use Rattle.std.specs.Prelude.{◌≡◌, ◌-◌, ◌^◌, None};
+ghost use Rattle.std.specs.Prelude.{◌≡◌, ◌-◌, ◌^◌, ◌≤◌, None, Ok};
 
 use crate::fault::Failed;
 use crate::sink::Sink;
@@ -39,7 +39,11 @@ impl<R: Print> Sink for OutSink<'_, R> {
 
     ghost faults = { λ count. count };
 
-    fn reserve(&mut self, _more: usize) -> Result<(), NoMemory> {
+    fn reserve(&mut self, more: usize) -> Result<(), NoMemory>
+        ensures ok { result ≡ Ok tt }
+        ensures unchanged { self.new ≡ self.old }
+        ensures room { more ≤ 2 ^ 64 - 1 }
+    {
         Ok(())
     }
 

@@ -1,6 +1,6 @@
-/// What a lane passes before it runs a body. Nothing is promised but that a call that returns does no harm.
+/// What a lane passes before it runs a body, so that a caller can hold lanes back. Nothing is promised of it.
 pub trait Gate {
-    /// Passes the gate on a lane. It may wait.
+    /// Passes the gate on this lane. A gate that keeps a handle for it may wait here.
     fn pass(&self, lane: u32);
 }
 
