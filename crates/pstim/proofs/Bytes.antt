@@ -1,12 +1,12 @@
 -- Runs of bytes, words and comments.
-use Rattle.std.proofs.Common.{◌≡◌, ◌∙◌, ℕ, suc, zero, ◌+◌, ◌-◌, ◌<◌, ◌≤◌, List, [], ◌∷◌, length, get_or, take, drop, Bool, true, false, cond, refl, ap, sym, arith, nat_eq}
-use Rattle.std.specs.Prelude.{Option, None, Some, position, nat_lt, nat_le, not, ◌&&◌, ◌||◌, unwrap_or}
-use Rattle.std.specs.List.{position_or_len, prefix_len, list_all}
+use Rattle.std.proofs.Common.{◌≡◌, ◌∙◌, ℕ, suc, zero, ◌+◌, ◌<◌, ◌≤◌, List, [], ◌∷◌, length, get_or, take, drop, Bool, true, false, cond, refl, ap, sym, arith, nat_eq}
+use Rattle.std.specs.Prelude.{Option, None, Some, position, nat_lt, not, ◌&&◌, unwrap_or}
+use Rattle.std.specs.List.{position_or_len, list_all}
 use Rattle.std.specs.Option.{option_map}
 use Rattle.std.specs.Str.{IsAscii}
 use Rattle.std.proofs.lemmas.List.Sums.{prefix_len-le-length}
 use Rattle.std.proofs.lemmas.Bool.Decides.{nat_tests}
-use Rattle.pstim.specs.Words.{is_letter, is_word_byte}
+use Rattle.pstim.specs.Words.{is_word_byte}
 use Rattle.pstim.specs.Lexical.{before_close}
 
 -- a position, or the length where there is none

@@ -1,9 +1,9 @@
 -- What the tokens of a source tell of it.
 use Rattle.std.proofs.Common.{◌≡◌, ◌∙◌, ℕ, List, [], ◌∷◌, ◌++◌, refl, ap, sym, append_assoc, length, length-append, drop, ◌≤◌, arith}
-use Rattle.std.specs.Prelude.{Option, None, Some, codes}
+use Rattle.std.specs.Prelude.{Option, None, Some}
 use Rattle.std.specs.List.{flat_map}
 use Rattle.pstim.specs.declared.lexing.Token.{Token}
-use Rattle.pstim.specs.declared.lexing.Token.TheVariants.{Component, Action, Activity, Do, Open, Close, Semicolon, Name}
+use Rattle.pstim.specs.declared.lexing.Token.TheVariants.{Action, Do, Close, Semicolon, Name}
 use Rattle.pstim.specs.declared.parsing.Declaration.{Declaration}
 use Rattle.pstim.specs.Source.{do_of, activity_of, action_of, source_of}
 

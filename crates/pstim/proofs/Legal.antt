@@ -1,6 +1,6 @@
 -- Running the actions of a straight scenario in turn is legal.
-use Rattle.std.proofs.Common.{◌≡◌, ◌∙◌, ℕ, zero, suc, ◌+◌, ◌<◌, ◌≤◌, List, [], ◌∷◌, ◌++◌, length, get_or, refl, ap, sym, subst, arith, append_assoc, inl, inr, Bool, true, false}
-use Rattle.std.specs.Prelude.{Some, None, slice_get, nat_lt, ◌⊎◌, Contains}
+use Rattle.std.proofs.Common.{◌≡◌, ◌∙◌, ℕ, zero, suc, ◌<◌, ◌≤◌, List, [], ◌∷◌, ◌++◌, length, get_or, refl, ap, sym, subst, arith, append_assoc, inl, inr, Bool, true, false}
+use Rattle.std.specs.Prelude.{Some, slice_get, nat_lt, ◌⊎◌, Contains}
 use Rattle.std.proofs.lemmas.Bool.Decides.{nat_tests}
 use Rattle.std.proofs.lemmas.List.Elements.{Contains-append_left, Contains-append_right, Contains-append_cases}
 use Rattle.pst_scen.specs.declared.act.Act.{Act}
@@ -9,10 +9,10 @@ use Rattle.pst_scen.specs.declared.act.Link.{Link}
 use Rattle.pst_scen.specs.declared.scenario.Scenario.{Scenario}
 use Rattle.pst_scen.specs.declared.event.Event.{Event}
 use Rattle.pst_scen.specs.declared.event.Event.TheVariants.{Start, End}
-use Rattle.pst_scen.specs.Flows.{Refers, Feeds, Streams, FromFirst, FromSecond, Reads, Writes, Claims}
+use Rattle.pst_scen.specs.Flows.{Refers, Streams, FromFirst, FromSecond, Claims}
 use Rattle.pst_scen.specs.Order.{Before, Together, Itself, Linked}
-use Rattle.pst_scen.specs.Conflicts.{Clash, Resource, FirstWrites, SecondWrites, Conflict}
-use Rattle.pst_scen.specs.Trace.{StartsOn, Started, Ended, Runs, IsHeld, IsWholeGroup, AreFree, MayStart, MayCome, Block, Starts, Ends, events, AreLegal, IsLegalTrace, IsWhole}
+use Rattle.pst_scen.specs.Conflicts.{Clash, Resource, FirstWrites, SecondWrites}
+use Rattle.pst_scen.specs.Trace.{Ended, Runs, MayStart, Block, Starts, Ends, events, AreLegal, IsLegalTrace, IsWhole}
 use Rattle.pstim.specs.Running.{in_turn}
 
 -- a scenario without references and claims, whose actions stand in order

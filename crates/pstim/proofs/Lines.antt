@@ -1,8 +1,8 @@
 -- Three words.
-use Rattle.std.proofs.Common.{◌≡◌, ◌∙◌, ℕ, List, [], ◌∷◌, ◌++◌, length, get_or, map, refl, sym, subst, arith, true}
+use Rattle.std.proofs.Common.{◌≡◌, ℕ, List, [], ◌∷◌, ◌++◌, length, get_or, map, refl, arith}
 use Rattle.std.specs.Prelude.{String, string_bytes, codes}
 use Rattle.std.specs.declared.alloc.Global.{Global}
-use Rattle.pstim.specs.Words.{IsLine, is_name, is_file_name}
+use Rattle.pstim.specs.Words.{IsLine}
 
 pub three_words : (words : List (String Global)) (a b c : String Global) → length words ≡ 3
     → a ≡ get_or words 0 a → b ≡ get_or words 1 b → c ≡ get_or words 2 c

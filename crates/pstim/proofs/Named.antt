@@ -1,5 +1,5 @@
 -- Names and their numbers.
-use Rattle.std.proofs.Common.{◌≡◌, ◌∙◌, ℕ, zero, suc, ◌+◌, ◌<◌, ◌≤◌, List, [], ◌∷◌, ◌++◌, length, get_or, take, drop, map, refl, ap, sym, subst, arith, true, false, cond, Bool, inl, inr}
+use Rattle.std.proofs.Common.{◌≡◌, ◌∙◌, ℕ, zero, suc, ◌+◌, ◌<◌, List, [], ◌∷◌, ◌++◌, length, get_or, take, drop, map, refl, ap, sym, subst, arith, true, false, cond, Bool, inl, inr}
 use Rattle.std.specs.Prelude.{Some, None, Option, slice_get, ◌||◌, ◌⊎◌, is_some, not, MatchBool, min}
 use Rattle.std.specs.List.{list_any, AllZip}
 use Rattle.std.specs.Str.{bytes_eq}
@@ -10,7 +10,7 @@ use Rattle.std.specs.Option.{option_map}
 use Rattle.pst_base.specs.Names.{with_text}
 use Rattle.pst_scen.specs.declared.scenario.Scenario.{Scenario}
 use Rattle.pstim.specs.declared.parsing.Declaration.{Declaration}
-use Rattle.pstim.specs.Straight.{names_of, IsNumberOf, IsAtomic, AreAtomic, HaveDifferentNames, PerformsIn}
+use Rattle.pstim.specs.Straight.{names_of, IsAtomic, AreAtomic, HaveDifferentNames, PerformsIn}
 use Rattle.pstim.specs.Numbering.{AreNumbered, HasNumber, LacksOne}
 
 same_bytes : (xs : List ℕ) → bytes_eq xs xs ≡ true

@@ -1,10 +1,10 @@
 -- What opening and reading a file tells.
-use Rattle.std.proofs.Common.{◌≡◌, ◌∙◌, ℕ, ◌<◌, ◌≤◌, List, [], ◌++◌, length, refl, ap, sym, subst, true, false, Bool}
+use Rattle.std.proofs.Common.{◌≡◌, ◌∙◌, ℕ, ◌≤◌, List, [], ◌++◌, length, refl, ap, sym, subst, true, false, Bool}
 use Rattle.std.specs.Prelude.{Option, Some, None, is_some}
 use Rattle.std.specs.Option.{ForSome}
 use Rattle.std.specs.Bool.{OnTrue}
 use Rattle.pst_io.specs.Shelf.{Files, TellsWhether, HasOpened}
-use Rattle.pstim.specs.Outcome.{IsSource, IsTooLarge, most_bytes}
+use Rattle.pstim.specs.Outcome.{IsSource, most_bytes}
 use Rattle.pstim.specs.Loaded.{IsOpen}
 
 -- a file that was found is open

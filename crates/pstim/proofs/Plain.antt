@@ -1,14 +1,13 @@
 -- The scenarios of the straight form are plain.
-use Rattle.std.proofs.Common.{◌≡◌, ◌∙◌, ℕ, zero, suc, ◌+◌, ◌<◌, ◌≤◌, ◌^◌, List, [], ◌∷◌, length, refl, ap, sym, subst, arith, inl, inr, add-one}
-use Rattle.std.specs.Prelude.{Option, Some, None, slice_get, ◌⊎◌}
+use Rattle.std.proofs.Common.{◌≡◌, ◌∙◌, ℕ, zero, suc, ◌+◌, ◌<◌, ◌≤◌, List, [], ◌∷◌, length, refl, ap, sym, subst, arith}
+use Rattle.std.specs.Prelude.{Option, Some, None, slice_get}
 use Rattle.pst_scen.specs.declared.act.Act.{Act}
 use Rattle.pst_scen.specs.declared.tree.Node.{Node}
-use Rattle.pst_scen.specs.declared.tree.Fill.TheVariants.{Leaf, Compound}
+use Rattle.pst_scen.specs.declared.tree.Fill.TheVariants.{Leaf}
 use Rattle.pst_scen.specs.declared.scenario.Scenario.{Scenario}
-use Rattle.pst_scen.specs.Tree.{IsNode, IsChild, StandsUnder, AtTop, Below, Contains-act, StandsEarlier}
-use Rattle.pst_scen.specs.Order.{Before}
+use Rattle.pst_scen.specs.Tree.{IsChild, StandsUnder, AtTop, Below, Contains-act}
 use Rattle.pstim.specs.declared.parsing.Declaration.{Declaration}
-use Rattle.pstim.specs.Straight.{atomic_scenario, compound_scenario, acts_from, act_at, leaves_from, nodes_under, HasScenario, IsScenarioOf, PerformsIn, names_of}
+use Rattle.pstim.specs.Straight.{atomic_scenario, compound_scenario, acts_from, act_at, leaves_from, nodes_under, HasScenario, IsScenarioOf, names_of}
 use Rattle.pstim.proofs.Legal.{IsPlain}
 use Rattle.pstim.proofs.Named.{zip_length}
 

@@ -1,5 +1,5 @@
 -- Lines that are left to print.
-use Rattle.std.proofs.Common.{◌≡◌, ◌∙◌, ℕ, suc, ◌+◌, ◌<◌, List, [], ◌∷◌, ◌++◌, length, get_or, drop, refl, ap, sym, add-one, append_assoc}
+use Rattle.std.proofs.Common.{◌≡◌, ◌∙◌, ℕ, suc, ◌+◌, ◌<◌, List, ◌∷◌, ◌++◌, length, get_or, drop, ap, sym, add-one, append_assoc}
 use Rattle.std.proofs.Common.{drop-cons}
 use Rattle.pst_scen.specs.declared.act.Act.{Act}
 use Rattle.pstim.specs.Texts.{action_line, action_lines}

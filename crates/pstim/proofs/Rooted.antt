@@ -1,5 +1,5 @@
 -- The root among the declarations.
-use Rattle.std.proofs.Common.{◌≡◌, ◌∙◌, ℕ, zero, suc, ◌+◌, ◌<◌, ◌≤◌, List, [], ◌∷◌, length, get_or, refl, ap, sym, subst, true, false, cond, Bool, arith}
+use Rattle.std.proofs.Common.{◌≡◌, ◌∙◌, ℕ, zero, suc, ◌+◌, ◌≤◌, List, [], ◌∷◌, length, get_or, refl, ap, sym, subst, true, false, cond, Bool, arith}
 use Rattle.std.specs.Prelude.{Some, None, Option, Result, Ok, Err, slice_get, position, nat_lt, IfOk, MatchOption}
 use Rattle.std.specs.List.{position_or_len}
 use Rattle.std.proofs.lemmas.Bool.Decides.{nat_tests}

@@ -1,5 +1,5 @@
 -- The texts that the program prints.
-use Rattle.std.specs.Prelude.{ℕ, ◌+◌, List, [], ◌∷◌, ◌++◌, length, get_or, Bool, true, false, if◌then◌else◌, codes, decimal}
+use Rattle.std.specs.Prelude.{ℕ, ◌+◌, List, [], ◌∷◌, ◌++◌, length, get_or, Bool, false, if◌then◌else◌, codes, decimal}
 use Rattle.pst_scen.specs.declared.tree.Node.{Node}
 use Rattle.pst_scen.specs.declared.tree.Fill.{Fill}
 use Rattle.pst_scen.specs.declared.tree.Fill.TheVariants.{Compound, Leaf, Sequence, Parallel, Schedule, Joined, Select, Repeat, Turn, If, Match}

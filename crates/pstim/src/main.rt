@@ -51,6 +51,9 @@ fn lanes_of(alloc: Global) -> Result<Vec<ScriptTarget>, AllocError> {
     Ok(lanes)
 }
 
+#[cfg(test)]
+mod tests;
+
 fn main(rt: HostRuntime) -> ExitCode {
     let alloc = rt.alloc();
     let (Ok(words), Ok(mut lanes)) = (words_of(&rt), lanes_of(alloc)) else {

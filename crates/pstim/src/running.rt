@@ -10,11 +10,12 @@ use std::alloc::Global;
 fn note(trace: &mut Vec<Event>, act: u32) -> Result<(), NoMemory>
     ensures { OnOk result (trace.new.items ≡ trace.old.items ++ Event.Start act 0 false ∷ Event.End act ∷ []) }
 {
-    trace.push(Event::Start {
+    let start = Event::Start {
         act,
         lane: 0,
         more: false,
-    })?;
+    };
+    trace.push(start)?;
     trace.push(Event::End { act })?;
     Ok(())
 }

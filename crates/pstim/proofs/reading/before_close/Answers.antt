@@ -1,4 +1,4 @@
-use Rattle.std.proofs.Common.{◌≡◌, ◌≤◌, ◌+◌, length, sym, arith}
+use Rattle.std.proofs.Common.{◌≤◌, ◌+◌, length, sym, arith}
 use Rattle.pstim.proofs.Bytes.{before_close-none}
 use Rattle.pstim.proofs.reading.before_close.Goals as goal
 

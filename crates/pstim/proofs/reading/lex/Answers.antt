@@ -1,5 +1,5 @@
-use Rattle.std.proofs.Common.{◌≡◌, ◌∙◌, ◌<◌, ◌≤◌, ◌++◌, length, drop, get_or, subst, sym, arith}
-use Rattle.std.specs.Prelude.{Some, option_to_list}
+use Rattle.std.proofs.Common.{◌≡◌, ◌∙◌, ◌<◌, ◌≤◌, length, drop, get_or, subst, sym, arith}
+use Rattle.std.specs.Prelude.{Some}
 use Rattle.pstim.specs.Lexical.{piece_at}
 use Rattle.pstim.proofs.Pieces.{HasRead, none_read, read_more}
 use Rattle.pstim.proofs.reading.lex.Goals as goal

@@ -1,5 +1,4 @@
-use Rattle.std.proofs.Common.{◌≡◌, ◌≤◌, ◌<◌, ◌^◌, ℕ, length}
-use Rattle.pstim.specs.Lexical.{tokens_of}
+use Rattle.std.proofs.Common.{length}
 use Rattle.pstim.proofs.Pieces.{HasRead}
 use Rattle.pstim.proofs.reading.lex.Given as goal
 

@@ -1,4 +1,4 @@
-use Rattle.std.proofs.Common.{◌≡◌, ◌∙◌, ap, length, rules, nat_eq}
+use Rattle.std.proofs.Common.{◌∙◌, ap, length, nat_eq}
 use Rattle.std.specs.Prelude.{unwrap_or}
 use Rattle.pstim.proofs.Bytes.{unwrap_or-position}
 use Rattle.pstim.proofs.reading.line_length.Goals as goal

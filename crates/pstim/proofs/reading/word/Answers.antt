@@ -1,4 +1,4 @@
-use Rattle.std.proofs.Common.{◌≡◌, ◌∙◌, ap, subst, sym, take, true}
+use Rattle.std.proofs.Common.{◌∙◌, ap, take}
 use Rattle.std.specs.List.{list_all}
 use Rattle.pstim.specs.Words.{is_word_byte}
 use Rattle.pstim.proofs.Bytes.{list_all-front}

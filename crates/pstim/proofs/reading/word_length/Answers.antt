@@ -1,4 +1,4 @@
-use Rattle.std.proofs.Common.{◌≡◌, ◌∙◌, ap, length, rules}
+use Rattle.std.proofs.Common.{◌∙◌, ap, length}
 use Rattle.std.specs.Prelude.{unwrap_or, not}
 use Rattle.pstim.specs.Words.{is_word_byte}
 use Rattle.pstim.proofs.Bytes.{unwrap_or-position}

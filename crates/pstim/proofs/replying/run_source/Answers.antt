@@ -1,5 +1,5 @@
-use Rattle.std.proofs.Common.{◌≡◌, ◌∙◌, ◌<◌, ◌≤◌, List, length, refl, ap, sym, subst, arith}
-use Rattle.std.specs.Prelude.{Some, string_bytes}
+use Rattle.std.proofs.Common.{◌≡◌, ◌∙◌, ◌≤◌, List, length, refl, ap, sym, subst, arith}
+use Rattle.std.specs.Prelude.{Some}
 use Rattle.pst_scen.specs.declared.event.Event.{Event}
 use Rattle.pstim.specs.declared.parsing.Declaration.{Declaration}
 use Rattle.pstim.specs.Lexical.{tokens_of}
@@ -71,6 +71,6 @@ returns c =
         whole = run_is_whole c.in-Some-3.scenario;
         count_is = count;
         text_is = c.in_ok-text.ensures ∙ ap (λ (all : List Declaration). trace_text (names_of all) c.in-Some-3.scenario c.as_slice-4.result.now) all
-          ∙ ap (λ (es : List Event). trace_text (names_of c.as_slice.result.now) c.in-Some-3.scenario es) trace;
+            ∙ ap (λ (es : List Event). trace_text (names_of c.as_slice.result.now) c.in-Some-3.scenario es) trace;
       };
     }

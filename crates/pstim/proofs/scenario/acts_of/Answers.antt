@@ -1,6 +1,6 @@
-use Rattle.std.proofs.Common.{◌≡◌, ◌∙◌, ◌∷◌, ◌++◌, ◌+◌, [], ap, sym, take}
+use Rattle.std.proofs.Common.{◌∙◌, ◌∷◌, ◌++◌, [], ap, sym, take}
 use Rattle.pst_scen.specs.declared.act.Act.{Act}
-use Rattle.pstim.specs.Straight.{act_at, acts_from}
+use Rattle.pstim.specs.Straight.{acts_from}
 use Rattle.pstim.proofs.Turns.{acts_from-more}
 use Rattle.pstim.proofs.scenario.acts_of.Goals as goal
 

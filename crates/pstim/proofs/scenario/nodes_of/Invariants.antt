@@ -1,6 +1,4 @@
-use Rattle.std.proofs.Common.{◌≡◌, ◌∷◌, [], take}
-use Rattle.std.specs.Prelude.{None}
-use Rattle.pst_scen.specs.declared.tree.Fill.TheVariants.{Compound}
+use Rattle.std.proofs.Common.{◌≡◌, take}
 use Rattle.pstim.specs.Straight.{nodes_under}
 use Rattle.pstim.proofs.scenario.nodes_of.Given as goal
 

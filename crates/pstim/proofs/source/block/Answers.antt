@@ -1,6 +1,6 @@
-use Rattle.std.proofs.Common.{◌≡◌, ◌∙◌, ◌∷◌, ◌++◌, [], sym, ap}
+use Rattle.std.proofs.Common.{◌≡◌, ◌∙◌, ◌∷◌, ◌++◌, sym}
 use Rattle.std.specs.List.{flat_map}
-use Rattle.pstim.specs.declared.lexing.Token.TheVariants.{Open, Close}
+use Rattle.pstim.specs.declared.lexing.Token.TheVariants.{Close}
 use Rattle.pstim.specs.Source.{do_of}
 use Rattle.pstim.proofs.Grammar.{told_do, same_items}
 use Rattle.pstim.proofs.source.block.Goals as goal

@@ -1,7 +1,7 @@
-use Rattle.std.proofs.Common.{◌≡◌, ◌∙◌, ◌∷◌, ◌++◌, [], sym, ap}
+use Rattle.std.proofs.Common.{◌≡◌, ◌∙◌, ◌∷◌, ◌++◌, sym, ap}
 use Rattle.std.specs.List.{flat_map}
 use Rattle.pstim.specs.declared.lexing.Token.{Token}
-use Rattle.pstim.specs.declared.lexing.Token.TheVariants.{Action, Close}
+use Rattle.pstim.specs.declared.lexing.Token.TheVariants.{Action}
 use Rattle.pstim.specs.Source.{action_of}
 use Rattle.pstim.proofs.Grammar.{told_action, none_at_action, none_at_another, none_at_end, none_left}
 use Rattle.pstim.proofs.source.declarations.Goals as goal

@@ -1,7 +1,7 @@
-use Rattle.std.proofs.Common.{◌≡◌, ◌∙◌, ◌∷◌, ◌++◌, [], sym, ap}
+use Rattle.std.proofs.Common.{◌≡◌, ◌∙◌, ◌∷◌, ◌++◌, sym, ap}
 use Rattle.std.specs.List.{flat_map}
 use Rattle.pstim.specs.declared.lexing.Token.{Token}
-use Rattle.pstim.specs.declared.lexing.Token.TheVariants.{Do, Close}
+use Rattle.pstim.specs.declared.lexing.Token.TheVariants.{Do}
 use Rattle.pstim.specs.Source.{do_of}
 use Rattle.pstim.proofs.Grammar.{told_do, none_at_do, none_at_other, none_at_end, none_left}
 use Rattle.pstim.proofs.source.performed.Goals as goal

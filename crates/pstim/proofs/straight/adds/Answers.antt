@@ -1,5 +1,4 @@
-use Rattle.std.proofs.Common.{◌≡◌, ◌∙◌, ap, sym, length}
-use Rattle.pst_base.specs.Names.{with_text}
+use Rattle.std.proofs.Common.{◌∙◌, ap, sym, length}
 use Rattle.pstim.proofs.Named.{grown}
 use Rattle.pstim.proofs.straight.adds.Goals as goal
 

@@ -1,7 +1,6 @@
 use Rattle.std.proofs.Common.{◌≡◌, ◌∙◌, sym}
-use Rattle.std.specs.Prelude.{position, None, Some}
 use Rattle.pstim.specs.Straight.{AreSound}
-use Rattle.pstim.proofs.Rooted.{is_named, rooted, unrooted}
+use Rattle.pstim.proofs.Rooted.{rooted, unrooted}
 use Rattle.pstim.proofs.straight.find_scenario.Goals as goal
 
 pub returns-in-None : goal.returns-in-None

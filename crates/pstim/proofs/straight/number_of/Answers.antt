@@ -1,4 +1,4 @@
-use Rattle.std.proofs.Common.{◌≡◌, ◌∙◌, ap, sym, length}
+use Rattle.std.proofs.Common.{◌∙◌, ap, sym, length}
 use Rattle.pstim.proofs.Named.{grown}
 use Rattle.pstim.proofs.straight.number_of.Goals as goal
 

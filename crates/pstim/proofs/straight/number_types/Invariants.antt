@@ -1,5 +1,4 @@
-use Rattle.std.proofs.Common.{◌≡◌, ◌≤◌, take}
-use Rattle.pstim.specs.Straight.{HaveDifferentNames}
+use Rattle.std.proofs.Common.{take}
 use Rattle.pstim.specs.Numbering.{AreNumbered}
 use Rattle.pstim.proofs.straight.number_types.Given as goal
 

@@ -1,4 +1,4 @@
-use Rattle.std.proofs.Common.{sym, ◌∙◌}
+use Rattle.std.proofs.Common.{◌∙◌}
 use Rattle.pstim.proofs.Lines.{key_is}
 use Rattle.pstim.proofs.words.line_from.Goals as goal
 

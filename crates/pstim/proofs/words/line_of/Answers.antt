@@ -1,4 +1,3 @@
-use Rattle.std.proofs.Common.{arith, length}
 use Rattle.pstim.proofs.Lines.{other_count}
 use Rattle.pstim.proofs.words.line_of.Goals as goal
 
