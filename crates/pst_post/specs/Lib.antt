@@ -1,0 +1,6 @@
+pub mod Gathered
+pub mod Plays
+pub mod Rule
+pub mod Seats
+pub mod Steps
+pub mod Views

@@ -1,0 +1,54 @@
+-- What each atomic step tells: of the step, the seat before it, the word that it found, and the seat after it.
+use Rattle.std.specs.Prelude.{◌≡◌, ℕ, ◌+◌, ◌^◌, ◌≤◌, ◌==◌, [], ◌∷◌, ◌++◌, Option, None, Some}
+use Rattle.atomic_table.specs.Table.{Me, Step}
+use Rattle.pst_post.specs.declared.view.Entry.{Entry}
+use Rattle.pst_post.specs.declared.view.LaneView.{LaneView}
+use Rattle.pst_post.specs.declared.view.SeatStatus.TheVariants.{Out, Gathered}
+use Rattle.pst_post.specs.declared.view.View.{View}
+use Rattle.pst_post.specs.declared.view.View.TheVariants.{Book, Lane}
+use Rattle.pst_post.specs.Gathered.{CollectTells}
+use Rattle.pst_post.specs.Rule.{word_of}
+use Rattle.pst_post.specs.Steps.{after_post, after_collect, with_seat}
+use Rattle.pst_post.specs.Views.{IfGathered, entries_of, entry_at, lane_of, progress_of, with_entry_at}
+
+abbrev pub Seated : Type 0
+Seated = Me ℕ View
+
+-- the book's seat with another entry of the lane k
+abbrev pub with_entry_of : Seated → ℕ → Entry → Seated
+with_entry_of v k e = (Book (with_entry_at (entries_of v.0) k e), v.1)
+
+-- the entry of the lane k in the book's seat
+abbrev pub entry_of : Seated → ℕ → Entry
+entry_of v k = entry_at (entries_of v.0) k
+
+abbrev pub Posts : Step ℕ → Seated → ℕ → Seated → Type 0
+Posts st v found w = (a : ℕ) → st.second ≡ a + 1 → w ≡ with_entry_of v st.word (after_post (found == 0) (entry_of v st.word) a)
+
+abbrev pub Collects : Step ℕ → Seated → ℕ → Seated → Type 0
+Collects st v found w =
+    (w ≡ with_entry_of v st.word (after_collect (found == 0) (entry_of v st.word)))
+    × IfGathered (entry_of v st.word).seat (CollectTells (found == 0) (entry_of v st.word))
+
+-- a lane's view after a fetch that found this action, or none
+abbrev pub fetched_view : LaneView → Option ℕ → LaneView
+fetched_view v None = record v { misses = v.misses + 1 }
+fetched_view v (Some a) = record v { fetched = v.fetched ++ a ∷ [] }
+
+-- a lane's view after it handed back all that it fetched
+abbrev pub finished_view : LaneView → LaneView
+finished_view v = record v { finished = v.fetched }
+
+abbrev pub Fetches : Step ℕ → Seated → ℕ → Seated → Type 0
+Fetches st v found w = (o : Option ℕ) × (found ≡ word_of o) × (found ≤ 2 ^ 32) × (w ≡ (Lane (fetched_view (lane_of v.0) o), v.1))
+
+abbrev pub HandsBack : Step ℕ → Seated → ℕ → Seated → Type 0
+HandsBack st v found w = w ≡ (Lane (finished_view (lane_of v.0)), v.1)
+
+-- the book's view after it dealt the lane k
+abbrev pub dealing : ℕ → View → View
+dealing k v = Book (with_entry_at (entries_of v) k (with_seat (entry_at (entries_of v) k) Out))
+
+-- the book's view v after it took in the view w of a lane
+abbrev pub gathering : View → View → View
+gathering v w = Book (with_entry_at (entries_of v) (lane_of w).lane (with_seat (entry_at (entries_of v) (lane_of w).lane) (Gathered (progress_of (lane_of w)))))
