@@ -1,0 +1,16 @@
+//! What every part of the compiler and the executive stands on: places in the sources, the table
+//! of names, and the answer for want of memory.
+#![tactic(auto)]
+
+mod items;
+mod memory;
+mod position;
+mod table;
+
+pub use items::Items;
+pub use memory::NoMemory;
+pub use position::Place;
+pub use table::{NameId, Names};
+
+#[cfg(test)]
+mod tests;

@@ -1,0 +1,2 @@
+pub mod ReadEnd
+pub mod Shelf

@@ -1,0 +1,6 @@
+pub mod Tree
+pub mod Flows
+pub mod Order
+pub mod Conflicts
+pub mod Trace
+pub mod Laws
