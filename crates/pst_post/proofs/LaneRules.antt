@@ -1,5 +1,5 @@
 -- What each step makes of the rule of one lane.
-use Rattle.std.proofs.Common.{◌≡◌, ◌≢◌, ◌⊎◌, ℕ, zero, suc, ◌+◌, ◌^◌, ◌<◌, ◌≤◌, List, [], ◌∷◌, ◌++◌, length, Bool, true, false, Option, None, Some, refl, sym, ap, ◌∙◌, subst, ⊎_elim, inl, inr, arith, append-nil}
+use Rattle.std.proofs.Common.{◌≡◌, ◌≢◌, ◌⊎◌, ℕ, ◌+◌, ◌^◌, ◌<◌, [], ◌∷◌, ◌++◌, true, Option, None, Some, refl, sym, ap, ◌∙◌, subst, ⊎_elim, inl, inr, arith, append-nil}
 use Rattle.std.specs.Prelude.{option_to_list, MatchBool, ◌==◌}
 use mathlib.Core.List.{IsPrefix}
 use Rattle.pst_post.specs.declared.view.Entry.{Entry}
@@ -8,7 +8,7 @@ use Rattle.pst_post.specs.declared.view.Progress.{Progress}
 use Rattle.pst_post.specs.Gathered.{CollectTells}
 use Rattle.pst_post.specs.Plays.{fetched_view, finished_view}
 use Rattle.pst_post.specs.Rule.{word_of, LaneRule}
-use Rattle.pst_post.specs.Steps.{after_post, after_collect, missed}
+use Rattle.pst_post.specs.Steps.{after_post, after_collect}
 use Rattle.pst_post.specs.Views.{progress_of}
 use Rattle.pst_post.proofs.Lists.{by_test, no_longer, IsPrefix-append}
 

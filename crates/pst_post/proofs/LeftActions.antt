@@ -1,5 +1,5 @@
 -- The actions in the words of a table that was closed, read one after another.
-use Rattle.std.proofs.Common.{◌≡◌, ◌≢◌, ℕ, ◌+◌, ◌^◌, ◌<◌, ◌≤◌, List, length, get_or, set, Option, None, refl, sym, ap, ◌∙◌, subst, arith, length-set, get_or-set_other, get_or-set_same}
+use Rattle.std.proofs.Common.{◌≡◌, ℕ, ◌+◌, ◌<◌, ◌≤◌, List, length, get_or, set, Option, None, sym, ap, ◌∙◌, arith, length-set, get_or-set_other, get_or-set_same}
 use mathlib.Core.Option.{some}
 use lib.ListN.{get_elem?}
 use Rattle.pst_post.specs.Rule.{word_of}

@@ -1,6 +1,9 @@
-pub mod Allowed
-pub mod Dealt
+pub mod Closing
+pub mod Dealing
+pub mod Gathering
 pub mod LaneRules
 pub mod LeftActions
 pub mod Lists
-pub mod Stepped
+pub mod Opening
+pub mod SeatSteps
+pub mod WordSteps

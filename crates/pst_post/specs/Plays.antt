@@ -1,5 +1,5 @@
 -- What each atomic step tells: of the step, the seat before it, the word that it found, and the seat after it.
-use Rattle.std.specs.Prelude.{◌≡◌, ℕ, ◌+◌, ◌^◌, ◌≤◌, ◌==◌, [], ◌∷◌, ◌++◌, Option, None, Some}
+use Rattle.std.specs.Prelude.{◌≡◌, ℕ, ◌+◌, ◌^◌, ◌≤◌, ◌==◌, [], ◌∷◌, ◌++◌, Option, None, Some, slice_set}
 use Rattle.atomic_table.specs.Table.{Me, Step}
 use Rattle.pst_post.specs.declared.view.Entry.{Entry}
 use Rattle.pst_post.specs.declared.view.LaneView.{LaneView}
@@ -9,14 +9,14 @@ use Rattle.pst_post.specs.declared.view.View.TheVariants.{Book, Lane}
 use Rattle.pst_post.specs.Gathered.{CollectTells}
 use Rattle.pst_post.specs.Rule.{word_of}
 use Rattle.pst_post.specs.Steps.{after_post, after_collect, with_seat}
-use Rattle.pst_post.specs.Views.{IfGathered, entries_of, entry_at, lane_of, progress_of, with_entry_at}
+use Rattle.pst_post.specs.Views.{IfGathered, entries_of, entry_at, lane_of, progress_of}
 
 abbrev pub Seated : Type 0
 Seated = Me ℕ View
 
 -- the book's seat with another entry of the lane k
 abbrev pub with_entry_of : Seated → ℕ → Entry → Seated
-with_entry_of v k e = (Book (with_entry_at (entries_of v.0) k e), v.1)
+with_entry_of v k e = (Book (slice_set (entries_of v.0) k e), v.1)
 
 -- the entry of the lane k in the book's seat
 abbrev pub entry_of : Seated → ℕ → Entry
@@ -47,8 +47,8 @@ HandsBack st v found w = w ≡ (Lane (finished_view (lane_of v.0)), v.1)
 
 -- the book's view after it dealt the lane k
 abbrev pub dealing : ℕ → View → View
-dealing k v = Book (with_entry_at (entries_of v) k (with_seat (entry_at (entries_of v) k) Out))
+dealing k v = Book (slice_set (entries_of v) k (with_seat (entry_at (entries_of v) k) Out))
 
 -- the book's view v after it took in the view w of a lane
 abbrev pub gathering : View → View → View
-gathering v w = Book (with_entry_at (entries_of v) (lane_of w).lane (with_seat (entry_at (entries_of v) (lane_of w).lane) (Gathered (progress_of (lane_of w)))))
+gathering v w = Book (slice_set (entries_of v) (lane_of w).lane (with_seat (entry_at (entries_of v) (lane_of w).lane) (Gathered (progress_of (lane_of w)))))

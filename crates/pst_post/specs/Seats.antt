@@ -1,5 +1,5 @@
 -- What contracts see of the seats: of which table they are, and what they know.
-use Rattle.std.specs.Prelude.{◌≡◌, ℕ, ◌<◌, List, [], length}
+use Rattle.std.specs.Prelude.{◌≡◌, ℕ, ◌<◌, List, [], length, replicate, slice_set}
 use Rattle.atomic_table.specs.Seated.{TableId}
 use Rattle.atomic_table.specs.Table.{Me}
 use Rattle.pst_post.specs.declared.view.Entry.{Entry}
@@ -7,7 +7,7 @@ use Rattle.pst_post.specs.declared.view.LaneView.{LaneView}
 use Rattle.pst_post.specs.declared.view.Progress.{Progress}
 use Rattle.pst_post.specs.declared.view.View.{View}
 use Rattle.pst_post.specs.declared.view.View.TheVariants.{Book, Lane}
-use Rattle.pst_post.specs.Views.{entry_at, with_entry_at, entries_of, lane_of}
+use Rattle.pst_post.specs.Views.{blank_entry, entry_at, entries_of, lane_of}
 
 -- the book's seat: its table, and an entry for each lane
 pub record BookState : Type 0 where
@@ -28,7 +28,11 @@ lane_entry b k = entry_at b.entries k
 
 -- the same seat, but for the entry of the lane k
 abbrev pub with_entry : BookState → ℕ → Entry → BookState
-with_entry b k e = record { table = b.table; entries = with_entry_at b.entries k e }
+with_entry b k e = record { table = b.table; entries = slice_set b.entries k e }
+
+-- the book's seat of a table that was just made for so many lanes
+abbrev pub fresh_book : TableId → ℕ → BookState
+fresh_book table lanes = record { table = table; entries = replicate lanes blank_entry }
 
 -- the seat of a lane when it is dealt
 abbrev pub fresh_seat : TableId → ℕ → LaneState

@@ -1,7 +1,6 @@
 -- What each step makes of an entry of the book, or of a lane's seat.
 use Rattle.std.specs.Prelude.{ℕ, ◌+◌, [], ◌∷◌, ◌++◌, Bool, true, false, Option, None, Some}
 use Rattle.pst_post.specs.declared.view.Entry.{Entry}
-use Rattle.pst_post.specs.declared.view.LaneView.{LaneView}
 use Rattle.pst_post.specs.declared.view.SeatStatus.{SeatStatus}
 use Rattle.pst_post.specs.Seats.{LaneState}
 

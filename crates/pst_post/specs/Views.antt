@@ -1,5 +1,5 @@
 -- What the seats of a table of mailboxes know.
-use Rattle.std.specs.Prelude.{ℕ, List, [], replicate, slice_index_or, slice_set}
+use Rattle.std.specs.Prelude.{ℕ, List, [], replicate, slice_index_or}
 use Rattle.pst_post.specs.declared.view.Entry.{Entry}
 use Rattle.pst_post.specs.declared.view.LaneView.{LaneView}
 use Rattle.pst_post.specs.declared.view.Progress.{Progress}
@@ -27,10 +27,6 @@ first_view lanes = Book (replicate lanes blank_entry)
 -- the entry of the lane k
 abbrev pub entry_at : List Entry → ℕ → Entry
 entry_at entries k = slice_index_or entries k blank_entry
-
--- the same entries, but for that of the lane k
-abbrev pub with_entry_at : List Entry → ℕ → Entry → List Entry
-with_entry_at entries k e = slice_set entries k e
 
 -- how far a lane has come, from the view of its seat
 abbrev pub progress_of : LaneView → Progress

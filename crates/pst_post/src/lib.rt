@@ -11,9 +11,13 @@
 #![tactic(auto)]
 
 mod mailbox;
-pub mod rule;
-pub mod seats;
-pub mod view;
+mod rule;
+mod seats;
+mod view;
 
-pub use mailbox::{NoMemory, Post};
+pub use mailbox::{MOST_LANES, Post};
 pub use seats::{BookSeat, LaneSeat};
+pub use view::{Entry, Progress, SeatStatus};
+
+#[cfg(test)]
+mod tests;

@@ -1,25 +1,22 @@
 // The mailboxes and their calls.
-ghost use Rattle.std.specs.Prelude.{◌≡◌, ◌≢◌, ℕ, ◌+◌, ◌^◌, ◌<◌, ◌≤◌, [], ◌∷◌, ◌++◌, length, replicate, slice_index, slice_index_or, None, IfOk};
+ghost use Rattle.std.specs.Prelude.{◌≡◌, ◌≢◌, ℕ, ◌+◌, ◌^◌, ◌<◌, ◌≤◌, [], ◌∷◌, ◌++◌, slice_index, slice_index_or, None, IfOk};
 ghost use Rattle.std.specs.Mem.Slots.{slots_items, slots_len, IsFull};
 ghost use Rattle.pst_post.specs.declared.view.SeatStatus.TheVariants.{Undealt, Out, Gathered};
 ghost use Rattle.pst_post.specs.Gathered.{CollectTells, IsLeft};
 ghost use Rattle.pst_post.specs.Rule.{word_of};
-ghost use Rattle.pst_post.specs.Seats.{fresh_seat, lane_entry, seat_progress, with_entry};
+ghost use Rattle.pst_post.specs.Seats.{fresh_book, fresh_seat, lane_entry, seat_progress, with_entry};
 ghost use Rattle.pst_post.specs.Steps.{after_collect, after_fetch, after_hand_back, after_post, with_seat};
-ghost use Rattle.pst_post.specs.Views.{IfGathered, blank_entry};
+ghost use Rattle.pst_post.specs.Views.{IfGathered};
 
 use crate::rule::{
-    Collecting, DealtLane, Dealing, Fetching, Gathering, HandingBack, MailboxRule, Posting,
+    Collecting, Dealing, DealtLane, Fetching, Gathering, HandingBack, MailboxRule, Posting,
 };
 use crate::seats::{BookSeat, LaneSeat};
 use crate::view::View;
 use atomic_table::{Closed, Table};
-use std::alloc::{AllocError, Global};
+use pst_base::NoMemory;
+use std::alloc::Global;
 use std::marker::{Brand, Model};
-
-/// There was no memory.
-#[derive(Clone, Copy, Debug)]
-pub struct NoMemory;
 
 /// The greatest number of lanes.
 pub const MOST_LANES: usize = 16;
@@ -50,13 +47,11 @@ impl Post {
     pub fn new(alloc: Global, lanes: u32) -> Result<(Post, BookSeat), NoMemory>
         requires { (0 < lanes) × (lanes ≤ 16) }
         ensures lanes { IfOk result (λ made. made.0.words ≡ lanes) }
-        ensures seat { IfOk result (λ made. made.1 ≡ record { table = made.0; entries = replicate lanes blank_entry }) }
+        ensures seat { IfOk result (λ made. made.1 ≡ fresh_book made.0 lanes) }
     {
         let words = [0u64; MOST_LANES];
-        match Table::of_words(alloc, &words[..lanes as usize], &lanes) {
-            Ok((table, seat)) => Ok((Post { table }, BookSeat { seat })),
-            Err(AllocError) => Err(NoMemory),
-        }
+        let (table, seat) = Table::of_words(alloc, &words[..lanes as usize], &lanes)?;
+        Ok((Post { table }, BookSeat { seat }))
     }
 
     /// The number of lanes, from 1 to 16.
@@ -114,10 +109,7 @@ impl Post {
         ensures { seat.new ≡ after_fetch seat.old result }
     {
         let lane = seat.lane as usize;
-        let found = self
-            .table
-            .shared
-            .load::<Fetching>(&mut seat.seat, lane);
+        let found = self.table.shared.load::<Fetching>(&mut seat.seat, lane);
         if found == 0 {
             None
         } else {

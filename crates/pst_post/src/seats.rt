@@ -1,9 +1,9 @@
 // The seats: tokens of no bytes, with which the book and the lanes take their steps.
+ghost use Rattle.std.specs.Prelude.{◌≡◌, ◌<◌, length};
+
 use crate::view::View;
 use atomic_table::Seat;
 use std::marker::Model;
-
-ghost use Rattle.std.specs.Prelude.{◌≡◌, ◌<◌, length};
 
 /// The book's seat. It posts and collects, and deals and gathers the lanes' seats.
 ///

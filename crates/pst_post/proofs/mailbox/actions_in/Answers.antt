@@ -1,4 +1,4 @@
-use Rattle.std.proofs.Common.{◌≤◌, arith, subst, sym}
+use Rattle.std.proofs.Common.{◌≤◌, arith, subst}
 use Rattle.pst_post.proofs.Lists.{get_or-there}
 use Rattle.pst_post.proofs.LeftActions.{reads_one}
 use Rattle.pst_post.proofs.mailbox.actions_in.Goals as goal

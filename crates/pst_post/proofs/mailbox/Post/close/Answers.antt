@@ -1,10 +1,9 @@
-use Rattle.std.proofs.Common.{ℕ, ◌<◌, get_or, None, rules, arith, subst, sym, ap, ◌∙◌}
+use Rattle.std.proofs.Common.{ℕ, ◌<◌, get_or, None, rules, subst}
 use Rattle.std.specs.Mem.Slots.{slots_items}
-use Rattle.atomic_table.specs.Seated.{TableId}
 use Rattle.pst_post.specs.Gathered.{IsLeft}
 use Rattle.pst_post.specs.Seats.{BookState, lane_entry}
 use Rattle.pst_post.specs.Views.{entries_of, entry_at}
-use Rattle.pst_post.proofs.Dealt.{IsClosed, closes}
+use Rattle.pst_post.proofs.Closing.{IsClosed, closes}
 use Rattle.pst_post.proofs.LaneRules.{one_meaning}
 use Rattle.pst_post.proofs.mailbox.Post.close.Goals as goal
 use Rattle.pst_post.proofs.mailbox.Post.close.Goals.{After-close_with-closed}

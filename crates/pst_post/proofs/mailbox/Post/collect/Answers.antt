@@ -1,5 +1,5 @@
 use Rattle.std.proofs.Common.{rules}
-use Rattle.pst_post.proofs.Allowed.{collects}
+use Rattle.pst_post.proofs.WordSteps.{collects}
 use Rattle.pst_post.proofs.mailbox.Post.collect.Goals as goal
 
 pub load-found-requires : goal.load-found-requires

@@ -1,5 +1,5 @@
-use Rattle.std.proofs.Common.{rules, arith}
-use Rattle.pst_post.proofs.Dealt.{splits}
+use Rattle.std.proofs.Common.{rules}
+use Rattle.pst_post.proofs.Dealing.{splits}
 use Rattle.pst_post.proofs.mailbox.Post.deal_lane.Goals as goal
 
 pub split_seat-dealt-requires : goal.split_seat-dealt-requires

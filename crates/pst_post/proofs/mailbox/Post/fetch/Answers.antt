@@ -1,5 +1,5 @@
 use Rattle.std.proofs.Common.{rules}
-use Rattle.pst_post.proofs.Allowed.{fetches}
+use Rattle.pst_post.proofs.WordSteps.{fetches}
 use Rattle.pst_post.proofs.mailbox.Post.fetch.Goals as goal
 
 pub load-found-requires : goal.load-found-requires

@@ -1,5 +1,5 @@
-use Rattle.std.proofs.Common.{rules, arith}
-use Rattle.pst_post.proofs.Dealt.{joins}
+use Rattle.std.proofs.Common.{rules}
+use Rattle.pst_post.proofs.Gathering.{joins}
 use Rattle.pst_post.proofs.mailbox.Post.gather.Goals as goal
 
 pub join_seat-requires : goal.join_seat-requires

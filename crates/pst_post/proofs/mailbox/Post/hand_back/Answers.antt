@@ -1,5 +1,5 @@
 use Rattle.std.proofs.Common.{rules}
-use Rattle.pst_post.proofs.Allowed.{hands_back}
+use Rattle.pst_post.proofs.WordSteps.{hands_back}
 use Rattle.pst_post.proofs.mailbox.Post.hand_back.Goals as goal
 
 pub swap-requires : goal.swap-requires

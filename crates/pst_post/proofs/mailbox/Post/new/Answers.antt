@@ -1,6 +1,5 @@
-use Rattle.std.proofs.Common.{refl, rules, arith}
 use Rattle.std.proofs.lemmas.List.{take-replicate}
-use Rattle.pst_post.proofs.Dealt.{opens}
+use Rattle.pst_post.proofs.Opening.{opens}
 use Rattle.pst_post.proofs.mailbox.Post.new.Goals as goal
 
 pub of_words-requires : goal.of_words-requires

@@ -1,5 +1,5 @@
-use Rattle.std.proofs.Common.{◌<◌, ◌^◌, refl, rules, arith}
-use Rattle.pst_post.proofs.Allowed.{posts}
+use Rattle.std.proofs.Common.{refl, rules}
+use Rattle.pst_post.proofs.WordSteps.{posts}
 use Rattle.pst_post.proofs.mailbox.Post.post.Goals as goal
 
 pub compare_exchange-found-requires : goal.compare_exchange-found-requires

@@ -1,10 +1,10 @@
 -- Each atomic step on a word keeps the rule.
-use Rattle.std.proofs.Common.{◌≡◌, ◌≢◌, ℕ, ◌+◌, ◌^◌, ◌<◌, ◌≤◌, eqb, List, [], ◌∷◌, ◌++◌, length, get_or, set, Bool, true, false, Option, None, Some, refl, sym, ap, ◌∙◌, subst, arith}
+use Rattle.std.proofs.Common.{◌≡◌, ℕ, ◌+◌, ◌^◌, ◌<◌, eqb, List, [], ◌∷◌, ◌++◌, length, get_or, set, Bool, true, false, Option, None, Some, refl, sym, ap, ◌∙◌, subst, arith}
 use mathlib.Core.Option.{none, some}
 use lib.ListN.{get_elem?}
 use prog.Atomic.{either}
 use Rattle.atomic_table.specs.Seated.{TableId}
-use Rattle.atomic_table.specs.Table.{State, step, Act, keeps, stepped, Allows}
+use Rattle.atomic_table.specs.Table.{step, keeps, Allows}
 use Rattle.pst_post.specs.declared.view.Entry.{Entry}
 use Rattle.pst_post.specs.declared.view.LaneView.{LaneView}
 use Rattle.pst_post.specs.declared.view.Progress.{Progress}
@@ -13,14 +13,14 @@ use Rattle.pst_post.specs.declared.view.SeatStatus.TheVariants.{Undealt, Out, Ga
 use Rattle.pst_post.specs.declared.view.View.{View}
 use Rattle.pst_post.specs.declared.view.View.TheVariants.{Book, Lane}
 use Rattle.pst_post.specs.Gathered.{CollectTells}
-use Rattle.pst_post.specs.Plays.{Seated, with_entry_of, entry_of, Posts, Collects, Fetches, HandsBack, fetched_view, finished_view}
-use Rattle.pst_post.specs.Rule.{word_of, LaneRule, IsProgress, Rule}
+use Rattle.pst_post.specs.Plays.{Seated, with_entry_of, Posts, Collects, Fetches, HandsBack, fetched_view, finished_view}
+use Rattle.pst_post.specs.Rule.{LaneRule, IsProgress, Rule}
 use Rattle.pst_post.specs.Seats.{IsBookSeat, IsLaneSeat}
 use Rattle.pst_post.specs.Steps.{after_post, after_collect, missed}
-use Rattle.pst_post.specs.Views.{IfGathered, entries_of, entry_at, lane_of, progress_of}
+use Rattle.pst_post.specs.Views.{IfGathered, entries_of, entry_at, lane_of}
 use Rattle.pst_post.proofs.LaneRules.{posted_rule, collected_rule, same_rule, fetched_rule, handed_back_rule, tells}
 use Rattle.pst_post.proofs.Lists.{by_test}
-use Rattle.pst_post.proofs.Stepped.{lane_holds, lane_step, old_holds, book_step}
+use Rattle.pst_post.proofs.SeatSteps.{lane_holds, lane_step, old_holds, book_step}
 
 after_post-seat : (b : Bool) (e : Entry) (a : ℕ) → (after_post b e a).seat ≡ e.seat
 after_post-seat true e a = refl

@@ -1,5 +1,5 @@
 -- The rule after a step of one seat.
-use Rattle.std.proofs.Common.{◌≡◌, ◌≢◌, ◌⊎◌, ℕ, zero, suc, ◌+◌, ◌<◌, ◌≤◌, List, [], ◌∷◌, ◌++◌, length, get_or, set, refl, sym, ap, ◌∙◌, subst, ⊎_elim, inl, inr, arith, length-set, get_or-set_other, get_or-set_same}
+use Rattle.std.proofs.Common.{◌≡◌, ◌≢◌, ℕ, ◌<◌, List, length, get_or, set, refl, sym, ap, ◌∙◌, subst, ⊎_elim, arith, length-set, get_or-set_other, get_or-set_same}
 use mathlib.Core.Option.{some}
 use lib.ListN.{get_elem?}
 use Rattle.atomic_table.specs.Table.{State}
@@ -10,7 +10,7 @@ use Rattle.pst_post.specs.declared.view.Progress.{Progress}
 use Rattle.pst_post.specs.declared.view.SeatStatus.{SeatStatus}
 use Rattle.pst_post.specs.declared.view.SeatStatus.TheVariants.{Undealt, Out, Gathered}
 use Rattle.pst_post.specs.declared.view.View.{View}
-use Rattle.pst_post.specs.declared.view.View.TheVariants.{Book, Lane, Spent}
+use Rattle.pst_post.specs.declared.view.View.TheVariants.{Book, Lane}
 use Rattle.pst_post.specs.Rule.{LaneRule, HasLaneView, IsProgress, Rule}
 use Rattle.pst_post.specs.Views.{blank_entry, entry_at, progress_of}
 use Rattle.pst_post.proofs.Lists.{here_or_else, inside, one_value}
