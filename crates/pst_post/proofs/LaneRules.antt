@@ -1,5 +1,5 @@
 -- What each step makes of the rule of one lane.
-use Rattle.std.proofs.Common.{◌≡◌, ◌≢◌, ◌⊎◌, ℕ, ◌+◌, ◌^◌, ◌<◌, [], ◌∷◌, ◌++◌, true, Option, None, Some, refl, sym, ap, ◌∙◌, subst, ⊎_elim, inl, inr, arith, append-nil}
+use Rattle.std.proofs.Common.{◌≡◌, ◌≢◌, ◌⊎◌, ℕ, ◌+◌, ◌^◌, ◌<◌, [], ◌∷◌, ◌++◌, true, Option, None, Some, refl, sym, ap, ◌∙◌, subst, ⊎_elim, inl, inr, arith, length, append-nil, length-append}
 use Rattle.std.specs.Prelude.{option_to_list, MatchBool, ◌==◌}
 use mathlib.Core.List.{IsPrefix}
 use Rattle.pst_post.specs.declared.view.Entry.{Entry}
@@ -36,6 +36,18 @@ module _ (w : ℕ) (e : Entry) (p : Progress) (r : LaneRule w e p) where
   -- where it isn't, one action is out
   pub all_but_one : w ≢ 0 → (a : ℕ) × (e.posted ≡ p.finished ++ a ∷ [])
   all_but_one miss = let t = one_out w r.undelivered r.word_is miss in (t.0, r.posted ∙ ap (λ o. p.finished ++ option_to_list o) t.1)
+
+  -- where all that was posted has ended, the word is 0
+  pub none_left : e.posted ≡ e.ended → w ≡ 0
+  none_left all = go r.undelivered r.word_is r.posted
+    where
+      go : (o : Option ℕ) → w ≡ word_of o → e.posted ≡ p.finished ++ option_to_list o → w ≡ 0
+      go None is posted = is
+      go (Some a) is posted =
+          let longer = ap length posted in
+          let ended = ap length r.ended.1 in
+          let same = ap length all in
+          absurd (omega (arith, longer, ended, same, length-append p.finished (a ∷ []), length-append e.ended r.ended.0))
 
   pub posted_rule : (a : ℕ) → a < 2 ^ 32 → w ≡ 0 → LaneRule (a + 1) (after_post true e a) p
   posted_rule a few hit = let back = all_back hit in record {

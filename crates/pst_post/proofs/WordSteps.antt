@@ -18,7 +18,7 @@ use Rattle.pst_post.specs.Rule.{LaneRule, IsProgress, Rule}
 use Rattle.pst_post.specs.Seats.{IsBookSeat, IsLaneSeat}
 use Rattle.pst_post.specs.Steps.{after_post, after_collect, missed}
 use Rattle.pst_post.specs.Views.{IfGathered, entries_of, entry_at, lane_of}
-use Rattle.pst_post.proofs.LaneRules.{posted_rule, collected_rule, same_rule, fetched_rule, handed_back_rule, tells}
+use Rattle.pst_post.proofs.LaneRules.{none_left, posted_rule, collected_rule, same_rule, fetched_rule, handed_back_rule, tells}
 use Rattle.pst_post.proofs.Lists.{by_test}
 use Rattle.pst_post.proofs.SeatSteps.{lane_holds, lane_step, old_holds, book_step}
 
@@ -50,13 +50,14 @@ module _ (slots id : ℕ) (me : Seated) (k : ℕ) (table : TableId) (seat : IsBo
       let es : List Entry = entries_of me.0 in
       let w : ℕ = get_or s.words k 0 in
       let e : Entry = entry_at es k in
-      let at_book : get_elem? s.views id ≡ some (Book es) = at ∙ ap (λ (m : Seated). some m.0) seat.view in (
+      let at_book : get_elem? s.views id ≡ some (Book es) = at ∙ ap (λ (m : Seated). some m.0) seat.view in
+      let held = old_holds s r id es at_book k (in_range table me k seat small) in (
         Book (set es k (after_post (eqb w 0) e a)),
         keeps,
         tt,
         book_step s r id es at_book k (either (eqb w 0) (a + 1) w) (after_post (eqb w 0) e a) (in_range table me k seat small) (after_post-seat (eqb w 0) e a)
             (λ p rule. by_test (λ b. LaneRule (either b (a + 1) w) (after_post b e a) p) w 0 (posted_rule w e p rule a few) (λ _. same_rule w e p rule (missed e) refl refl)),
-        λ b same. let act : a ≡ b = omega arith in ap (λ c. with_entry_of me k (after_post (eqb w 0) e c)) act,
+        ((λ b same. let act : a ≡ b = omega arith in ap (λ c. with_entry_of me k (after_post (eqb w 0) e c)) act), none_left w e held.0 held.2),
       )
 
   pub collects : Allows Rule slots id me k (λ n. n) (Collects (step slots k 0 0 none) me)
@@ -71,7 +72,7 @@ module _ (slots id : ℕ) (me : Seated) (k : ℕ) (table : TableId) (seat : IsBo
         tt,
         book_step s r id es at_book k w (after_collect (eqb w 0) e) (in_range table me k seat small) (after_collect-seat (eqb w 0) e)
             (λ p rule. by_test (λ b. LaneRule w (after_collect b e) p) w 0 (collected_rule w e p rule) (λ _. same_rule w e p rule (missed e) refl refl)),
-        (refl, told s.views k e.seat (eqb w 0) e held.0 held.1 (tells w e held.0 held.2)),
+        (refl, none_left w e held.0 held.2, told s.views k e.seat (eqb w 0) e held.0 held.1 (tells w e held.0 held.2)),
       )
 
 module _ (slots id : ℕ) (me : Seated) (k : ℕ) (table : TableId) (seat : IsLaneSeat table me k) where

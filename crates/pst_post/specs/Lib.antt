@@ -1,3 +1,4 @@
+pub use Rattle.atomic_table.specs.Seated
 pub mod Gathered
 pub mod Plays
 pub mod Rule

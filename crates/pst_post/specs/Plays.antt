@@ -23,11 +23,14 @@ abbrev pub entry_of : Seated → ℕ → Entry
 entry_of v k = entry_at (entries_of v.0) k
 
 abbrev pub Posts : Step ℕ → Seated → ℕ → Seated → Type 0
-Posts st v found w = (a : ℕ) → st.second ≡ a + 1 → w ≡ with_entry_of v st.word (after_post (found == 0) (entry_of v st.word) a)
+Posts st v found w =
+    ((a : ℕ) → st.second ≡ a + 1 → w ≡ with_entry_of v st.word (after_post (found == 0) (entry_of v st.word) a))
+    × ((entry_of v st.word).posted ≡ (entry_of v st.word).ended → found ≡ 0)
 
 abbrev pub Collects : Step ℕ → Seated → ℕ → Seated → Type 0
 Collects st v found w =
     (w ≡ with_entry_of v st.word (after_collect (found == 0) (entry_of v st.word)))
+    × ((entry_of v st.word).posted ≡ (entry_of v st.word).ended → found ≡ 0)
     × IfGathered (entry_of v st.word).seat (CollectTells (found == 0) (entry_of v st.word))
 
 -- a lane's view after a fetch that found this action, or none

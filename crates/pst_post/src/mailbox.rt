@@ -1,5 +1,5 @@
 // The mailboxes and their calls.
-ghost use Rattle.std.specs.Prelude.{◌≡◌, ◌≢◌, ℕ, ◌+◌, ◌^◌, ◌<◌, ◌≤◌, [], ◌∷◌, ◌++◌, slice_index, slice_index_or, None, IfOk};
+ghost use Rattle.std.specs.Prelude.{◌≡◌, ◌≢◌, ℕ, ◌+◌, ◌^◌, ◌<◌, ◌≤◌, [], ◌∷◌, ◌++◌, slice_index, slice_index_or, None, IfOk, IsTrue};
 ghost use Rattle.std.specs.Mem.Slots.{slots_items, slots_len, IsFull};
 ghost use Rattle.pst_post.specs.declared.view.SeatStatus.TheVariants.{Undealt, Out, Gathered};
 ghost use Rattle.pst_post.specs.Gathered.{CollectTells, IsLeft};
@@ -32,6 +32,7 @@ pub struct Post {
 impl Model for Post {
     ghost use Rattle.std.specs.Prelude.{◌≡◌, ◌≤◌};
     ghost use Rattle.atomic_table.specs.Seated.{TableId, table_id_coded};
+    ghost use Rattle.pst_post.specs.declared.mailbox.TheConstants.{MOST_LANES};
 
     ghost Value = { TableId };
 
@@ -39,13 +40,13 @@ impl Model for Post {
 
     ghost view = { λ p. p.table.shared.table_id };
 
-    ghost invariant = { λ p. (p.table.shared.table_id.words ≤ 16) × (p.table.shared.table_id.slots ≡ 0) };
+    ghost invariant = { λ p. (p.table.shared.table_id.words ≤ MOST_LANES) × (p.table.shared.table_id.slots ≡ 0) };
 }
 
 impl Post {
     /// The mailboxes of so many lanes, all empty, and the book's seat.
     pub fn new(alloc: Global, lanes: u32) -> Result<(Post, BookSeat), NoMemory>
-        requires { (0 < lanes) × (lanes ≤ 16) }
+        requires { (0 < lanes) × (lanes ≤ MOST_LANES) }
         ensures lanes { IfOk result (λ made. made.0.words ≡ lanes) }
         ensures seat { IfOk result (λ made. made.1 ≡ fresh_book made.0 lanes) }
     {
@@ -57,7 +58,7 @@ impl Post {
     /// The number of lanes, from 1 to 16.
     pub fn lanes(&self) -> u32
         ensures lanes { result ≡ self.now.words }
-        ensures few { result ≤ 16 }
+        ensures few { result ≤ MOST_LANES }
     {
         self.table.word_count() as u32
     }
@@ -90,14 +91,16 @@ impl Post {
     pub fn post(&self, seat: &mut BookSeat, lane: u32, act: u32) -> bool
         requires table { seat.old.table ≡ self.now }
         requires lane { lane < self.now.words }
-        ensures { seat.new ≡ with_entry seat.old lane (after_post result (lane_entry seat.old lane) act) }
+        ensures book { seat.new ≡ with_entry seat.old lane (after_post result (lane_entry seat.old lane) act) }
+        // Where all that was posted was collected, the word is 0.
+        ensures idle { (lane_entry seat.old lane).posted ≡ (lane_entry seat.old lane).ended → IsTrue result }
     {
         let put = act as u64 + 1;
-        let found = self
+        let before = self
             .table
             .shared
             .compare_exchange::<Posting>(&mut seat.seat, lane as usize, 0, put);
-        found == 0
+        before == 0
     }
 
     /// The action in the lane's word. None: the word is 0, and there is nothing to do.
@@ -110,11 +113,7 @@ impl Post {
     {
         let lane = seat.lane as usize;
         let found = self.table.shared.load::<Fetching>(&mut seat.seat, lane);
-        if found == 0 {
-            None
-        } else {
-            Some((found - 1) as u32)
-        }
+        action_in(found)
     }
 
     /// Makes the lane's word 0, by which the action that was fetched last is handed back.
@@ -134,6 +133,7 @@ impl Post {
         requires table { seat.old.table ≡ self.now }
         requires lane { lane < self.now.words }
         ensures book { seat.new ≡ with_entry seat.old lane (after_collect result (lane_entry seat.old lane)) }
+        ensures idle { (lane_entry seat.old lane).posted ≡ (lane_entry seat.old lane).ended → IsTrue result }
         ensures gathered { IfGathered (lane_entry seat.old lane).seat (CollectTells result (lane_entry seat.old lane)) }
     {
         let found = self
@@ -177,7 +177,7 @@ impl Post {
 
 // The actions in the words of so many lanes.
 fn actions_in(closed: &Closed<u8, Global>, lanes: usize) -> [Option<u32>; MOST_LANES]
-    requires lanes { (lanes ≤ 16) × (slots_len closed.now.words ≡ lanes) × IsFull closed.now.words }
+    requires lanes { (lanes ≤ MOST_LANES) × (slots_len closed.now.words ≡ lanes) × IsFull closed.now.words }
     requires small { (k : ℕ) → k < lanes → slice_index (slots_items closed.now.words) k ≤ 2 ^ 32 }
     ensures each { (k : ℕ) → k < lanes → slice_index (slots_items closed.now.words) k ≡ word_of (slice_index_or result k None) }
     ensures others { (k : ℕ) → lanes ≤ k → slice_index_or result k None ≡ None }

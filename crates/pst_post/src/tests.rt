@@ -132,3 +132,19 @@ fn numbers_pass_each_way_in_order(rt: HostRuntime) -> Result<(), Fail> {
     assert_eq!(rt; asked?.as_slice(), all.as_slice());
     Ok(())
 }
+
+fn moves<T: Send>(_value: &T) {}
+
+fn is_shared<T: Sync>(_value: &T) {}
+
+// What it shows is shown when it is proved.
+#[test]
+fn mailboxes_and_seats_cross_threads(rt: HostRuntime) -> Result<(), Fail> {
+    let (post, mut book) = Post::new(rt.alloc(), 1)?;
+    let lane = post.deal(&mut book, 0);
+    moves(&post);
+    is_shared(&post);
+    moves(&book);
+    moves(&lane);
+    Ok(())
+}
