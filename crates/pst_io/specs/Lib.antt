@@ -1,2 +1,11 @@
+pub mod Failing
+pub mod FaultPlan
+pub mod Held
+pub mod MemoryShelf
+pub mod MemorySink
+pub mod Named
+pub mod Planned
 pub mod ReadEnd
 pub mod Shelf
+pub mod SureShelf
+pub mod SureSink
