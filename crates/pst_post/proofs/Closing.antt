@@ -9,7 +9,7 @@ use Rattle.pst_post.specs.declared.view.Progress.{Progress}
 use Rattle.pst_post.specs.declared.view.SeatStatus.{SeatStatus}
 use Rattle.pst_post.specs.declared.view.SeatStatus.TheVariants.{Undealt, Out, Gathered}
 use Rattle.pst_post.specs.declared.view.View.{View}
-use Rattle.pst_post.specs.Gathered.{IsLeft}
+use Rattle.pst_post.specs.Gathered.{IsOutstanding}
 use Rattle.pst_post.specs.Plays.{Seated}
 use Rattle.pst_post.specs.Rule.{word_of, IsProgress, Rule}
 use Rattle.pst_post.specs.Seats.{IsBookSeat}
@@ -23,10 +23,10 @@ home_progress views k (Gathered q) p home is = is
 
 -- what the last words say of a lane whose seat isn't out
 pub record IsClosed (word : ℕ) (e : Entry) : Type 0 where
-  pub undelivered : Option ℕ
-  pub word_is : word ≡ word_of undelivered
+  pub outstanding : Option ℕ
+  pub word_is : word ≡ word_of outstanding
   pub small : word ≤ 2 ^ 32
-  pub left : IsLeft e undelivered
+  pub left : IsOutstanding e outstanding
 
 pub closes : (table : TableId) (me : Seated) (seat : IsBookSeat table me) (id : ℕ) (words xs : List ℕ) → Final (Seen Rule id me.0) words xs → (k : ℕ) → k < table.words → (entry_at (entries_of me.0) k).seat ≢ Out → IsClosed (get_or words k 0) (entry_at (entries_of me.0) k)
 closes table me seat id words xs final k small home =
@@ -34,8 +34,8 @@ closes table me seat id words xs final k small home =
     let e : Entry = entry_at (entries_of me.0) k in
     let held = old_holds s final.1.0 id (entries_of me.0) (final.1.1 ∙ ap (λ (m : Seated). some m.0) seat.view) k (omega (arith, seat.wide)) in
     let p = home_progress s.views k e.seat held.0 home held.1 in record {
-      undelivered = held.2.undelivered;
+      outstanding = held.2.outstanding;
       word_is = ap (λ l. get_or l k 0) (sym final.2) ∙ held.2.word_is;
       small = subst (λ l. get_or l k 0 ≤ 2 ^ 32) final.2 held.2.small;
-      left = held.2.posted ∙ ap (λ q. q.finished ++ option_to_list held.2.undelivered) p;
+      left = held.2.posted ∙ ap (λ q. q.finished ++ option_to_list held.2.outstanding) p;
     }

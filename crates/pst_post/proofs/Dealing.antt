@@ -25,7 +25,7 @@ undealt_not_out e = cc
 module _ (s : State ℕ View) (r : Rule s) (id : ℕ) (es : List Entry) (at : get_elem? s.views id ≡ some (Book es)) (k : ℕ) (small : k < length es) (fresh : (entry_at es k).seat ≡ Undealt) where
   -- the entries afterwards
   dealt : List Entry
-  dealt = set es k (with_seat (entry_at es k) Out)
+  dealt = set es k (with_seat Out (entry_at es k))
 
   -- a lane's view is the new one, which is the last, or that of another lane
   had : (j : ℕ) (u : LaneView) → get_elem? (set s.views id (Book dealt) ++ Lane (blank_lane k) ∷ []) j ≡ some (Lane u)
@@ -49,13 +49,13 @@ module _ (s : State ℕ View) (r : Rule s) (id : ℕ) (es : List Entry) (at : ge
       (λ (t : (j ≡ length (set s.views id (Book dealt))) × (blank_lane k ≡ u)). t.0)
       (had j u there)
 
-  pub deals : Rule record { words = s.words; homes = s.homes; views = set s.views id (Book (set es k (with_seat (entry_at es k) Out))) ++ Lane (blank_lane k) ∷ [] }
+  pub deals : Rule record { words = s.words; homes = s.homes; views = set s.views id (Book (set es k (with_seat Out (entry_at es k)))) ++ Lane (blank_lane k) ∷ [] }
   unfolding dealt
   deals =
       let views : List View = set s.views id (Book dealt) in
       let held = old_holds s r id es at k small in
       let blank : held.0 ≡ no_progress = subst (λ status. IsProgress s.views k status held.0) fresh held.1 in
-      book_changed s r id es at k (with_seat (entry_at es k) Out) s.words (views ++ Lane (blank_lane k) ∷ []) small record {
+      book_changed s r id es at k (with_seat Out (entry_at es k)) s.words (views ++ Lane (blank_lane k) ∷ []) small record {
         count = refl;
         other_words = λ j other. refl;
         here = at_longer views (Lane (blank_lane k) ∷ []) id (Book dealt) (book_there s r id es at dealt);
@@ -70,7 +70,7 @@ module _ (s : State ℕ View) (r : Rule s) (id : ℕ) (es : List Entry) (at : ge
         holds = (
           no_progress,
           record { id = length views; view = blank_lane k; there = at_last views (Lane (blank_lane k)) (length views) refl; lane = refl; progress = refl },
-          same_rule (get_or s.words k 0) (entry_at es k) no_progress (subst (LaneRule (get_or s.words k 0) (entry_at es k)) blank held.2) (with_seat (entry_at es k) Out) refl refl,
+          same_rule (get_or s.words k 0) (entry_at es k) no_progress (subst (LaneRule (get_or s.words k 0) (entry_at es k)) blank held.2) (with_seat Out (entry_at es k)) refl refl,
         );
       }
 

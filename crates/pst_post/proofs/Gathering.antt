@@ -21,7 +21,7 @@ use Rattle.pst_post.proofs.SeatSteps.{one_lane, apart, lane_holds, old_lane_view
 module _ (s : State ℕ View) (r : Rule s) (id : ℕ) (es : List Entry) (at : get_elem? s.views id ≡ some (Book es)) (other : ℕ) (v : LaneView) (there : get_elem? s.views other ≡ some (Lane v)) where
   -- the entry afterwards
   kept : Entry
-  kept = with_seat (entry_at es v.lane) (Gathered (progress_of v))
+  kept = with_seat (Gathered (progress_of v)) (entry_at es v.lane)
 
   -- a lane's view is that of another lane
   left : (j : ℕ) (u : LaneView) → get_elem? (set (set s.views id (Book (set es v.lane kept))) other Spent) j ≡ some (Lane u) → (u.lane ≢ v.lane) × (get_elem? s.views j ≡ some (Lane u))
@@ -34,7 +34,7 @@ module _ (s : State ℕ View) (r : Rule s) (id : ℕ) (es : List Entry) (at : ge
       spent_not_lane : (u : LaneView) → Spent ≡ Lane u → ⊥
       spent_not_lane u e = cc
 
-  pub gathers : Rule record { words = s.words; homes = s.homes; views = set (set s.views id (Book (set es v.lane (with_seat (entry_at es v.lane) (Gathered (progress_of v)))))) other Spent }
+  pub gathers : Rule record { words = s.words; homes = s.homes; views = set (set s.views id (Book (set es v.lane (with_seat (Gathered (progress_of v)) (entry_at es v.lane))))) other Spent }
   unfolding kept
   gathers =
       let fs : List Entry = set es v.lane kept in

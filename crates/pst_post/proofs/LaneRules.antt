@@ -8,7 +8,7 @@ use Rattle.pst_post.specs.declared.view.Progress.{Progress}
 use Rattle.pst_post.specs.Gathered.{CollectTells}
 use Rattle.pst_post.specs.Plays.{fetched_view, finished_view}
 use Rattle.pst_post.specs.Rule.{word_of, LaneRule}
-use Rattle.pst_post.specs.Steps.{after_post, after_collect}
+use Rattle.pst_post.specs.Steps.{IsIdle, after_post, after_collect}
 use Rattle.pst_post.specs.Views.{progress_of}
 use Rattle.pst_post.proofs.Lists.{by_test, no_longer, IsPrefix-append}
 
@@ -30,16 +30,16 @@ module _ (w : ℕ) (e : Entry) (p : Progress) (r : LaneRule w e p) where
   -- where the word is 0, all that was posted was handed back
   pub all_back : w ≡ 0 → (e.posted ≡ p.finished) × (p.fetched ≡ p.finished)
   all_back hit =
-      let same : e.posted ≡ p.finished = r.posted ∙ (ap (λ o. p.finished ++ option_to_list o) (none_out w r.undelivered r.word_is hit) ∙ append-nil p.finished) in
+      let same : e.posted ≡ p.finished = r.posted ∙ (ap (λ o. p.finished ++ option_to_list o) (none_out w r.outstanding r.word_is hit) ∙ append-nil p.finished) in
       (same, ⊎_elim (λ (t : p.fetched ≡ p.finished). t) (λ (t : p.fetched ≡ e.posted). t ∙ same) r.fetched)
 
   -- where it isn't, one action is out
   pub all_but_one : w ≢ 0 → (a : ℕ) × (e.posted ≡ p.finished ++ a ∷ [])
-  all_but_one miss = let t = one_out w r.undelivered r.word_is miss in (t.0, r.posted ∙ ap (λ o. p.finished ++ option_to_list o) t.1)
+  all_but_one miss = let t = one_out w r.outstanding r.word_is miss in (t.0, r.posted ∙ ap (λ o. p.finished ++ option_to_list o) t.1)
 
   -- where all that was posted has ended, the word is 0
-  pub none_left : e.posted ≡ e.ended → w ≡ 0
-  none_left all = go r.undelivered r.word_is r.posted
+  pub none_left : IsIdle e → w ≡ 0
+  none_left all = go r.outstanding r.word_is r.posted
     where
       go : (o : Option ℕ) → w ≡ word_of o → e.posted ≡ p.finished ++ option_to_list o → w ≡ 0
       go None is posted = is
@@ -49,9 +49,9 @@ module _ (w : ℕ) (e : Entry) (p : Progress) (r : LaneRule w e p) where
           let same = ap length all in
           absurd (omega (arith, longer, ended, same, length-append p.finished (a ∷ []), length-append e.ended r.ended.0))
 
-  pub posted_rule : (a : ℕ) → a < 2 ^ 32 → w ≡ 0 → LaneRule (a + 1) (after_post true e a) p
+  pub posted_rule : (a : ℕ) → a < 2 ^ 32 → w ≡ 0 → LaneRule (a + 1) (after_post true a e) p
   posted_rule a few hit = let back = all_back hit in record {
-    undelivered = Some a;
+    outstanding = Some a;
     word_is = refl;
     small = omega arith;
     posted = ap (λ l. l ++ a ∷ []) back.0;
@@ -61,7 +61,7 @@ module _ (w : ℕ) (e : Entry) (p : Progress) (r : LaneRule w e p) where
 
   pub collected_rule : w ≡ 0 → LaneRule w (after_collect true e) p
   collected_rule hit = record {
-    undelivered = r.undelivered;
+    outstanding = r.outstanding;
     word_is = r.word_is;
     small = r.small;
     posted = r.posted;
@@ -72,7 +72,7 @@ module _ (w : ℕ) (e : Entry) (p : Progress) (r : LaneRule w e p) where
   -- another entry that says the same of what was posted and ended
   pub same_rule : (e' : Entry) → e'.posted ≡ e.posted → e'.ended ≡ e.ended → LaneRule w e' p
   same_rule e' posted ended = record {
-    undelivered = r.undelivered;
+    outstanding = r.outstanding;
     word_is = r.word_is;
     small = r.small;
     posted = posted ∙ r.posted;
@@ -90,12 +90,12 @@ module _ (w : ℕ) (e : Entry) (p : Progress) (r : LaneRule w e p) where
 
 module _ (w : ℕ) (e : Entry) (v : LaneView) (r : LaneRule w e (progress_of v)) where
   pub fetched_rule : (o : Option ℕ) → w ≡ word_of o → v.fetched ≡ v.finished → LaneRule w e (progress_of (fetched_view v o))
-  fetched_rule o is idle = go o is (r.posted ∙ ap (λ u. v.finished ++ option_to_list u) (one_meaning w r.undelivered o r.word_is is))
+  fetched_rule o is idle = go o is (r.posted ∙ ap (λ u. v.finished ++ option_to_list u) (one_meaning w r.outstanding o r.word_is is))
     where
       go : (o : Option ℕ) → w ≡ word_of o → e.posted ≡ v.finished ++ option_to_list o → LaneRule w e (progress_of (fetched_view v o))
       go None is posted = r
       go (Some a) is posted = record {
-        undelivered = Some a;
+        outstanding = Some a;
         word_is = is;
         small = r.small;
         posted = posted;
@@ -106,7 +106,7 @@ module _ (w : ℕ) (e : Entry) (v : LaneView) (r : LaneRule w e (progress_of v))
   pub handed_back_rule : (a : ℕ) → v.fetched ≡ v.finished ++ a ∷ [] → LaneRule 0 e (progress_of (finished_view v))
   handed_back_rule a busy =
       let all : v.fetched ≡ e.posted = ⊎_elim (λ (t : v.fetched ≡ v.finished). absurd (no_longer v.finished a (sym t ∙ busy))) (λ (t : v.fetched ≡ e.posted). t) r.fetched in record {
-        undelivered = None;
+        outstanding = None;
         word_is = refl;
         small = omega arith;
         posted = sym all ∙ sym (append-nil v.fetched);

@@ -19,7 +19,7 @@ get_or-replicate (suc n) zero a = refl
 get_or-replicate (suc n) (suc k) a = get_or-replicate n k a
 
 blank_rule : (w : ℕ) → w ≡ 0 → LaneRule w blank_entry no_progress
-blank_rule w is = record { undelivered = None; word_is = is; small = omega arith; posted = refl; fetched = inl refl; ended = ([], refl) }
+blank_rule w is = record { outstanding = None; word_is = is; small = omega arith; posted = refl; fetched = inl refl; ended = ([], refl) }
 
 pub opens : (n : ℕ) (words : List ℕ) → words ≡ replicate n 0 → Rule (opening words [] (first_view n))
 opens n words are = record {

@@ -13,7 +13,7 @@ use Rattle.pst_post.specs.declared.view.SeatStatus.TheVariants.{Undealt, Out, Ga
 use Rattle.pst_post.specs.declared.view.View.{View}
 use Rattle.pst_post.specs.declared.view.View.TheVariants.{Book, Lane}
 use Rattle.pst_post.specs.Gathered.{CollectTells}
-use Rattle.pst_post.specs.Plays.{Seated, with_entry_of, Posts, Collects, Fetches, HandsBack, fetched_view, finished_view}
+use Rattle.pst_post.specs.Plays.{Seated, entry_changed, Posts, Collects, Fetches, HandsBack, fetched_view, finished_view}
 use Rattle.pst_post.specs.Rule.{LaneRule, IsProgress, Rule}
 use Rattle.pst_post.specs.Seats.{IsBookSeat, IsLaneSeat}
 use Rattle.pst_post.specs.Steps.{after_post, after_collect, missed}
@@ -22,7 +22,7 @@ use Rattle.pst_post.proofs.LaneRules.{none_left, posted_rule, collected_rule, sa
 use Rattle.pst_post.proofs.Lists.{by_test}
 use Rattle.pst_post.proofs.SeatSteps.{lane_holds, lane_step, old_holds, book_step}
 
-after_post-seat : (b : Bool) (e : Entry) (a : ℕ) → (after_post b e a).seat ≡ e.seat
+after_post-seat : (b : Bool) (e : Entry) (a : ℕ) → (after_post b a e).seat ≡ e.seat
 after_post-seat true e a = refl
 after_post-seat false e a = refl
 
@@ -52,12 +52,12 @@ module _ (slots id : ℕ) (me : Seated) (k : ℕ) (table : TableId) (seat : IsBo
       let e : Entry = entry_at es k in
       let at_book : get_elem? s.views id ≡ some (Book es) = at ∙ ap (λ (m : Seated). some m.0) seat.view in
       let held = old_holds s r id es at_book k (in_range table me k seat small) in (
-        Book (set es k (after_post (eqb w 0) e a)),
+        Book (set es k (after_post (eqb w 0) a e)),
         keeps,
         tt,
-        book_step s r id es at_book k (either (eqb w 0) (a + 1) w) (after_post (eqb w 0) e a) (in_range table me k seat small) (after_post-seat (eqb w 0) e a)
-            (λ p rule. by_test (λ b. LaneRule (either b (a + 1) w) (after_post b e a) p) w 0 (posted_rule w e p rule a few) (λ _. same_rule w e p rule (missed e) refl refl)),
-        ((λ b same. let act : a ≡ b = omega arith in ap (λ c. with_entry_of me k (after_post (eqb w 0) e c)) act), none_left w e held.0 held.2),
+        book_step s r id es at_book k (either (eqb w 0) (a + 1) w) (after_post (eqb w 0) a e) (in_range table me k seat small) (after_post-seat (eqb w 0) e a)
+            (λ p rule. by_test (λ b. LaneRule (either b (a + 1) w) (after_post b a e) p) w 0 (posted_rule w e p rule a few) (λ _. same_rule w e p rule (missed e) refl refl)),
+        ((λ b same. let act : a ≡ b = omega arith in ap (λ c. entry_changed me k (after_post (eqb w 0) c)) act), none_left w e held.0 held.2),
       )
 
   pub collects : Allows Rule slots id me k (λ n. n) (Collects (step slots k 0 0 none) me)
@@ -82,11 +82,11 @@ module _ (slots id : ℕ) (me : Seated) (k : ℕ) (table : TableId) (seat : IsLa
       let w : ℕ = get_or s.words v.lane 0 in
       let at_lane : get_elem? s.views id ≡ some (Lane v) = at ∙ ap (λ (m : Seated). some m.0) seat.view in
       let held = lane_holds s r id v at_lane in (
-        Lane (fetched_view v held.undelivered),
+        Lane (fetched_view v held.outstanding),
         keeps,
         tt,
-        lane_step s r id v (fetched_view v held.undelivered) w at_lane (fetched_view-lane v held.undelivered) (λ e rule. fetched_rule w e v rule held.undelivered held.word_is idle),
-        (held.undelivered, held.word_is, held.small, refl),
+        lane_step s r id v (fetched_view v held.outstanding) w at_lane (fetched_view-lane v held.outstanding) (λ e rule. fetched_rule w e v rule held.outstanding held.word_is idle),
+        (held.outstanding, held.word_is, held.small, refl),
       ))
 
   pub hands_back : ((a : ℕ) × ((lane_of me.0).fetched ≡ (lane_of me.0).finished ++ a ∷ [])) → Allows Rule slots id me k (λ _. 0) (HandsBack (step slots k 0 0 none) me)

@@ -11,6 +11,6 @@ pub record CollectTells (answer : Bool) (e : Entry) (p : Progress) : Type 0 wher
   pub fetched : (p.fetched ≡ p.finished) ⊎ (p.fetched ≡ e.posted)
   pub posted : MatchBool answer (e.posted ≡ p.finished) ((a : ℕ) × (e.posted ≡ p.finished ++ a ∷ []))
 
--- what was posted is what was handed back and then this action, or nothing more
-abbrev pub IsLeft : Entry → Option ℕ → Type 0
-IsLeft e o = e.posted ≡ (gathered_progress e.seat).finished ++ option_to_list o
+-- the action that was posted and not handed back, if there is one: what was posted is what was handed back, and then this
+abbrev pub IsOutstanding : Entry → Option ℕ → Type 0
+IsOutstanding e o = e.posted ≡ (gathered_progress e.seat).finished ++ option_to_list o

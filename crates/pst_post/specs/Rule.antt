@@ -20,10 +20,10 @@ word_of (Some a) = a + 1
 
 -- a lane's word, its entry in the book and its progress: what was posted is what was handed back and then the action in the word, if there is one
 pub record LaneRule (word : ℕ) (e : Entry) (p : Progress) : Type 0 where
-  pub undelivered : Option ℕ
-  pub word_is : word ≡ word_of undelivered
+  pub outstanding : Option ℕ
+  pub word_is : word ≡ word_of outstanding
   pub small : word ≤ 2 ^ 32
-  pub posted : e.posted ≡ p.finished ++ option_to_list undelivered
+  pub posted : e.posted ≡ p.finished ++ option_to_list outstanding
   pub fetched : (p.fetched ≡ p.finished) ⊎ (p.fetched ≡ e.posted)
   pub ended : IsPrefix e.ended p.finished
 

@@ -26,9 +26,9 @@ pub record LaneState : Type 0 where
 abbrev pub lane_entry : BookState → ℕ → Entry
 lane_entry b k = entry_at b.entries k
 
--- the same seat, but for the entry of the lane k
-abbrev pub with_entry : BookState → ℕ → Entry → BookState
-with_entry b k e = record { table = b.table; entries = slice_set b.entries k e }
+-- the same seat with the entry of the lane k changed so
+abbrev pub changed_at : BookState → ℕ → (Entry → Entry) → BookState
+changed_at b k change = record { table = b.table; entries = slice_set b.entries k (change (lane_entry b k)) }
 
 -- the book's seat of a table that was just made for so many lanes
 abbrev pub fresh_book : TableId → ℕ → BookState
@@ -46,12 +46,12 @@ seat_progress s = record { fetched = s.fetched; finished = s.finished }
 abbrev pub lane_state : TableId → LaneView → LaneState
 lane_state table v = record { table = table; lane = v.lane; fetched = v.fetched; finished = v.finished; misses = v.misses }
 
--- the table's seat of the book has the book's view, with an entry for each word
+-- a seat of the table with this view and these slots is the book's: it has an entry for each word, and no slot
 pub record IsBookSeat (table : TableId) (me : Me ℕ View) : Type 0 where
   pub view : me ≡ (Book (entries_of me.0), [])
   pub wide : length (entries_of me.0) ≡ table.words
 
--- the table's seat of the lane k has a view of that lane
+-- a seat of the table with this view and these slots is that of the lane k: it has a view of that lane, and no slot
 pub record IsLaneSeat (table : TableId) (me : Me ℕ View) (k : ℕ) : Type 0 where
   pub view : me ≡ (Lane (lane_of me.0), [])
   pub lane : k ≡ (lane_of me.0).lane

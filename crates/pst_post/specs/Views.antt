@@ -38,7 +38,7 @@ gathered_progress Undealt = no_progress
 gathered_progress Out = no_progress
 gathered_progress (Gathered p) = p
 
--- a fact of the progress that was gathered, where it was
+-- a fact holds of the gathered progress, where the seat was gathered
 abbrev pub IfGathered : SeatStatus → (Progress → Type 0) → Type 0
 IfGathered Undealt P = Unit {0}
 IfGathered Out P = Unit {0}

@@ -2,10 +2,10 @@
 ghost use Rattle.std.specs.Prelude.{◌≡◌, ◌≢◌, ℕ, ◌+◌, ◌^◌, ◌<◌, ◌≤◌, [], ◌∷◌, ◌++◌, slice_index, slice_index_or, None, IfOk, IsTrue};
 ghost use Rattle.std.specs.Mem.Slots.{slots_items, slots_len, IsFull};
 ghost use Rattle.pst_post.specs.declared.view.SeatStatus.TheVariants.{Undealt, Out, Gathered};
-ghost use Rattle.pst_post.specs.Gathered.{CollectTells, IsLeft};
+ghost use Rattle.pst_post.specs.Gathered.{CollectTells, IsOutstanding};
 ghost use Rattle.pst_post.specs.Rule.{word_of};
-ghost use Rattle.pst_post.specs.Seats.{fresh_book, fresh_seat, lane_entry, seat_progress, with_entry};
-ghost use Rattle.pst_post.specs.Steps.{after_collect, after_fetch, after_hand_back, after_post, with_seat};
+ghost use Rattle.pst_post.specs.Seats.{changed_at, fresh_book, fresh_seat, lane_entry, seat_progress};
+ghost use Rattle.pst_post.specs.Steps.{IsIdle, after_collect, after_fetch, after_hand_back, after_post, with_seat};
 ghost use Rattle.pst_post.specs.Views.{IfGathered};
 
 use crate::rule::{
@@ -30,7 +30,7 @@ pub struct Post {
 }
 
 impl Model for Post {
-    ghost use Rattle.std.specs.Prelude.{◌≡◌, ◌≤◌};
+    ghost use Rattle.std.specs.Prelude.{◌≡◌, ◌<◌, ◌≤◌};
     ghost use Rattle.atomic_table.specs.Seated.{TableId, table_id_coded};
     ghost use Rattle.pst_post.specs.declared.mailbox.TheConstants.{MOST_LANES};
 
@@ -40,11 +40,11 @@ impl Model for Post {
 
     ghost view = { λ p. p.table.shared.table_id };
 
-    ghost invariant = { λ p. (p.table.shared.table_id.words ≤ MOST_LANES) × (p.table.shared.table_id.slots ≡ 0) };
+    ghost invariant = { λ p. (0 < p.table.shared.table_id.words) × (p.table.shared.table_id.words ≤ MOST_LANES) × (p.table.shared.table_id.slots ≡ 0) };
 }
 
 impl Post {
-    /// The mailboxes of so many lanes, all empty, and the book's seat.
+    /// The mailboxes of so many lanes, with each word 0, and the book's seat.
     pub fn new(alloc: Global, lanes: u32) -> Result<(Post, BookSeat), NoMemory>
         requires { (0 < lanes) × (lanes ≤ MOST_LANES) }
         ensures lanes { IfOk result (λ made. made.0.words ≡ lanes) }
@@ -58,17 +58,17 @@ impl Post {
     /// The number of lanes, from 1 to 16.
     pub fn lanes(&self) -> u32
         ensures lanes { result ≡ self.now.words }
-        ensures few { result ≤ MOST_LANES }
+        ensures few { (0 < result) × (result ≤ MOST_LANES) }
     {
         self.table.word_count() as u32
     }
 
-    /// Deals the seat of a lane. Each lane is dealt once.
+    /// The seat of a lane, which is dealt once.
     pub fn deal(&self, seat: &mut BookSeat, lane: u32) -> LaneSeat
         requires table { seat.old.table ≡ self.now }
         requires lane { lane < self.now.words }
         requires once { (lane_entry seat.old lane).seat ≡ Undealt }
-        ensures book { seat.new ≡ with_entry seat.old lane (with_seat (lane_entry seat.old lane) Out) }
+        ensures book { seat.new ≡ changed_at seat.old lane (with_seat Out) }
         ensures dealt { result ≡ fresh_seat self.now lane }
     {
         self.deal_lane::<Brand>(seat, lane)
@@ -80,20 +80,20 @@ impl Post {
         requires table { seat.old.table ≡ self.now }
         requires lane { lane < self.now.words }
         requires once { (lane_entry seat.old lane).seat ≡ Undealt }
-        ensures book { seat.new ≡ with_entry seat.old lane (with_seat (lane_entry seat.old lane) Out) }
+        ensures book { seat.new ≡ changed_at seat.old lane (with_seat Out) }
         ensures dealt { result ≡ fresh_seat self.now lane }
     {
         let dealt = self.table.shared.split_seat::<Dealing<L>>(&mut seat.seat);
         LaneSeat { seat: dealt, lane }
     }
 
-    /// Puts the action into the lane's word, if that is 0. False: it wasn't, and nothing was posted.
+    /// Posts an action to a lane, if the lane's word is 0. False: it isn't, and nothing was posted.
     pub fn post(&self, seat: &mut BookSeat, lane: u32, act: u32) -> bool
         requires table { seat.old.table ≡ self.now }
         requires lane { lane < self.now.words }
-        ensures book { seat.new ≡ with_entry seat.old lane (after_post result (lane_entry seat.old lane) act) }
+        ensures book { seat.new ≡ changed_at seat.old lane (after_post result act) }
         // Where all that was posted was collected, the word is 0.
-        ensures idle { (lane_entry seat.old lane).posted ≡ (lane_entry seat.old lane).ended → IsTrue result }
+        ensures idle { IsIdle (lane_entry seat.old lane) → IsTrue result }
     {
         let put = act as u64 + 1;
         let before = self
@@ -103,9 +103,9 @@ impl Post {
         before == 0
     }
 
-    /// The action in the lane's word. None: the word is 0, and there is nothing to do.
+    /// The action in the lane's word. None: the word is 0, so nothing is posted.
     ///
-    /// The seat has handed back all that it fetched.
+    /// The lane has handed back all that it fetched before.
     pub fn fetch(&self, seat: &mut LaneSeat) -> Option<u32>
         requires table { seat.old.table ≡ self.now }
         requires idle { seat.old.fetched ≡ seat.old.finished }
@@ -116,7 +116,7 @@ impl Post {
         action_in(found)
     }
 
-    /// Makes the lane's word 0, by which the action that was fetched last is handed back.
+    /// Hands back the action that was fetched last: the lane's word is 0 again.
     pub fn hand_back(&self, seat: &mut LaneSeat)
         requires table { seat.old.table ≡ self.now }
         requires busy { (act : ℕ) × (seat.old.fetched ≡ seat.old.finished ++ act ∷ []) }
@@ -128,12 +128,12 @@ impl Post {
             .swap::<HandingBack>(&mut seat.seat, lane, 0);
     }
 
-    /// Notes that all that was posted to the lane was handed back, if its word is 0. False: it wasn't, and nothing is noted.
+    /// Notes that all that was posted to a lane was handed back, if the lane's word is 0. False: it isn't, and an action is out.
     pub fn collect(&self, seat: &mut BookSeat, lane: u32) -> bool
         requires table { seat.old.table ≡ self.now }
         requires lane { lane < self.now.words }
-        ensures book { seat.new ≡ with_entry seat.old lane (after_collect result (lane_entry seat.old lane)) }
-        ensures idle { (lane_entry seat.old lane).posted ≡ (lane_entry seat.old lane).ended → IsTrue result }
+        ensures book { seat.new ≡ changed_at seat.old lane (after_collect result) }
+        ensures idle { IsIdle (lane_entry seat.old lane) → IsTrue result }
         ensures gathered { IfGathered (lane_entry seat.old lane).seat (CollectTells result (lane_entry seat.old lane)) }
     {
         let found = self
@@ -143,11 +143,11 @@ impl Post {
         found == 0
     }
 
-    /// Takes in the seat of a lane: the book's seat remembers what it fetched and handed back.
+    /// Takes in the seat of a lane. The book's seat keeps what the lane fetched and handed back.
     pub fn gather(&self, seat: &mut BookSeat, lane_seat: LaneSeat)
         requires book { seat.old.table ≡ self.now }
         requires lane { lane_seat.table ≡ self.now }
-        ensures { seat.new ≡ with_entry seat.old lane_seat.lane (with_seat (lane_entry seat.old lane_seat.lane) (Gathered (seat_progress lane_seat))) }
+        ensures { seat.new ≡ changed_at seat.old lane_seat.lane (with_seat (Gathered (seat_progress lane_seat))) }
     {
         let LaneSeat {
             seat: gathered,
@@ -158,20 +158,20 @@ impl Post {
             .join_seat::<Gathering>(&mut seat.seat, gathered);
     }
 
-    /// For each lane the action that was posted and not handed back, once every seat that was dealt is gathered.
+    /// Ends the mailboxes, once every seat that was dealt is gathered. For each lane: the action that was posted and not handed back.
     pub fn close(self, seat: BookSeat) -> [Option<u32>; MOST_LANES]
         requires table { seat.table ≡ self }
         requires home { (k : ℕ) → k < self.words → (lane_entry seat k).seat ≢ Out }
-        ensures each { (k : ℕ) → k < self.words → IsLeft (lane_entry seat k) (slice_index_or result k None) }
+        ensures each { (k : ℕ) → k < self.words → IsOutstanding (lane_entry seat k) (slice_index_or result k None) }
         ensures others { (k : ℕ) → self.words ≤ k → slice_index_or result k None ≡ None }
     {
         let Post { table } = self;
         let BookSeat { seat } = seat;
         let lanes = table.word_count();
         let closed = table.close_with(seat);
-        let left = actions_in(&closed, lanes);
+        let outstanding = actions_in(&closed, lanes);
         closed.free();
-        left
+        outstanding
     }
 }
 
@@ -182,11 +182,11 @@ fn actions_in(closed: &Closed<u8, Global>, lanes: usize) -> [Option<u32>; MOST_L
     ensures each { (k : ℕ) → k < lanes → slice_index (slots_items closed.now.words) k ≡ word_of (slice_index_or result k None) }
     ensures others { (k : ℕ) → lanes ≤ k → slice_index_or result k None ≡ None }
 {
-    let mut left = [None; MOST_LANES];
+    let mut actions = [None; MOST_LANES];
     for lane in 0..lanes {
-        left[lane] = action_in(closed.word(lane));
+        actions[lane] = action_in(closed.word(lane));
     }
-    left
+    actions
 }
 
 // The action that a word stands for, if there is one.

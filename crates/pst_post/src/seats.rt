@@ -5,9 +5,9 @@ use crate::view::View;
 use atomic_table::Seat;
 use std::marker::Model;
 
-/// The book's seat. It posts and collects, and deals and gathers the lanes' seats.
+/// The book's seat, with which it posts and collects, and deals and gathers the lanes' seats.
 ///
-/// To a contract it is the table that it is of, and an entry for each lane.
+/// To a contract it is its table and an entry for each lane.
 #[derive(Drop)]
 pub struct BookSeat {
     pub(crate) seat: Seat<u8, View>,
@@ -24,9 +24,9 @@ impl Model for BookSeat {
     ghost invariant = { λ b. IsBookSeat b.seat.table_id b.seat.me };
 }
 
-/// A lane's seat. It fetches what was posted to its lane, and hands it back.
+/// A lane's seat, with which it fetches what was posted to the lane, and hands it back.
 ///
-/// To a contract it is the table that it is of, its lane, what it fetched and handed back, and how often it found nothing.
+/// To a contract it is its table, its lane, what it fetched and handed back, and how often it found nothing.
 #[derive(Drop)]
 pub struct LaneSeat {
     pub(crate) seat: Seat<u8, View>,
