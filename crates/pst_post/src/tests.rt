@@ -15,6 +15,7 @@ const TURNS: u32 = 10_000_000;
 fn one_action_goes_there_and_back(rt: HostRuntime) -> Result<(), Fail> {
     let (post, mut book) = Post::new(rt.alloc(), 2)?;
     assert_eq!(rt; post.lanes(), 2);
+    book.show_width();
     let mut first = post.deal(&mut book, 0);
     let second = post.deal(&mut book, 1);
     assert_eq!(rt; (first.lane(), second.lane()), (0, 1));
