@@ -1,0 +1,9 @@
+pub mod Closing
+pub mod Dealing
+pub mod Gathering
+pub mod LaneRules
+pub mod LeftActions
+pub mod Lists
+pub mod Opening
+pub mod SeatSteps
+pub mod WordSteps
