@@ -1,9 +1,10 @@
 -- Names and their numbers.
 use Rattle.std.proofs.Common.{◌≡◌, ◌∙◌, ℕ, zero, suc, ◌+◌, ◌<◌, List, [], ◌∷◌, ◌++◌, length, get_or, take, drop, map, refl, ap, sym, subst, arith, true, false, cond, Bool, inl, inr}
-use Rattle.std.specs.Prelude.{Some, None, Option, slice_get, ◌||◌, ◌⊎◌, is_some, not, MatchBool, min}
+use Rattle.std.specs.Prelude.{Some, None, Option, slice_get, ◌||◌, ◌⊎◌, is_some, not, MatchBool, min, nat_eq}
 use Rattle.std.specs.List.{list_any, AllZip}
 use Rattle.std.specs.Str.{bytes_eq}
 use Rattle.std.proofs.lemmas.Slice.Eq.{bytes_eq-Decides}
+use Rattle.std.proofs.lemmas.Bool.Decides.{nat_tests}
 use Rattle.std.proofs.lemmas.List.{take_more, length-append, length-map, length-take, take-append-drop}
 use Rattle.std.proofs.lemmas.Option.{slice_get-map, slice_get-get_or, slice_get_within}
 use Rattle.std.specs.Option.{option_map}
@@ -248,3 +249,21 @@ sound_more all i d below is before here j e names h performs =
     by_place : (slice_get (take i all) j ≡ Some e) ⊎ ((j ≡ length (take i all)) × (d ≡ e)) → AreAtomic all names
     by_place (inl p) = before j e names p performs
     by_place (inr p) = here names (ap (λ (x : Declaration). x.activity) p.1 ∙ performs)
+
+-- whether the length of a table changed tells whether the text is new
+pub added_by : (names new : List (List ℕ)) (text : List ℕ) (after before id : ℕ) → new ≡ with_text names text → after ≡ length new → before ≡ length names
+    → slice_get new id ≡ Some text
+    → MatchBool (not (nat_eq after before)) ((new ≡ names ++ text ∷ []) × ((k : ℕ) → slice_get names k ≡ Some text → ⊥)) ((k : ℕ) × (slice_get names k ≡ Some text))
+added_by names new text after before id added long short found = by_test (nat_eq after before) refl
+  where
+    by_test : (b : Bool) → nat_eq after before ≡ b → MatchBool (not b) ((new ≡ names ++ text ∷ []) × ((k : ℕ) → slice_get names k ≡ Some text → ⊥)) ((k : ℕ) × (slice_get names k ≡ Some text))
+    by_test true e =
+        let same : after ≡ before = grind (arith, nat_tests) in
+        let kept : length (with_text names text) ≡ length names = ap length (sym added) ∙ sym long ∙ same ∙ short in
+        let there = kept_length names text kept in
+        let equal : new ≡ names = added ∙ keeps_length names text there in
+        (id, ap (λ (ns : List (List ℕ)). slice_get ns id) (sym equal) ∙ found)
+    by_test false e =
+        let other : after ≡ before → ⊥ = grind (arith, nat_tests) in
+        let fresh = grown names text (λ same. other (long ∙ ap length added ∙ same ∙ sym short)) in
+        (added ∙ fresh.0, fresh.1)

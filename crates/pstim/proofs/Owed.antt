@@ -3,14 +3,14 @@ use Rattle.std.proofs.Common.{ℕ, List, refl, sym, subst, inl, inr}
 use Rattle.std.specs.Prelude.{Option, Result, Ok, Err, IfOk, string_bytes}
 use Rattle.pst_io.specs.Shelf.{Files}
 use Rattle.pstim.specs.declared.answer.Answer.{Answer}
-use Rattle.pstim.specs.declared.answer.Answer.TheVariants.{Done, NoFile, ReadFault, Unbuilt}
+use Rattle.pstim.specs.declared.answer.Answer.TheVariants.{Done, NoFile, ReadFault, WriteFault, NoMemory, Unbuilt}
 use Rattle.pstim.specs.declared.loading.Loaded.{Loaded}
 use Rattle.pstim.specs.declared.loading.Loaded.TheVariants as loaded
 use Rattle.pstim.specs.declared.replying.Reply.{Reply}
 use Rattle.pstim.specs.Words.{IsLine}
 use Rattle.pstim.specs.Loaded.{Finds}
-use Rattle.pstim.specs.Outcome.{IsOwed, TooLarge, OtherForm}
-use Rattle.pstim.specs.Replies.{RepliesTo, Says}
+use Rattle.pstim.specs.Outcome.{IsOwed, TooLarge, OtherForm, Writing, Answers}
+use Rattle.pstim.specs.Replies.{RepliesTo, Says, Delivers}
 use Rattle.pstim.specs.Texts.{unbuilt_text}
 
 -- an answer and a text that are those of a reply
@@ -39,3 +39,20 @@ owed_found words root file files before now (loaded.Text source) reply line find
 pub if_ok_from : {T E : Type 0} (P Q : T → Type 0) (r : Result T E) → ((t : T) → P t → Q t) → IfOk r P → IfOk r Q
 if_ok_from P Q (Ok t) f h = f t h
 if_ok_from P Q (Err e) f h = tt
+
+-- what was delivered is the answer
+pub answered : (words : List (List ℕ)) (files : Option Files) (before now : ℕ) (w : Writing) (reply : Reply) (result : Answer)
+    → IsOwed words files before now reply.answer (string_bytes reply.text) → Delivers reply w result → Answers words files before now w result
+answered words files before now w reply result owed (inl d) = subst (Answers words files before now w) (sym d.0) (by_answer reply.answer owed)
+  where
+    by_answer : (a : Answer) → IsOwed words files before now a (string_bytes reply.text) → Answers words files before now w a
+    by_answer (Done count) o = record { text = string_bytes reply.text; owed = o; written = d.1.written; count = d.1.count }
+    by_answer (NoFile word) o = record { text = string_bytes reply.text; owed = o; written = d.1.written; count = d.1.count }
+    by_answer (ReadFault word) o = record { text = string_bytes reply.text; owed = o; written = d.1.written; count = d.1.count }
+    by_answer Unbuilt o = record { text = string_bytes reply.text; owed = o; written = d.1.written; count = d.1.count }
+    by_answer WriteFault o = absurd o
+    by_answer NoMemory o = absurd o
+answered words files before now w reply result owed (inr (inl d)) =
+    subst (Answers words files before now w) (sym d.0) (record { answer = reply.answer; text = string_bytes reply.text; owed = owed; many = d.1.many; part = d.1.part; written = d.1.written; count = d.1.count })
+answered words files before now w reply result owed (inr (inr d)) =
+    subst (Answers words files before now w) (sym d.0) (record { written = d.1.written; count = d.1.count })

@@ -119,6 +119,7 @@ pub fn reply_to_words<S: Shelf>(
     ensures same_files { S.files shelf.new ≡ S.files shelf.old }
     ensures owed { IfOk result (λ reply. IsOwed (map string_bytes words.now) (S.files shelf.old)
         (S.faults shelf.old) (S.faults shelf.new) reply.answer (string_bytes reply.text)) }
+    ensures unopened { ((root file : List ℕ) → IsLine (map string_bytes words.now) root file → ⊥) → S.rest shelf.new ≡ S.rest shelf.old }
 {
     match line_of(words) {
         Some(line) => reply_to_line(alloc, line, shelf),

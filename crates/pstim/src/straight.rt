@@ -25,13 +25,8 @@ fn adds(names: &mut Names, name: &str) -> Result<bool, NoMemory>
         ((k : ℕ) × (slice_get names.old k ≡ Some name.now))) }
 {
     let count = names.len();
-    let id = names.intern(name)?;
-    if names.len() == count {
-        let _there = id;
-        Ok(false)
-    } else {
-        Ok(true)
-    }
+    names.intern(name)?;
+    Ok(names.len() != count)
 }
 
 /// The names of the declarations in order; none where one stands twice.

@@ -1,5 +1,6 @@
 //! The calls of the program.
-ghost use Rattle.std.specs.Prelude.{◌≡◌, ◌<◌, map, string_bytes, vec_len};
+ghost use Rattle.std.specs.Prelude.{◌≡◌, ◌<◌, List, ℕ, map, string_bytes, vec_len};
+ghost use Rattle.pstim.specs.Words.{IsLine};
 ghost use Rattle.pstim.specs.Outcome.{Answers, AnswersNoLane};
 ghost use Rattle.pstim.specs.Replies.{Delivers, writing};
 
@@ -28,10 +29,10 @@ fn deliver<K: Sink>(sink: &mut K, reply: Reply) -> Answer
 fn answer_without_lane<K: Sink>(alloc: Global, sink: &mut K) -> Answer
     ensures { AnswersNoLane (writing (K.written sink.old) (K.written sink.new) (K.faults sink.old) (K.faults sink.new)) result }
 {
-    match unbuilt(alloc) {
-        Ok(reply) => deliver(sink, reply),
-        Err(_) => Answer::NoMemory,
-    }
+    let Ok(reply) = unbuilt(alloc) else {
+        return Answer::NoMemory;
+    };
+    deliver(sink, reply)
 }
 
 /// Answers a line of words on one lane: reads the source, finds the scenario of its root, runs it and
@@ -48,15 +49,18 @@ pub fn portable_alone<S: Shelf, K: Sink, T: Target>(
         (writing (K.written sink.old) (K.written sink.new) (K.faults sink.old) (K.faults sink.new)) result }
     ensures same_files { S.files shelf.new ≡ S.files shelf.old }
 
+    // Other words are refused before any file is opened.
+    ensures unopened { ((root file : List ℕ) → IsLine (map string_bytes words.now) root file → ⊥) → S.rest shelf.new ≡ S.rest shelf.old }
+
     // The lane isn't called.
     ensures calls { T.calls lane.new ≡ T.calls lane.old }
     ensures faults { T.faults lane.new ≡ T.faults lane.old }
 {
     let _lane = lane;
-    match reply_to_words(alloc, words, shelf) {
-        Ok(reply) => deliver(sink, reply),
-        Err(_) => Answer::NoMemory,
-    }
+    let Ok(reply) = reply_to_words(alloc, words, shelf) else {
+        return Answer::NoMemory;
+    };
+    deliver(sink, reply)
 }
 
 /// Answers a line of words on the lanes: with lane 0 alone, so far. It promises nothing of its return.
@@ -80,10 +84,12 @@ pub fn portable_stimulus<
         (writing (K.written sink.old) (K.written sink.new) (K.faults sink.old) (K.faults sink.new)) result }
     ensures same_files { S.files shelf.new ≡ S.files shelf.old }
 
+    ensures unopened { ((root file : List ℕ) → IsLine (map string_bytes words.now) root file → ⊥) → S.rest shelf.new ≡ S.rest shelf.old }
+
     // Where no lane is handed in nothing is served.
     ensures no_lane { vec_len lanes.old ≡ 0 → AnswersNoLane
         (writing (K.written sink.old) (K.written sink.new) (K.faults sink.old) (K.faults sink.new)) result }
-    ensures no_read { vec_len lanes.old ≡ 0 → S.faults shelf.new ≡ S.faults shelf.old }
+    ensures no_read { vec_len lanes.old ≡ 0 → (S.faults shelf.new ≡ S.faults shelf.old) × (S.rest shelf.new ≡ S.rest shelf.old) }
 
     // No lane is called.
     ensures calls { map T.calls lanes.new.items ≡ map T.calls lanes.old.items }

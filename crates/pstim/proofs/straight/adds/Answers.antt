@@ -1,8 +1,8 @@
-use Rattle.std.proofs.Common.{◌∙◌, ap, sym, length}
-use Rattle.pstim.proofs.Named.{grown}
+-- A table that keeps its length had the name already.
+use Rattle.pstim.proofs.Named.{added_by}
 use Rattle.pstim.proofs.straight.adds.Goals as goal
 
-pub returns-else-len-count : goal.returns-else-len-count
-returns-else-len-count c =
-    let fresh = grown c.args.names.now c.args.name.now (λ e. c.if-len-count.false (c.len.ensures.count ∙ ap length c.in_ok-id.ensures.texts ∙ e ∙ sym c.len-count.ensures.count)) in
-    (c.in_ok-id.ensures.texts ∙ fresh.0, fresh.1)
+pub returns : goal.returns
+returns c =
+    added_by c.args.names.now c.intern.new.self c.args.name.now c.len.result c.len-count.result c.in_ok-intern.field-0.0
+    c.in_ok-intern.ensures.texts c.len.ensures.count c.len-count.ensures.count c.in_ok-intern.ensures.found
