@@ -1,0 +1,4 @@
+mod RangeLemmas
+mod ShiftLemmas
+mod DivisionLemmas
+mod BitLemmas
