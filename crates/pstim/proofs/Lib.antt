@@ -10,3 +10,4 @@ mod Legal
 mod Opened
 mod Plain
 mod Owed
+mod OneScenario

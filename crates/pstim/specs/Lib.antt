@@ -9,3 +9,4 @@ pub mod Outcome
 pub mod Loaded
 pub mod Replies
 pub mod Status
+pub mod Laws

@@ -3,6 +3,7 @@
 #![tactic(auto)]
 
 mod answer;
+mod laws;
 mod lexing;
 mod loading;
 mod parsing;
@@ -18,6 +19,7 @@ mod top;
 mod words;
 
 pub use answer::Answer;
+pub use laws::scenarios_are_one;
 use pst_base::NoMemory;
 use pst_io::{FileShelf, OutSink};
 use pst_target::{OpenGate, ScriptTarget};

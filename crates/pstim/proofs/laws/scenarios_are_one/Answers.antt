@@ -1,0 +1,5 @@
+use Rattle.pstim.proofs.OneScenario.{one_scenario}
+use Rattle.pstim.proofs.laws.scenarios_are_one.Goals as goal
+
+pub returns : goal.returns
+returns c = one_scenario
