@@ -1,0 +1,10 @@
+pub mod Bounds
+pub mod Cut
+pub mod Truth
+pub mod Comparison
+pub mod Arithmetic
+pub mod Shifts
+pub mod Bits
+pub mod Element
+pub mod Interval
+pub mod Laws

@@ -1,0 +1,4 @@
+pub mod Fault
+pub mod Lexing
+pub mod Finding
+pub mod Scanning

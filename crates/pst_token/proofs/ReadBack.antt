@@ -1,0 +1,91 @@
+-- Each reserved word and mark is the one that its spelling is read as.
+use Rattle.std.proofs.Common.{◌≡◌, ◌≢◌, [], Some, refl}
+use Rattle.pst_token.specs.declared.kind.Kind.{Kind}
+use Rattle.pst_token.specs.declared.kind.Kind.TheVariants.{Name, Number, End, Abstract, Action, Activity, Bind, Bit, Body, Bool, Buffer, Component, Constraint, Default, Do, Else, Enum, Exec, False, Foreach, Function, If, Import, In, Input, Int, JoinBranch, JoinFirst, JoinNone, JoinSelect, Lock, Match, Output, Parallel, Pool, Rand, Repeat, Resource, Schedule, Select, Sequence, Share, State, Stream, Target, True, Unique, Void, With, LeftBrace, RightBrace, LeftParenthesis, RightParenthesis, LeftBracket, RightBracket, Semicolon, Comma, Dot, DotDot, Colon, ColonColon, Equal, EqualEqual, NotEqual, Less, LessEqual, Greater, GreaterEqual, LessLess, GreaterGreater, Plus, Minus, Star, Slash, Percent, And, AndAnd, Or, OrOr, Caret, Not, Tilde, Arrow}
+use Rattle.pst_token.specs.Spelling.{spelling_of}
+use Rattle.pst_token.specs.Lookup.{kind_of}
+
+pub kind_of-spelling_of : (kind : Kind) → spelling_of kind ≢ [] → kind_of (spelling_of kind) ≡ Some kind
+kind_of-spelling_of Name some = absurd (some refl)
+kind_of-spelling_of Number some = absurd (some refl)
+kind_of-spelling_of End some = absurd (some refl)
+kind_of-spelling_of Abstract some = refl
+kind_of-spelling_of Action some = refl
+kind_of-spelling_of Activity some = refl
+kind_of-spelling_of Bind some = refl
+kind_of-spelling_of Bit some = refl
+kind_of-spelling_of Body some = refl
+kind_of-spelling_of Bool some = refl
+kind_of-spelling_of Buffer some = refl
+kind_of-spelling_of Component some = refl
+kind_of-spelling_of Constraint some = refl
+kind_of-spelling_of Default some = refl
+kind_of-spelling_of Do some = refl
+kind_of-spelling_of Else some = refl
+kind_of-spelling_of Enum some = refl
+kind_of-spelling_of Exec some = refl
+kind_of-spelling_of False some = refl
+kind_of-spelling_of Foreach some = refl
+kind_of-spelling_of Function some = refl
+kind_of-spelling_of If some = refl
+kind_of-spelling_of Import some = refl
+kind_of-spelling_of In some = refl
+kind_of-spelling_of Input some = refl
+kind_of-spelling_of Int some = refl
+kind_of-spelling_of JoinBranch some = refl
+kind_of-spelling_of JoinFirst some = refl
+kind_of-spelling_of JoinNone some = refl
+kind_of-spelling_of JoinSelect some = refl
+kind_of-spelling_of Lock some = refl
+kind_of-spelling_of Match some = refl
+kind_of-spelling_of Output some = refl
+kind_of-spelling_of Parallel some = refl
+kind_of-spelling_of Pool some = refl
+kind_of-spelling_of Rand some = refl
+kind_of-spelling_of Repeat some = refl
+kind_of-spelling_of Resource some = refl
+kind_of-spelling_of Schedule some = refl
+kind_of-spelling_of Select some = refl
+kind_of-spelling_of Sequence some = refl
+kind_of-spelling_of Share some = refl
+kind_of-spelling_of State some = refl
+kind_of-spelling_of Stream some = refl
+kind_of-spelling_of Target some = refl
+kind_of-spelling_of True some = refl
+kind_of-spelling_of Unique some = refl
+kind_of-spelling_of Void some = refl
+kind_of-spelling_of With some = refl
+kind_of-spelling_of LeftBrace some = refl
+kind_of-spelling_of RightBrace some = refl
+kind_of-spelling_of LeftParenthesis some = refl
+kind_of-spelling_of RightParenthesis some = refl
+kind_of-spelling_of LeftBracket some = refl
+kind_of-spelling_of RightBracket some = refl
+kind_of-spelling_of Semicolon some = refl
+kind_of-spelling_of Comma some = refl
+kind_of-spelling_of Dot some = refl
+kind_of-spelling_of DotDot some = refl
+kind_of-spelling_of Colon some = refl
+kind_of-spelling_of ColonColon some = refl
+kind_of-spelling_of Equal some = refl
+kind_of-spelling_of EqualEqual some = refl
+kind_of-spelling_of NotEqual some = refl
+kind_of-spelling_of Less some = refl
+kind_of-spelling_of LessEqual some = refl
+kind_of-spelling_of Greater some = refl
+kind_of-spelling_of GreaterEqual some = refl
+kind_of-spelling_of LessLess some = refl
+kind_of-spelling_of GreaterGreater some = refl
+kind_of-spelling_of Plus some = refl
+kind_of-spelling_of Minus some = refl
+kind_of-spelling_of Star some = refl
+kind_of-spelling_of Slash some = refl
+kind_of-spelling_of Percent some = refl
+kind_of-spelling_of And some = refl
+kind_of-spelling_of AndAnd some = refl
+kind_of-spelling_of Or some = refl
+kind_of-spelling_of OrOr some = refl
+kind_of-spelling_of Caret some = refl
+kind_of-spelling_of Not some = refl
+kind_of-spelling_of Tilde some = refl
+kind_of-spelling_of Arrow some = refl
