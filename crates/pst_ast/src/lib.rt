@@ -1,0 +1,40 @@
+//! Syntax trees of the whole grammar, and the tokens that they spell.
+#![tactic(auto)]
+
+mod activity;
+mod body;
+mod constraint;
+mod declaration;
+mod expression;
+mod fault;
+mod instance;
+mod leaf;
+mod shared;
+mod spell;
+mod spell_expression;
+
+pub use activity::{
+    ActivityNode, ArmLabel, ArmNode, BindNode, BranchNode, CoreNode, EndNode, GuardNode, JoinNode,
+    NextEnd, OtherEnds, StatementNode, TogetherWord, WeightNode, WithNode,
+};
+pub use body::{ArgumentsNode, BodyNode, BodyStatement, CallNode, SourceNode, ValueNode};
+pub use constraint::{ConstraintContent, ConstraintDeclaration, ConstraintItem, ConstraintNode};
+pub use declaration::{
+    ActionNode, ActionPart, AnswerNode, BaseNode, ClaimNode, ClaimWord, ComponentNode,
+    ComponentPart, EnumItem, EnumNode, EnumValue, FieldNode, FunctionNode, Item, MembersNode,
+    NextEnumItem, NextField, NextParameter, NextTarget, ObjectNode, ObjectPart, ObjectWord,
+    ParameterNode, ParametersNode, PoolBindNode, PoolNode, ReferenceNode, ReferenceWord, SizeNode,
+    TargetNode, TargetsNode, Unit,
+};
+pub use expression::{
+    ExprNode, IndexNode, NextPart, NextRange, PartNode, PathNode, PrimaryNode, RangeNode,
+    RangesNode, UnaryNode,
+};
+pub use fault::SyntaxFault;
+pub use instance::Instance;
+pub use leaf::{Name, Number, Operator, PrefixOperator};
+pub use shared::{
+    DomainNode, DotName, LabelNode, LowNode, NamesNode, NextExpr, NextName, PlainNode, ScopedName,
+    TypeName, TypeNode, WidthNode,
+};
+pub use spell_expression::{add_expr, add_part, add_ranges};
