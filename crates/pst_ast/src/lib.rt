@@ -9,9 +9,15 @@ mod expression;
 mod fault;
 mod instance;
 mod leaf;
+mod marks;
 mod shared;
-mod spell;
+mod spell_activity;
+mod spell_body;
+mod spell_constraint;
+mod spell_declaration;
 mod spell_expression;
+mod spell_shared;
+mod spelling;
 
 pub use activity::{
     ActivityNode, ArmLabel, ArmNode, BindNode, BranchNode, CoreNode, EndNode, GuardNode, JoinNode,
@@ -37,4 +43,4 @@ pub use shared::{
     DomainNode, DotName, LabelNode, LowNode, NamesNode, NextExpr, NextName, PlainNode, ScopedName,
     TypeName, TypeNode, WidthNode,
 };
-pub use spell_expression::{add_expr, add_part, add_ranges};
+pub use spelling::spell;

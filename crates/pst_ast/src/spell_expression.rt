@@ -4,7 +4,7 @@ ghost use Rattle.std.specs.List.{flat_map};
 ghost use Rattle.pst_ast.specs.ExpressionView.{view_expr, view_unary, view_primary, view_path, view_part, view_next_part, view_ranges, view_range, view_next_range};
 ghost use Rattle.pst_ast.specs.ExpressionSpelling.{spell_expr, spell_unary, spell_primary, spell_path, spell_part, spell_next_part, spell_ranges, spell_range, spell_next_range};
 
-use crate::spell::{kind_of_operator, kind_of_prefix_operator, push_mark, push_name, push_number};
+use crate::marks::{kind_of_operator, kind_of_prefix_operator, push_mark, push_name, push_number};
 use crate::{
     ExprNode, NextPart, NextRange, PartNode, PathNode, PrimaryNode, RangeNode, RangesNode,
     UnaryNode,

@@ -4,7 +4,7 @@ use Rattle.pst_token.specs.declared.token.Token.{Token}
 use Rattle.pst_ast.specs.declared.expression.PathNode.{PathNode}
 use Rattle.pst_ast.specs.ExpressionView.{view_path}
 use Rattle.pst_ast.specs.ExpressionSpelling.{spell_path}
-use Rattle.pst_ast.proofs.Rows.{dotted_spells, ranges_spell}
+use Rattle.pst_ast.proofs.ExpressionRows.{dotted_spells, ranges_spell}
 use Rattle.pst_ast.proofs.spell_expression.+spelling.Goals as goal
 
 pub add_path-returns-in_ok-add_part-in-Dotted : goal.add_path-returns-in_ok-add_part-in-Dotted

@@ -1,8 +1,10 @@
 //! Single tokens, added to a list.
 ghost use Rattle.std.specs.Prelude.{◌≡◌, ◌++◌, ◌∷◌, [], OnOk};
-ghost use Rattle.pst_ast.specs.Marks.{mark, name_token, number_token, operator_kind, prefix_operator_kind};
+ghost use Rattle.pst_ast.specs.Marks.{mark, name_token, number_token, operator_kind, prefix_operator_kind, together_word_kind, object_word_kind, reference_word_kind, claim_word_kind, spell_option};
 
-use crate::{Name, Number, Operator, PrefixOperator};
+use crate::{
+    ClaimWord, Name, Number, ObjectWord, Operator, PrefixOperator, ReferenceWord, TogetherWord,
+};
 use pst_base::{NameId, NoMemory, Place};
 use pst_token::{Kind, Token};
 
@@ -17,6 +19,20 @@ pub fn push_mark(tokens: &mut Vec<Token>, kind: Kind, place: Place) -> Result<()
         place,
     })?;
     Ok(())
+}
+
+// Adds a mark or a reserved word where it stands.
+pub fn push_optional_mark(
+    tokens: &mut Vec<Token>,
+    kind: Kind,
+    place: Option<Place>,
+) -> Result<(), NoMemory>
+    ensures { OnOk result (tokens.new.items ≡ tokens.old.items ++ spell_option (λ p. mark kind p ∷ []) place) }
+{
+    match place {
+        None => Ok(()),
+        Some(place) => push_mark(tokens, kind, place),
+    }
 }
 
 // Adds a name.
@@ -79,5 +95,47 @@ pub fn kind_of_prefix_operator(operator: PrefixOperator) -> Kind
         PrefixOperator::Negate => Kind::Minus,
         PrefixOperator::Not => Kind::Not,
         PrefixOperator::Complement => Kind::Tilde,
+    }
+}
+
+// The word of a block whose statements run side by side or in any order.
+pub fn kind_of_together_word(word: TogetherWord) -> Kind
+    ensures { result ≡ together_word_kind word }
+{
+    match word {
+        TogetherWord::Parallel => Kind::Parallel,
+        TogetherWord::Schedule => Kind::Schedule,
+    }
+}
+
+// The word that begins an object.
+pub fn kind_of_object_word(word: ObjectWord) -> Kind
+    ensures { result ≡ object_word_kind word }
+{
+    match word {
+        ObjectWord::Buffer => Kind::Buffer,
+        ObjectWord::Stream => Kind::Stream,
+        ObjectWord::State => Kind::State,
+        ObjectWord::Resource => Kind::Resource,
+    }
+}
+
+// The word that begins a reference.
+pub fn kind_of_reference_word(word: ReferenceWord) -> Kind
+    ensures { result ≡ reference_word_kind word }
+{
+    match word {
+        ReferenceWord::Input => Kind::Input,
+        ReferenceWord::Output => Kind::Output,
+    }
+}
+
+// The word that begins a claim.
+pub fn kind_of_claim_word(word: ClaimWord) -> Kind
+    ensures { result ≡ claim_word_kind word }
+{
+    match word {
+        ClaimWord::Lock => Kind::Lock,
+        ClaimWord::Share => Kind::Share,
     }
 }
