@@ -503,17 +503,17 @@ reference_open word (t0, (t1, (t2, (t3, _)))) (h0, (h1, (h2, (h3, _)))) = (MakeR
 claim_open : (word : ClaimWord) → IsOpen TheClaim [] (TheMark (claim_word_kind word) ∷ TheTypeName ∷ TheNames ∷ TheMark kind.Semicolon ∷ [])
 claim_open word (t0, (t1, (t2, (t3, _)))) (h0, (h1, (h2, (h3, _)))) = (MakeClaim word t0 t1 t2 t3, h2, refl)
 
-option_none_open : (part : Rule) → IsOpen (TheOption part) [] []
-option_none_open part _ _ = (None, tt, refl)
+option_none_open : (r : Rule) → IsOpen (TheOption r) [] []
+option_none_open r _ _ = (None, tt, refl)
 
-option_some_open : (part : Rule) → IsOpen (TheOption part) [] (part ∷ [])
-option_some_open part (t0, _) (h0, _) = (Some t0, h0, sym (append-nil (spell_of part t0)))
+option_some_open : (r : Rule) → IsOpen (TheOption r) [] (r ∷ [])
+option_some_open r (t0, _) (h0, _) = (Some t0, h0, sym (append-nil (spell_of r t0)))
 
-list_none_open : (part : Rule) → IsOpen (TheList part) [] []
-list_none_open part _ _ = ([], tt, refl)
+list_none_open : (r : Rule) → IsOpen (TheList r) [] []
+list_none_open r _ _ = ([], tt, refl)
 
-list_more_open : (part : Rule) → IsOpen (TheList part) [] (part ∷ TheList part ∷ [])
-list_more_open part (t0, (t1, _)) (h0, (h1, _)) = (t0 ∷ t1, (h0, h1), ap (λ (ts : List Token). spell_of part t0 ++ ts) (sym (append-nil (flat_map (spell_of part) t1))))
+list_more_open : (r : Rule) → IsOpen (TheList r) [] (r ∷ TheList r ∷ [])
+list_more_open r (t0, (t1, _)) (h0, (h1, _)) = (t0 ∷ t1, (h0, h1), ap (λ (ts : List Token). spell_of r t0 ++ ts) (sym (append-nil (flat_map (spell_of r) t1))))
 
 pub productions_open : (rule : Rule) (parts : List Rule) → Production rule parts → IsOpen rule [] parts
 productions_open _ _ expr_unary = expr_unary_open
@@ -669,7 +669,7 @@ productions_open _ _ field = field_open
 productions_open _ _ next_field = next_field_open
 productions_open _ _ (reference word) = reference_open word
 productions_open _ _ (claim word) = claim_open word
-productions_open _ _ (option_none part) = option_none_open part
-productions_open _ _ (option_some part) = option_some_open part
-productions_open _ _ (list_none part) = list_none_open part
-productions_open _ _ (list_more part) = list_more_open part
+productions_open _ _ (option_none r) = option_none_open r
+productions_open _ _ (option_some r) = option_some_open r
+productions_open _ _ (list_none r) = list_none_open r
+productions_open _ _ (list_more r) = list_more_open r

@@ -47,7 +47,7 @@ end_here = record { handle = name_here; dot = origin; name = name_here }
 
 -- a smallest tree of a rule
 abbrev pub smallest : (rule : Rule) → TreeOf rule
-smallest (TheMark kind) = origin
+smallest (TheMark k) = origin
 smallest TheName = name_here
 smallest TheNumber = zero_here
 smallest (TheLeft o) = expr_here

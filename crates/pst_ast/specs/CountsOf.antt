@@ -13,7 +13,7 @@ use Rattle.pst_ast.specs.TreeOf.{TreeOf}
 
 -- what counts at each token of a tree, with so many derivations open round it
 abbrev pub counts_of : (rule : Rule) → ℕ → TreeOf rule → List Count
-counts_of (TheMark kind) depth place = counted depth 0 ∷ []
+counts_of (TheMark k) depth place = counted depth 0 ∷ []
 counts_of TheName depth name = counted depth 0 ∷ []
 counts_of TheNumber depth number = counted depth 0 ∷ []
 counts_of (TheLeft o) depth expr = counts_expr depth 0 expr

@@ -13,7 +13,7 @@ use Rattle.pst_ast.specs.TreeOf.{TreeOf}
 
 -- operators group by level and to the left, and an `else` belongs to the nearest `if`
 abbrev pub IsProperOf : (rule : Rule) → TreeOf rule → Type 0
-IsProperOf (TheMark kind) place = Unit {0}
+IsProperOf (TheMark k) place = Unit {0}
 IsProperOf TheName name = Unit {0}
 IsProperOf TheNumber number = Unit {0}
 IsProperOf (TheLeft o) expr = IsProperExpr expr × (level_of o ≤ level expr)

@@ -14,7 +14,7 @@ use Rattle.pst_ast.specs.TreeOf.{TreeOf}
 
 -- the tokens of a tree, in order
 abbrev pub spell_of : (rule : Rule) → TreeOf rule → List Token
-spell_of (TheMark kind) place = mark kind place ∷ []
+spell_of (TheMark k) place = mark k place ∷ []
 spell_of TheName name = name_token name ∷ []
 spell_of TheNumber number = number_token number ∷ []
 spell_of (TheLeft o) expr = spell_expr expr

@@ -21,7 +21,7 @@ use Rattle.pst_ast.specs.Rule.{Rule, TheMark, TheName, TheNumber, TheLeft, TheRi
 
 -- the trees of a rule
 abbrev pub TreeOf : Rule → Type 0
-TreeOf (TheMark kind) = Place
+TreeOf (TheMark k) = Place
 TreeOf TheName = Name
 TreeOf TheNumber = Number
 TreeOf (TheLeft o) = ExprTree

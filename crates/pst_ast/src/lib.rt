@@ -8,6 +8,7 @@ mod declaration;
 mod expression;
 mod fault;
 mod instance;
+pub mod laws;
 mod leaf;
 mod marks;
 mod shared;

@@ -1,8 +1,9 @@
 //! The tokens of declarations.
-ghost use Rattle.std.specs.Prelude.{◌≡◌, ◌++◌, OnOk, map};
+ghost use Rattle.std.specs.Prelude.{◌≡◌, ◌++◌, ◌∷◌, [], OnOk, map};
+ghost use Rattle.pst_token.specs.declared.kind.Kind.TheVariants.{LeftParenthesis, RightParenthesis};
 ghost use Rattle.std.specs.List.{flat_map};
 ghost use Rattle.std.specs.Option.{option_map};
-ghost use Rattle.pst_ast.specs.Marks.{spell_option};
+ghost use Rattle.pst_ast.specs.Marks.{mark, spell_option};
 ghost use Rattle.pst_ast.specs.DeclarationView.{view_action, view_action_part, view_answer, view_claim, view_component, view_component_part, view_enum, view_enum_item, view_enum_value, view_field, view_function, view_item, view_members, view_next_enum_item, view_next_field, view_next_parameter, view_next_target, view_object, view_object_part, view_parameter, view_parameters, view_pool, view_pool_bind, view_reference, view_size, view_target, view_targets};
 ghost use Rattle.pst_ast.specs.DeclarationSpelling.{spell_action, spell_action_part, spell_answer, spell_base, spell_claim, spell_component, spell_component_part, spell_enum, spell_enum_item, spell_enum_value, spell_field, spell_function, spell_item, spell_members, spell_next_enum_item, spell_next_field, spell_next_parameter, spell_next_target, spell_object, spell_object_part, spell_parameter, spell_parameters, spell_pool, spell_pool_bind, spell_reference, spell_size, spell_target, spell_targets};
 
@@ -23,7 +24,7 @@ use crate::{
     NextField, NextParameter, NextTarget, ObjectNode, ObjectPart, ParameterNode, ParametersNode,
     PoolBindNode, PoolNode, ReferenceNode, SizeNode, TargetNode, TargetsNode,
 };
-use pst_base::NoMemory;
+use pst_base::{NoMemory, Place};
 use pst_token::{Kind, Token};
 
 // One part of `unit` before its end.
@@ -186,10 +187,27 @@ fn add_function(tokens: &mut Vec<Token>, function: &FunctionNode) -> Result<(), 
     push_mark(tokens, Kind::Function, function.function)?;
     add_answer(tokens, &function.answer)?;
     push_name(tokens, function.name)?;
-    push_mark(tokens, Kind::LeftParenthesis, function.left_parenthesis)?;
-    add_optional_parameters(tokens, &function.parameters)?;
-    push_mark(tokens, Kind::RightParenthesis, function.right_parenthesis)?;
+    add_parameter_list(
+        tokens,
+        function.left_parenthesis,
+        &function.parameters,
+        function.right_parenthesis,
+    )?;
     push_mark(tokens, Kind::Semicolon, function.semicolon)
+}
+
+// "(" [ param { "," param } ] ")"
+fn add_parameter_list(
+    tokens: &mut Vec<Token>,
+    left_parenthesis: Place,
+    parameters: &Option<ParametersNode>,
+    right_parenthesis: Place,
+) -> Result<(), NoMemory>
+    ensures { OnOk result (tokens.new.items ≡ tokens.old.items ++ mark LeftParenthesis left_parenthesis ∷ (spell_option spell_parameters (option_map view_parameters parameters.now) ++ mark RightParenthesis right_parenthesis ∷ [])) }
+{
+    push_mark(tokens, Kind::LeftParenthesis, left_parenthesis)?;
+    add_optional_parameters(tokens, parameters)?;
+    push_mark(tokens, Kind::RightParenthesis, right_parenthesis)
 }
 
 // "void" | plain
