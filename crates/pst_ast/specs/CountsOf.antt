@@ -3,7 +3,7 @@ use Rattle.std.specs.Prelude.{ℕ, List, [], ◌∷◌}
 use Rattle.std.specs.List.{flat_map}
 use Rattle.pst_ast.specs.Limits.{Count, counted, counts_option}
 use Rattle.pst_ast.specs.ExpressionLimits.{counts_expr, counts_unary, counts_primary, counts_path, counts_part, counts_next_part, counts_index}
-use Rattle.pst_ast.specs.SharedLimits.{counts_next_expr, counts_next_name, counts_dot_name, counts_names, counts_label, counts_scoped_name, counts_type_name, counts_low, counts_width, counts_plain, counts_own_range, counts_own_ranges, counts_domain, counts_type}
+use Rattle.pst_ast.specs.SharedLimits.{counts_own_next_range, counts_next_expr, counts_next_name, counts_dot_name, counts_names, counts_label, counts_scoped_name, counts_type_name, counts_low, counts_width, counts_plain, counts_own_range, counts_own_ranges, counts_domain, counts_type}
 use Rattle.pst_ast.specs.ConstraintLimits.{counts_constraint, counts_constraint_item, counts_constraint_content, counts_constraint_declaration}
 use Rattle.pst_ast.specs.ActivityLimits.{counts_with, counts_join, counts_end, counts_next_end, counts_other_ends, counts_bind, counts_weight, counts_guard, counts_arm_label, counts_statement, counts_core, counts_branch, counts_arm, counts_activity}
 use Rattle.pst_ast.specs.BodyLimits.{counts_arguments, counts_call, counts_source, counts_value, counts_body_statement, counts_body}

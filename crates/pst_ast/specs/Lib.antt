@@ -41,3 +41,4 @@ pub mod Production
 pub mod Viable
 pub mod Answers
 pub mod Laws
+pub mod Examples

@@ -1,7 +1,7 @@
 -- What counts towards the limits at each token of the trees of parts that several rules share; depth derivations that count are open round the tree.
 use Rattle.std.specs.Prelude.{ℕ, List, [], ◌∷◌, ◌++◌}
 use Rattle.std.specs.List.{flat_map}
-use Rattle.pst_ast.specs.ExpressionTree.{RangesTree, MakeRanges, MakeNextRange, RangeTree, RangeSingle, RangeBetween, NextRangeRow, NoNextRangeRow, MoreNextRangeRow}
+use Rattle.pst_ast.specs.ExpressionTree.{RangesTree, MakeRanges, NextRangeTree, MakeNextRange, RangeTree, RangeSingle, RangeBetween, NextRangeRow, NoNextRangeRow, MoreNextRangeRow}
 use Rattle.pst_ast.specs.SharedTree.{NextExprTree, MakeNextExpr, NamesTree, MakeNames, PlainTree, PlainInt, PlainBit, PlainBool, WidthTree, MakeWidth, LowTree, MakeLow, TypeTree, TypePlain, TypeNamed, DomainTree, MakeDomain}
 use Rattle.pst_ast.specs.declared.shared.NextName.{NextName}
 use Rattle.pst_ast.specs.declared.shared.DotName.{DotName}
@@ -58,10 +58,14 @@ abbrev pub counts_own_range : ℕ → RangeTree → List Count
 counts_own_range depth (RangeSingle expr) = counts_expr depth 0 expr
 counts_own_range depth (RangeBetween low dots_place high) = counts_expr depth 0 low ++ counted depth 0 ∷ counts_expr depth 0 high
 
+-- "," range
+abbrev pub counts_own_next_range : ℕ → NextRangeTree → List Count
+counts_own_next_range depth (MakeNextRange comma_place range) = counted depth 0 ∷ counts_own_range depth range
+
 -- { "," range }
 abbrev pub counts_own_range_row : ℕ → NextRangeRow → List Count
 counts_own_range_row depth NoNextRangeRow = []
-counts_own_range_row depth (MoreNextRangeRow (MakeNextRange comma_place range) tail) = counted depth 0 ∷ (counts_own_range depth range ++ counts_own_range_row depth tail)
+counts_own_range_row depth (MoreNextRangeRow head tail) = counts_own_next_range depth head ++ counts_own_range_row depth tail
 
 -- ranges = range { "," range }
 abbrev pub counts_own_ranges : ℕ → RangesTree → List Count

@@ -1,4 +1,5 @@
 //! Laws of the grammar: each function here does nothing, and its contract is a law.
+ghost use Rattle.pst_ast.specs.Examples.{NestingIsLimited, OperatorsAreLimited, OperatorsGroup, ElseBelongsToNearest, UnitsEndWithEnd};
 ghost use Rattle.pst_ast.specs.Laws.{ProductionsAreOpen, ClosingsClose, OpenFrontsAreViable, PartsAreRead, PartsAreBegun, ViableFrontsBegin};
 
 /// Each alternative of a rule stands open as a whole: whatever proper trees its parts get, they
@@ -36,4 +37,34 @@ pub fn parts_are_begun()
 #[tactic(auto, using(crate::proofs::Fronts::viable_begins))]
 pub fn viable_fronts_begin()
     ensures { ViableFrontsBegin }
+{}
+
+/// The 65th derivation in one another is the first that breaks the limit on nesting.
+#[tactic(auto, using(crate::proofs::ExamplesHold::nesting_is_limited))]
+pub fn nesting_is_limited()
+    ensures { NestingIsLimited }
+{}
+
+/// The 257th operator of an outermost expression is the first that breaks the limit on operators.
+#[tactic(auto, using(crate::proofs::ExamplesHold::operators_are_limited))]
+pub fn operators_are_limited()
+    ensures { OperatorsAreLimited }
+{}
+
+/// Trees whose operators group otherwise than by level and to the left are not proper.
+#[tactic(auto, using(crate::proofs::ExamplesHold::operators_group))]
+pub fn operators_group()
+    ensures { OperatorsGroup }
+{}
+
+/// Trees whose `else` belongs to another `if` than the nearest are not proper.
+#[tactic(auto, using(crate::proofs::ExamplesHold::else_belongs))]
+pub fn else_belongs_to_nearest()
+    ensures { ElseBelongsToNearest }
+{}
+
+/// A whole tree whose last token is not `End` is not proper.
+#[tactic(auto, using(crate::proofs::ExamplesHold::units_end))]
+pub fn units_end_with_end()
+    ensures { UnitsEndWithEnd }
 {}
