@@ -1,0 +1,4 @@
+//! Parses expressions and constraints.
+#![tactic(auto)]
+
+mod operators;

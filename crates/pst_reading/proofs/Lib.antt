@@ -1,0 +1,4 @@
+pub mod Becoming
+pub mod States
+pub mod Explaining
+pub mod Keeping
