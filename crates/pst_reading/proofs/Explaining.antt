@@ -102,6 +102,9 @@ module _ {A B : Type 0} (First : Meaning A) (Second : Meaning B) (p : Parser A) 
       go (TooDeep rest) cs h = fault_both ts rest h
       go (Unread rest) cs h = fault_both ts rest h
 
+pub explains_then : {A B : Type 0} (First : Meaning A) (Second : Meaning B) (p : Parser A) (f : A → Parser B) → Explains First p → ((a : A) (front : List Token) (counts : List Count) → First a front counts → Explains (Behind Second front counts) (f a)) → Explains Second (followed_by p f)
+explains_then First Second p f E F ts = explains_both First Second p f F ts (E ts)
+
 -- ---- a value alone, a fault, one token, another meaning
 
 pub explains_done : {A : Type 0} (M : Meaning A) (a : A) → M a [] [] → Explains M (Done a)
@@ -122,20 +125,37 @@ wider {A = A} M N p ts to h = go (read p ts) (counts_taken p ts) h
     go (TooDeep rest) cs h = fault rest h
     go (Unread rest) cs h = fault rest h
 
+-- the next token, and what goes on with it
+pub explains_take : {A : Type 0} (M : Meaning A) (c : Count) (go_on : Token → Parser A) (t : Token) (ts : List Token) → ExplainedAt (Behind M (t ∷ []) (c ∷ [])) (go_on t) ts → ExplainedAt M (Take c go_on) (t ∷ ts)
+explains_take {A = A} M c go_on t ts h = go (read (go_on t) ts) (counts_taken (go_on t) ts) h
+  where
+    fault : (rest : List Token) → Begun (Behind M (t ∷ []) (c ∷ [])) ts rest → Begun M (t ∷ ts) rest
+    fault rest k = record { front = t ∷ k.front; parts = ap (λ (u : List Token). t ∷ u) k.parts; begins = record { value = k.begins.value; text = t ∷ k.begins.text; counts = c ∷ k.begins.counts; more = k.begins.more; spelled = k.begins.spelled; is = ap (λ (u : List Token). t ∷ u) k.begins.is } }
+
+    go : (o : Outcome A) (cs : List Count) → Explained (Behind M (t ∷ []) (c ∷ [])) ts cs o → Explained M (t ∷ ts) (c ∷ cs) o
+    go (Took a rest) cs k = record { front = t ∷ k.front; parts = ap (λ (u : List Token). t ∷ u) k.parts; spelled = k.spelled }
+    go (Refused rest) cs k = fault rest k
+    go (TooDeep rest) cs k = fault rest k
+    go (Unread rest) cs k = fault rest k
+
 -- ---- parts in a row
 
--- each part that begins with the next token leads from what is so far to more of it
+-- a part that begins here, where there is one, leads from what is so far to more of it
+abbrev pub LeadsBy : {A : Type 0} → Meaning A → List Token → List Count → List Token → Option (Parser A) → Type 0
+LeadsBy M front counts ts None = Unit {0}
+LeadsBy M front counts ts (Some part) = ExplainedAt (Behind M front counts) part ts
+
 abbrev pub Leads : {A : Type 0} → Meaning A → (A → Option Token → Option (Parser A)) → Type 0
-Leads M step = (a : _) (front : List Token) (counts : List Count) → M a front counts → (ts : List Token) (part : Parser _) → step a (next ts) ≡ Some part → ExplainedAt (Behind M front counts) part ts
+Leads M step = (a : _) (front : List Token) (counts : List Count) → M a front counts → (ts : List Token) → LeadsBy M front counts ts (step a (next ts))
 
 module _ {A : Type 0} (M : Meaning A) (step : A → Option Token → Option (Parser A)) (L : Leads M step) where
-  one_turn : (go_on : A → Parser A) → ((a : A) (front : List Token) (counts : List Count) → M a front counts → Explains (Behind M front counts) (go_on a)) → (a : A) (front : List Token) (counts : List Count) → M a front counts → (ts : List Token) (o : Option (Parser A)) → step a (next ts) ≡ o → ExplainedAt (Behind M front counts) (turn o a go_on) ts
-  one_turn go_on G a front counts h ts None e = explains_done (Behind M front counts) a (rw (append-nil, append-nil) h) ts
-  one_turn go_on G a front counts h ts (Some part) e =
+  one_turn : (go_on : A → Parser A) → ((a : A) (front : List Token) (counts : List Count) → M a front counts → Explains (Behind M front counts) (go_on a)) → (a : A) (front : List Token) (counts : List Count) → M a front counts → (ts : List Token) (o : Option (Parser A)) → LeadsBy M front counts ts o → ExplainedAt (Behind M front counts) (turn o a go_on) ts
+  one_turn go_on G a front counts h ts None l = explains_done (Behind M front counts) a (rw (append-nil, append-nil) h) ts
+  one_turn go_on G a front counts h ts (Some part) l =
       explains_both (Behind M front counts) (Behind M front counts) part go_on
       (λ b text cs s us. wider (Behind M (front ++ text) (counts ++ cs)) (Behind (Behind M front counts) text cs) (go_on b) us (λ x u ds k. rw (← append_assoc front text u, ← append_assoc counts cs ds) k) (G b (front ++ text) (counts ++ cs) s us))
-      ts (L a front counts h ts part e)
+      ts l
 
   pub explains_row : (turns : ℕ) (a : A) (front : List Token) (counts : List Count) → M a front counts → Explains (Behind M front counts) (repeat_by step turns a)
   explains_row zero a front counts h ts = refused_here (Behind M front counts) ts (record { value = a; text = []; counts = []; more = []; spelled = rw (append-nil, append-nil) h; is = refl })
-  explains_row (suc turns) a front counts h ts = one_turn (repeat_by step turns) (explains_row turns) a front counts h ts (step a (next ts)) refl
+  explains_row (suc turns) a front counts h ts = one_turn (repeat_by step turns) (explains_row turns) a front counts h ts (step a (next ts)) (L a front counts h ts)

@@ -1,0 +1,4 @@
+pub mod Tokens
+pub mod Levels
+pub mod Stops
+pub mod Again
