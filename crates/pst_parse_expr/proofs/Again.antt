@@ -47,7 +47,7 @@ in_found : (place : Place) (l : ℕ) → l ≡ 6 → is_in l (Some (mark kind.In
 unfolding is_in
 in_found place l e = rw (eq-eqb l 6 e, mark_is_so kind.In place) refl
 
-module _ (unary : Parsers UnaryTree) (ranges : Parsers RangesTree) (turns depth : ℕ) (U : (before : ℕ) (u : UnaryTree) (rest : List Token) → IsProperUnary u → length (spell_unary u) ≤ turns → StopsUnary u (next rest) → Becomes (unary depth before) (spell_unary u ++ rest) (counts_unary depth before u) (Done u) rest) (R : (before : ℕ) (rs : RangesTree) (place : Place) (rest : List Token) → IsProperRanges rs → length (spell_ranges rs) ≤ turns → Becomes (ranges depth before) (spell_ranges rs ++ mark kind.RightBracket place ∷ rest) (counts_ranges depth before rs) (Done rs) (mark kind.RightBracket place ∷ rest)) (some_unary : (u : UnaryTree) → 1 ≤ length (spell_unary u)) where
+module _ (unary : Parsers UnaryTree) (ranges : Parsers RangesTree) (turns depth : ℕ) (U : (before : ℕ) (u : UnaryTree) (rest : List Token) → IsProperUnary u → length (spell_unary u) ≤ turns → StopsUnary u (next rest) → Becomes (unary depth before) (spell_unary u ++ rest) (counts_unary depth before u) (Done u) rest) (R : (before : ℕ) (rs : RangesTree) (place : Place) (rest : List Token) → IsProperRanges rs → length (spell_ranges rs) < turns → Becomes (ranges depth before) (spell_ranges rs ++ mark kind.RightBracket place ∷ rest) (counts_ranges depth before rs) (Done rs) (mark kind.RightBracket place ∷ rest)) (some_unary : (u : UnaryTree) → 1 ≤ length (spell_unary u)) where
   some_expr : (e : ExprTree) → 1 ≤ length (spell_expr e)
   some_expr (ExprUnary u) = some_unary u
   some_expr (ExprBinary l o p r) = omega (arith, length-append (spell_expr l) (mark (operator_kind o) p ∷ spell_expr r))
@@ -114,7 +114,7 @@ module _ (unary : Parsers UnaryTree) (ranges : Parsers RangesTree) (turns depth 
         take_becomes (counted depth b) (λ token. followed_by (level_by unary ranges turns above depth b) (λ right. Done (ExprBinary l o token.place right))) (mark (operator_kind o) p) (spell_expr r ++ rest) rest (counts_expr depth b r) (Done (ExprBinary l o p r))
         (becomes_followed (level_by unary ranges turns above depth b) (Done r) (λ right. Done (ExprBinary l o p right)) (spell_expr r ++ rest) rest (counts_expr depth b r) (tighter b r rest proper le short s))
 
-    ranges_become : (l : ExprTree) (p c : Place) (rs : RangesTree) (e : Place) (rest : List Token) → IsProperRanges rs → length (spell_ranges rs) ≤ turns → Becomes (in_by ranges depth before l) (mark kind.In p ∷ mark kind.LeftBracket c ∷ (spell_ranges rs ++ mark kind.RightBracket e ∷ rest)) (counted depth (suc (before + operators_expr l)) ∷ counted depth (suc (before + operators_expr l)) ∷ (counts_ranges depth (suc (before + operators_expr l)) rs ++ counted depth (suc (before + operators_expr l) + operators_ranges rs) ∷ [])) (Done (ExprIn l p c rs e)) rest
+    ranges_become : (l : ExprTree) (p c : Place) (rs : RangesTree) (e : Place) (rest : List Token) → IsProperRanges rs → length (spell_ranges rs) < turns → Becomes (in_by ranges depth before l) (mark kind.In p ∷ mark kind.LeftBracket c ∷ (spell_ranges rs ++ mark kind.RightBracket e ∷ rest)) (counted depth (suc (before + operators_expr l)) ∷ counted depth (suc (before + operators_expr l)) ∷ (counts_ranges depth (suc (before + operators_expr l)) rs ++ counted depth (suc (before + operators_expr l) + operators_ranges rs) ∷ [])) (Done (ExprIn l p c rs e)) rest
     ranges_become l p c rs e rest proper short =
         let b = suc (before + operators_expr l) in
         let d = counted depth b in
@@ -159,7 +159,7 @@ module _ (unary : Parsers UnaryTree) (ranges : Parsers RangesTree) (turns depth 
             (before_it (mark kind.In p ∷ mark kind.LeftBracket c ∷ (spell_ranges rs ++ mark kind.RightBracket e ∷ rest)) proper.0 (omega (arith, proper.2, own)) (omega (arith, short, long)) (separated 7 (Some (mark kind.In p)) (in_separates p) l proper.0 (suc k) (omega (arith, proper.2)) (omega (arith, own))))
 
     reach : (e : ExprTree) → Reaches e
-    reach (ExprUnary u) rest proper le short s = tight (ExprUnary u) rest proper (omega (arith, rank)) short s
+    reach (ExprUnary u) = λ rest proper le short s. tight (ExprUnary u) rest proper (omega (arith, rank)) short s
     reach (ExprBinary l o p r) = operator_case l o p r (reach l)
     reach (ExprIn l p c rs e) = in_case l p c rs e (reach l)
 

@@ -11,7 +11,7 @@ use Rattle.pst_ast.specs.ExpressionProper.{level, level_of, IsProperExpr, IsProp
 use Rattle.pst_ast.specs.ExpressionOperators.{operators_expr, operators_ranges}
 use Rattle.pst_ast.specs.ExpressionLimits.{counts_expr, counts_unary, counts_ranges}
 use Rattle.pst_reading.specs.Parser.{Parser, Done, Take, followed_by, next, mark_by, repeat_by}
-use Rattle.pst_reading.proofs.Explaining.{Meaning, Explains, ExplainedAt, Behind, LeadsBy, Leads, explains_both, explains_then, explains_done, explains_take, explains_row, wider}
+use Rattle.pst_reading.proofs.Explaining.{Meaning, Means, Explains, ExplainedAt, Behind, LeadsBy, Leads, explains_both, explains_then, explains_done, explains_take, explains_row, wider}
 use Rattle.pst_reading.proofs.Marks.{IsMark, mark_explains}
 use Rattle.pst_parse_expr.specs.Operators.{operator_of, is_in}
 use Rattle.pst_parse_expr.specs.Reading.{Parsers, binary_by, in_by, operation_by, operation_of, level_by}
@@ -23,15 +23,11 @@ pub record IsLevel (k depth before : ℕ) (e : ExprTree) (text : List Token) (co
   pub bound : k ≤ level e
   pub counted : counts ≡ counts_expr depth before e
 
-pub record IsUnary (depth before : ℕ) (u : UnaryTree) (text : List Token) (counts : List Count) : Type 0 where
-  pub is : text ≡ spell_unary u
-  pub proper : IsProperUnary u
-  pub counted : counts ≡ counts_unary depth before u
+abbrev pub IsUnary : ℕ → ℕ → Meaning UnaryTree
+IsUnary depth before = Means spell_unary IsProperUnary (counts_unary depth before)
 
-pub record AreRanges (depth before : ℕ) (rs : RangesTree) (text : List Token) (counts : List Count) : Type 0 where
-  pub is : text ≡ spell_ranges rs
-  pub proper : IsProperRanges rs
-  pub counted : counts ≡ counts_ranges depth before rs
+abbrev pub AreRanges : ℕ → ℕ → Meaning RangesTree
+AreRanges depth before = Means spell_ranges IsProperRanges (counts_ranges depth before)
 
 module _ (unary : Parsers UnaryTree) (ranges : Parsers RangesTree) (turns depth : ℕ) (U : (before : ℕ) → Explains (IsUnary depth before) (unary depth before)) (R : (before : ℕ) → Explains (AreRanges depth before) (ranges depth before)) where
   -- an operator of level k behind a left part, and its right part

@@ -2,3 +2,5 @@ pub mod Tokens
 pub mod Levels
 pub mod Stops
 pub mod Again
+pub mod Rows
+pub mod Parts

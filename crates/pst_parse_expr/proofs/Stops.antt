@@ -164,3 +164,28 @@ pub in_separates : (place : Place) → Separates 7 (Some (mark kind.In place))
 in_separates place =
     let p = plain_in place in
     record { no_bracket = p.0; no_dot = p.1; no_colons = p.2; loose = λ l le. (no_operator_in l place, no_in_above l (Some (mark kind.In place)) le) }
+
+-- a mark that closes a part, or stands between parts, separates all
+closes : (k : Kind) (place : Place) → operator_of_kind k ≡ None → is_mark kind.In (mark k place) ≡ false → is_mark kind.LeftBracket (mark k place) ≡ false → is_mark kind.Dot (mark k place) ≡ false → is_mark kind.ColonColon (mark k place) ≡ false → Separates 0 (Some (mark k place))
+unfolding operator_of is_bare
+closes k place none no_in no_bracket no_dot no_colons = record { no_bracket = no_bracket; no_dot = no_dot; no_colons = no_colons; loose = λ l le. (rw none refl, not_in (mark k place) l no_in) }
+
+pub right_bracket_closes : (place : Place) → Separates 0 (Some (mark kind.RightBracket place))
+unfolding is_mark
+right_bracket_closes place = closes kind.RightBracket place refl refl refl refl refl
+
+pub right_parenthesis_closes : (place : Place) → Separates 0 (Some (mark kind.RightParenthesis place))
+unfolding is_mark
+right_parenthesis_closes place = closes kind.RightParenthesis place refl refl refl refl refl
+
+pub comma_closes : (place : Place) → Separates 0 (Some (mark kind.Comma place))
+unfolding is_mark
+comma_closes place = closes kind.Comma place refl refl refl refl refl
+
+pub dots_close : (place : Place) → Separates 0 (Some (mark kind.DotDot place))
+unfolding is_mark
+dots_close place = closes kind.DotDot place refl refl refl refl refl
+
+pub nothing_closes : Separates 0 None
+unfolding operator_of is_in
+nothing_closes = record { no_bracket = refl; no_dot = refl; no_colons = refl; loose = λ l le. (refl, and_right (l == 6) false refl) }

@@ -9,6 +9,12 @@ use Rattle.pst_reading.proofs.Becoming.{run_followed, counts_followed, counts_be
 abbrev pub Meaning : Type 0 → Type 1
 Meaning A = A → List Token → List Count → Type 0
 
+-- the meaning of a tree by its tokens, what is proper and what counts
+pub record Means {A : Type 0} (spell : A → List Token) (IsProper : A → Type 0) (counts_of : A → List Count) (a : A) (text : List Token) (counts : List Count) : Type 0 where
+  pub is : text ≡ spell a
+  pub proper : IsProper a
+  pub counted : counts ≡ counts_of a
+
 -- some value is spelled by a list that begins so
 pub record Begins {A : Type 0} (M : Meaning A) (front : List Token) : Type 0 where
   pub value : A

@@ -1,5 +1,5 @@
 -- What parsers of single tokens, and choices by the next token, explain and become.
-use Rattle.std.proofs.Common.{◌≡◌, ℕ, Bool, true, false, if◌then◌else◌, List, [], ◌∷◌, ◌++◌, Some, Option, None, refl, sym, ap, subst, ◌∙◌}
+use Rattle.std.proofs.Common.{◌≡◌, ℕ, suc, Bool, true, false, if◌then◌else◌, List, [], ◌∷◌, ◌++◌, Some, Option, None, refl, sym, ap, subst, ◌∙◌}
 use Rattle.pst_base.specs.declared.position.Place.{Place}
 use Rattle.pst_token.specs.declared.kind.Kind.{Kind}
 use Rattle.pst_token.specs.declared.token.Token.{Token}
@@ -8,8 +8,8 @@ use Rattle.pst_ast.specs.Marks.{mark, name_token}
 use Rattle.pst_ast.specs.Closing.{origin, name_here}
 use Rattle.pst_ast.specs.Limits.{Count}
 use Rattle.pst_reading.specs.Kinds.{is_mark, is_name, next_is}
-use Rattle.pst_reading.specs.Parser.{Parser, Done, Wrong, Spent, Look, Take, Outcome, Took, Refused, TooDeep, Unread, next, run, read, counts_taken, mark_by, name_by, if_mark}
-use Rattle.pst_reading.proofs.Becoming.{Becomes}
+use Rattle.pst_reading.specs.Parser.{Parser, followed_by, turn, repeat_by, Done, Wrong, Spent, Look, Take, Outcome, Took, Refused, TooDeep, Unread, next, run, read, counts_taken, mark_by, name_by, if_mark}
+use Rattle.pst_reading.proofs.Becoming.{Becomes, stays, becomes_on, becomes_followed}
 use Rattle.pst_reading.proofs.Explaining.{Meaning, Begins, Explains, ExplainedAt, Explained, refused_here}
 use Rattle.pst_reading.proofs.Tokens.{mark_is, mark_is_so, name_is, name_is_so}
 
@@ -75,3 +75,16 @@ pub name_becomes : (c : Count) (name : Name) (ts : List Token) → Becomes (name
 name_becomes c name ts =
     look_becomes (λ next. if next_is is_name next then Take c (λ token. Done (record { id = token.name; place = token.place })) else Wrong) (name_token name ∷ ts) ts (c ∷ []) (Done name)
     (test_becomes (is_name (name_token name)) true (Take c (λ token. Done (record { id = token.name; place = token.place }))) Wrong (Done name) (name_token name ∷ ts) ts (c ∷ []) (name_is_so name) (record { outcome = refl; taken = refl }))
+
+-- ---- parts in a row
+
+pub turn_becomes : {A : Type 0} (step : A → Option Token → Option (Parser A)) (turns : ℕ) (a b : A) (part : Parser A) (ts us : List Token) (cs : List Count) → step a (next ts) ≡ Some part → Becomes part ts cs (Done b) us → Becomes (repeat_by step (suc turns) a) ts cs (repeat_by step turns b) us
+turn_becomes {A = A} step turns a b part ts us cs is h =
+    look_becomes (λ next. turn (step a next) a (repeat_by step turns)) ts us cs (repeat_by step turns b)
+    (subst (λ (o : Option (Parser A)). Becomes (turn o a (repeat_by step turns)) ts cs (repeat_by step turns b) us) (sym is)
+    (becomes_followed part (Done b) (repeat_by step turns) ts us cs h))
+
+pub row_ends : {A : Type 0} (step : A → Option Token → Option (Parser A)) (turns : ℕ) (a : A) (ts : List Token) → step a (next ts) ≡ None → Becomes (repeat_by step (suc turns) a) ts [] (Done a) ts
+row_ends {A = A} step turns a ts is =
+    look_becomes (λ next. turn (step a next) a (repeat_by step turns)) ts ts [] (Done a)
+    (subst (λ (o : Option (Parser A)). Becomes (turn o a (repeat_by step turns)) ts [] (Done a) ts) (sym is) (stays (Done a) ts))
