@@ -4,3 +4,4 @@ pub mod Stops
 pub mod Again
 pub mod Rows
 pub mod Parts
+pub mod PartsAgain
