@@ -5,3 +5,4 @@ pub mod Again
 pub mod Rows
 pub mod Parts
 pub mod PartsAgain
+pub mod ExprAgain

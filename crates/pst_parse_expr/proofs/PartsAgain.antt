@@ -37,7 +37,7 @@ module _ (X : Parsers ExprTree) (size : ℕ) (A : (d b : ℕ) (e : ExprTree) (re
       (becomes_both (X (suc d) b) _ e _ _ (mark kind.RightBracket r ∷ rest) rest (counts_expr (suc d) b e) (c' ∷ []) (A (suc d) b e (mark kind.RightBracket r ∷ rest) proper short (separated 0 (Some (mark kind.RightBracket r)) (right_bracket_closes r) e proper 0 (omega arith) (omega arith)))
       (becomes_both (mark_by kind.RightBracket c') (λ q. Done (MakeIndex l e q)) r _ _ rest rest (c' ∷ []) [] (mark_becomes kind.RightBracket c' r rest) (stays (Done (MakeIndex l e r)) rest)))
 
-  group_again : (d b : ℕ) (l : Place) (e : ExprTree) (r : Place) (rest : List Token) → IsProperExpr e → length (spell_expr e) < size → Becomes (group_by X d b) (mark kind.LeftParenthesis l ∷ (spell_expr e ++ mark kind.RightParenthesis r ∷ rest)) (counts_primary d b (PrimaryGroup l e r)) (Done (PrimaryGroup l e r)) rest
+  pub group_again : (d b : ℕ) (l : Place) (e : ExprTree) (r : Place) (rest : List Token) → IsProperExpr e → length (spell_expr e) < size → Becomes (group_by X d b) (mark kind.LeftParenthesis l ∷ (spell_expr e ++ mark kind.RightParenthesis r ∷ rest)) (counts_primary d b (PrimaryGroup l e r)) (Done (PrimaryGroup l e r)) rest
   group_again d b l e r rest proper short =
       let c = counted (suc d) b in
       let c' = counted (suc d) (b + operators_expr e) in
@@ -142,7 +142,7 @@ module _ (X : Parsers ExprTree) (size : ℕ) (A : (d b : ℕ) (e : ExprTree) (re
   colons_stop NoIndex (MoreNextPartRow (MakeNextPart d p) tail) rest s = no_colons_at_dot d
   colons_stop (SomeIndex (MakeIndex l e r)) row rest s = no_colons_at_bracket l
 
-  path_again : (d b : ℕ) (p : PathTree) (rest : List Token) → IsProperPath p → length (spell_path p) ≤ size → StopsPath p (next rest) → Becomes (path_by X size d b) (spell_path p ++ rest) (counts_path d b p) (Done p) rest
+  pub path_again : (d b : ℕ) (p : PathTree) (rest : List Token) → IsProperPath p → length (spell_path p) ≤ size → StopsPath p (next rest) → Becomes (path_by X size d b) (spell_path p ++ rest) (counts_path d b p) (Done p) rest
   path_again d b (PathDotted (MakePart name i) row) rest proper short s =
       let c = counted d b in
       let long = length-append (spell_maybe_index i) (spell_next_part_row row) in
