@@ -3,7 +3,8 @@ ghost use Rattle.std.specs.Prelude.{◌≡◌};
 ghost use Rattle.pst_parse_expr.specs.Operators.{operator_of_kind, prefix_of_kind};
 
 use pst_ast::{Operator, PrefixOperator};
-use pst_token::Kind;
+use pst_reading::is;
+use pst_token::{Kind, Token};
 
 // The operator between parts that a kind of token is.
 pub fn operator_of_kind(kind: Kind) -> Option<Operator>
@@ -42,4 +43,64 @@ pub fn prefix_of_kind(kind: Kind) -> Option<PrefixOperator>
         Kind::Tilde => Some(PrefixOperator::Complement),
         _ => None,
     }
+}
+
+// How tightly an operator binds, from 0 for `||` to 9 for `*`.
+fn level_of(operator: Operator) -> u32 {
+    match operator {
+        Operator::Or => 0,
+        Operator::And => 1,
+        Operator::BitOr => 2,
+        Operator::BitXor => 3,
+        Operator::BitAnd => 4,
+        Operator::Equal | Operator::NotEqual => 5,
+        Operator::Less | Operator::LessEqual | Operator::Greater | Operator::GreaterEqual => 6,
+        Operator::ShiftLeft | Operator::ShiftRight => 7,
+        Operator::Add | Operator::Subtract => 8,
+        Operator::Multiply | Operator::Divide | Operator::Remainder => 9,
+    }
+}
+
+// Whether there is nothing in a token but its kind.
+fn is_bare(token: Token) -> bool {
+    token.name.0 == 0 && token.number == 0
+}
+
+// The operator of a level between parts at a place.
+pub fn operator_at(tokens: &[Token], at: usize, level: u32) -> Option<Operator> {
+    if at >= tokens.len() {
+        return None;
+    }
+    let token = tokens[at];
+    if !is_bare(token) {
+        return None;
+    }
+    let operator = operator_of_kind(token.kind)?;
+    if level_of(operator) == level {
+        Some(operator)
+    } else {
+        None
+    }
+}
+
+// Whether an operator of a level stands between parts at a place.
+pub fn has_operator(tokens: &[Token], at: usize, level: u32) -> bool {
+    operator_at(tokens, at, level).is_some()
+}
+
+// Whether `in` stands at a place, which is an operator of level 6.
+pub fn has_in(tokens: &[Token], at: usize, level: u32) -> bool {
+    level == 6 && is(tokens, at, Kind::In)
+}
+
+// The operator before a part at a place.
+pub fn prefix_at(tokens: &[Token], at: usize) -> Option<PrefixOperator> {
+    if at >= tokens.len() {
+        return None;
+    }
+    let token = tokens[at];
+    if !is_bare(token) {
+        return None;
+    }
+    prefix_of_kind(token.kind)
 }

@@ -3,4 +3,6 @@
 
 mod steps;
 
-pub use steps::kind_number;
+pub use steps::{
+    allow, boxed, expect, expect_name, is, is_name, is_number, is_over, kind_number, push,
+};
