@@ -4,3 +4,7 @@ pub mod Explaining
 pub mod Keeping
 pub mod Tokens
 pub mod Marks
+pub mod Places
+pub mod Giving
+pub mod Counted
+pub mod Final

@@ -4,5 +4,5 @@
 mod steps;
 
 pub use steps::{
-    allow, boxed, expect, expect_name, is, is_name, is_number, is_over, kind_number, push,
+    boxed, expect, expect_name, is, is_name, is_number, is_over, kind_number, push, token_at,
 };

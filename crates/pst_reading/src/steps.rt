@@ -1,6 +1,11 @@
 //! The steps that every rule is made of.
-ghost use Rattle.std.specs.Prelude.{◌≡◌, OnOk, OnErr};
-ghost use Rattle.pst_reading.specs.Kinds.{number_of};
+ghost use Rattle.std.specs.Prelude.{◌≡◌, ◌≤◌, ◌++◌, ◌∷◌, [], length, drop, IfOk, IfErr, OnOk, OnErr};
+ghost use Rattle.pst_ast.specs.Limits.{counted};
+ghost use Rattle.pst_ast.specs.Limits;
+ghost use Rattle.pst_ast.specs.declared.fault.SyntaxFault.TheVariants.{NoMemory};
+ghost use Rattle.pst_reading.specs.Kinds.{number_of, is_mark, is_name, is_number, next_is};
+ghost use Rattle.pst_reading.specs.Parser.{next, mark_by, name_by};
+ghost use Rattle.pst_reading.specs.Gives.{Expects};
 
 use pst_ast::{Name, SyntaxFault};
 use pst_base::Place;
@@ -22,76 +27,102 @@ pub fn kind_number(kind: Kind) -> u8
 
 /// Whether a token breaks a limit, by the derivations that are open at it and the operators of its
 /// outermost expression up to it.
-pub fn is_over(nesting: u32, operators: u32) -> bool {
+pub fn is_over(nesting: u32, operators: u32) -> bool
+    ensures { result ≡ Limits.is_over (counted nesting operators) }
+{
     nesting > MOST_NESTING || operators > MOST_OPERATORS
 }
 
-/// Whether the token at a place is a mark or a reserved word, with nothing else in it.
-pub fn is(tokens: &[Token], at: usize, wanted: Kind) -> bool {
+/// The token at a place, where there is one.
+#[tactic(auto, using(crate::proofs::Places::next_there, crate::proofs::Places::next_past))]
+pub fn token_at(tokens: &[Token], at: usize) -> Option<Token>
+    ensures { result ≡ next (drop at tokens.now) }
+{
     if at < tokens.len() {
-        let token = tokens[at];
-        kind_number(token.kind) == kind_number(wanted) && token.name.0 == 0 && token.number == 0
+        Some(tokens[at])
     } else {
-        false
+        None
+    }
+}
+
+/// Whether the token at a place is a mark or a reserved word, with nothing else in it.
+#[tactic(auto, unfolding(crate::specs::Kinds::is_mark))]
+pub fn is(tokens: &[Token], at: usize, wanted: Kind) -> bool
+    ensures { result ≡ next_is (is_mark wanted) (next (drop at tokens.now)) }
+{
+    match token_at(tokens, at) {
+        Some(token) => {
+            kind_number(token.kind) == kind_number(wanted)
+                && (token.name.0 == 0 && token.number == 0)
+        }
+        None => false,
     }
 }
 
 /// Whether the token at a place is a name.
-pub fn is_name(tokens: &[Token], at: usize) -> bool {
-    if at < tokens.len() {
-        let token = tokens[at];
-        kind_number(token.kind) == kind_number(Kind::Name) && token.number == 0
-    } else {
-        false
+#[tactic(auto, unfolding(crate::specs::Kinds::is_name))]
+pub fn is_name(tokens: &[Token], at: usize) -> bool
+    ensures { result ≡ next_is is_name (next (drop at tokens.now)) }
+{
+    match token_at(tokens, at) {
+        Some(token) => kind_number(token.kind) == kind_number(Kind::Name) && token.number == 0,
+        None => false,
     }
 }
 
 /// Whether the token at a place is a number.
-pub fn is_number(tokens: &[Token], at: usize) -> bool {
-    if at < tokens.len() {
-        let token = tokens[at];
-        kind_number(token.kind) == kind_number(Kind::Number) && token.name.0 == 0
-    } else {
-        false
+#[tactic(auto, unfolding(crate::specs::Kinds::is_number))]
+pub fn is_number(tokens: &[Token], at: usize) -> bool
+    ensures { result ≡ next_is is_number (next (drop at tokens.now)) }
+{
+    match token_at(tokens, at) {
+        Some(token) => kind_number(token.kind) == kind_number(Kind::Number) && token.name.0 == 0,
+        None => false,
     }
 }
 
-/// The token at a place is within the limits.
-pub fn allow(at: usize, nesting: u32, operators: u32) -> Result<(), SyntaxFault> {
-    if is_over(nesting, operators) {
-        Err(SyntaxFault::Deep { at })
-    } else {
-        Ok(())
-    }
-}
-
-/// The place of a mark or reserved word, which has to be there.
+/// The place of a mark or reserved word, which has to be there, within the limits.
+#[tactic(auto, using(crate::proofs::Places::mark_taken))]
 pub fn expect(
     tokens: &[Token],
     at: usize,
     wanted: Kind,
     nesting: u32,
     operators: u32,
-) -> Result<Place, SyntaxFault> {
+) -> Result<Place, SyntaxFault>
+    ensures { Expects (mark_by wanted (counted nesting operators)) tokens.now at result }
+{
+    let Some(token) = token_at(tokens, at) else {
+        return Err(SyntaxFault::At { at });
+    };
     if !is(tokens, at, wanted) {
         return Err(SyntaxFault::At { at });
     }
-    allow(at, nesting, operators)?;
-    Ok(tokens[at].place)
+    if is_over(nesting, operators) {
+        return Err(SyntaxFault::Deep { at });
+    }
+    Ok(token.place)
 }
 
-/// The name at a place, which has to be there.
+/// The name at a place, which has to be there, within the limits.
+#[tactic(auto, using(crate::proofs::Places::name_taken))]
 pub fn expect_name(
     tokens: &[Token],
     at: usize,
     nesting: u32,
     operators: u32,
-) -> Result<Name, SyntaxFault> {
+) -> Result<Name, SyntaxFault>
+    ensures { Expects (name_by (counted nesting operators)) tokens.now at result }
+{
+    let Some(token) = token_at(tokens, at) else {
+        return Err(SyntaxFault::At { at });
+    };
     if !is_name(tokens, at) {
         return Err(SyntaxFault::At { at });
     }
-    allow(at, nesting, operators)?;
-    let token = tokens[at];
+    if is_over(nesting, operators) {
+        return Err(SyntaxFault::Deep { at });
+    }
     Ok(Name {
         id: token.name,
         place: token.place,
@@ -99,7 +130,10 @@ pub fn expect_name(
 }
 
 /// A value on the heap.
-pub fn boxed<T: Drop>(alloc: Global, value: T) -> Result<Box<T>, SyntaxFault> {
+pub fn boxed<T: Drop>(alloc: Global, value: T) -> Result<Box<T>, SyntaxFault>
+    ensures ok { IfOk result (λ b. b.value ≡ value) }
+    ensures err { IfErr result (λ e. e ≡ NoMemory) }
+{
     match Box::new(alloc, value) {
         Ok(boxed) => Ok(boxed),
         Err(_) => Err(SyntaxFault::NoMemory),
@@ -107,7 +141,10 @@ pub fn boxed<T: Drop>(alloc: Global, value: T) -> Result<Box<T>, SyntaxFault> {
 }
 
 /// One more item at the end of a list.
-pub fn push<T: Drop>(items: &mut Vec<T>, item: T) -> Result<(), SyntaxFault> {
+pub fn push<T: Drop>(items: &mut Vec<T>, item: T) -> Result<(), SyntaxFault>
+    ensures ok { OnOk result (items.new.items ≡ items.old.items ++ item ∷ []) }
+    ensures err { IfErr result (λ e. e ≡ NoMemory) }
+{
     match items.push(item) {
         Ok(()) => Ok(()),
         Err(_) => Err(SyntaxFault::NoMemory),
