@@ -6,3 +6,5 @@ pub mod Rows
 pub mod Parts
 pub mod PartsAgain
 pub mod ExprAgain
+pub mod Deciding
+pub mod Answering

@@ -1,12 +1,20 @@
 //! Expressions. A parser stands at a place, with `depth` derivations that count open round it and
 //! `before` operators of its outermost expression in front of it; it answers the tree, the place
 //! behind it, and how many of these operators stand in front of that.
+ghost use Rattle.std.specs.Prelude.{◌≡◌, ◌≤◌, ◌<◌, ◌+◌, ◌-◌, ◌⊎◌, length, drop, true, Some, IfOk};
+ghost use Rattle.pst_ast.specs.ExpressionView.{view_expr, view_unary, view_primary, view_path, view_next_part, view_ranges, view_range};
+ghost use Rattle.pst_ast.specs.ExpressionOperators.{operators_expr, operators_unary, operators_primary, operators_path, operators_next_part, operators_maybe_index, operators_ranges, operators_range};
+ghost use Rattle.pst_reading.specs.Parser.{next};
+ghost use Rattle.pst_reading.specs.Gives.{Gives};
+ghost use Rattle.pst_parse_expr.specs.Operators.{operator_of, is_in};
+ghost use Rattle.pst_parse_expr.specs.Families.{view_index_option, GivesItem, level_family, operation_family, in_family, ranges_family, range_family, unary_family, primary_family, path_family, next_part_family, index_family};
+
 use crate::operators::{has_in, has_operator, operator_at, prefix_at};
 use pst_ast::{
     ExprNode, IndexNode, Name, NextPart, NextRange, Number, PartNode, PathNode, PrimaryNode,
     RangeNode, RangesNode, SyntaxFault, UnaryNode,
 };
-use pst_reading::{allow, boxed, expect, expect_name, is, is_number, push};
+use pst_reading::{boxed, expect, expect_name, is, is_number, is_over, push};
 use pst_token::{Kind, Token};
 use std::alloc::Global;
 
@@ -23,7 +31,13 @@ pub fn level(
     depth: u32,
     before: u32,
     above: u32,
-) -> Result<(ExprNode, usize, u32), SyntaxFault> {
+) -> Result<(ExprNode, usize, u32), SyntaxFault>
+    requires inside { at ≤ length tokens.now }
+    requires nesting { depth ≤ 64 }
+    requires operators { before ≤ 256 }
+    requires above { above ≤ 10 }
+    ensures { Gives view_expr operators_expr (level_family above depth before) tokens.now at before 1 result }
+{
     if above == 0 {
         let (part, after, operators) = unary(alloc, tokens, at, depth, before)?;
         return Ok((ExprNode::Unary(part), after, operators));
@@ -51,11 +65,20 @@ fn operation(
     before: u32,
     above: u32,
     left: ExprNode,
-) -> Result<(ExprNode, usize, u32), SyntaxFault> {
+) -> Result<(ExprNode, usize, u32), SyntaxFault>
+    requires inside { at ≤ length tokens.now }
+    requires nesting { depth ≤ 64 }
+    requires operators { before ≤ 256 }
+    requires above { above ≤ 9 }
+    requires counted { operators_expr (view_expr left) ≤ before }
+    ensures { Gives view_expr operators_expr (operation_family above depth (before - operators_expr (view_expr left)) (view_expr left) (next (drop at tokens.now))) tokens.now at (before - operators_expr (view_expr left)) 1 result }
+{
     let Some(operator) = operator_at(tokens, at, LEVELS - 1 - above) else {
         return membership(alloc, tokens, at, depth, before, left);
     };
-    allow(at, depth, before + 1)?;
+    if is_over(depth, before + 1) {
+        return Err(SyntaxFault::Deep { at });
+    }
     let (right, after, operators) = level(alloc, tokens, at + 1, depth, before + 1, above)?;
     let all = ExprNode::Binary {
         left: boxed(alloc, left)?,
@@ -75,7 +98,13 @@ fn membership(
     depth: u32,
     before: u32,
     left: ExprNode,
-) -> Result<(ExprNode, usize, u32), SyntaxFault> {
+) -> Result<(ExprNode, usize, u32), SyntaxFault>
+    requires inside { at ≤ length tokens.now }
+    requires nesting { depth ≤ 64 }
+    requires operators { before ≤ 256 }
+    requires counted { operators_expr (view_expr left) ≤ before }
+    ensures { Gives view_expr operators_expr (in_family depth (before - operators_expr (view_expr left)) (view_expr left)) tokens.now at (before - operators_expr (view_expr left)) 1 result }
+{
     let in_ = expect(tokens, at, Kind::In, depth, before + 1)?;
     let left_bracket = expect(tokens, at + 1, Kind::LeftBracket, depth, before + 1)?;
     let (ranges, after, operators) = ranges(alloc, tokens, at + 2, depth, before + 1)?;
@@ -98,7 +127,12 @@ pub fn ranges(
     at: usize,
     depth: u32,
     before: u32,
-) -> Result<(RangesNode, usize, u32), SyntaxFault> {
+) -> Result<(RangesNode, usize, u32), SyntaxFault>
+    requires inside { at ≤ length tokens.now }
+    requires nesting { depth ≤ 64 }
+    requires operators { before ≤ 256 }
+    ensures { Gives view_ranges operators_ranges (ranges_family depth before) tokens.now at before 1 result }
+{
     let (first, after, operators) = range(alloc, tokens, at, depth, before)?;
     let first = boxed(alloc, first)?;
     let mut rest = Vec::new(alloc);
@@ -122,7 +156,12 @@ fn range(
     at: usize,
     depth: u32,
     before: u32,
-) -> Result<(RangeNode, usize, u32), SyntaxFault> {
+) -> Result<(RangeNode, usize, u32), SyntaxFault>
+    requires inside { at ≤ length tokens.now }
+    requires nesting { depth ≤ 64 }
+    requires operators { before ≤ 256 }
+    ensures { Gives view_range operators_range (range_family depth before) tokens.now at before 1 result }
+{
     let (low, after, operators) = level(alloc, tokens, at, depth, before, LEVELS)?;
     if !is(tokens, after, Kind::DotDot) {
         return Ok((RangeNode::Single(low), after, operators));
@@ -140,12 +179,19 @@ fn unary(
     at: usize,
     depth: u32,
     before: u32,
-) -> Result<(UnaryNode, usize, u32), SyntaxFault> {
+) -> Result<(UnaryNode, usize, u32), SyntaxFault>
+    requires inside { at ≤ length tokens.now }
+    requires nesting { depth ≤ 64 }
+    requires operators { before ≤ 256 }
+    ensures { Gives view_unary operators_unary (unary_family depth before) tokens.now at before 1 result }
+{
     let Some(operator) = prefix_at(tokens, at) else {
         let (part, after, operators) = primary(alloc, tokens, at, depth, before)?;
         return Ok((UnaryNode::Primary(part), after, operators));
     };
-    allow(at, depth + 1, before + 1)?;
+    if is_over(depth + 1, before + 1) {
+        return Err(SyntaxFault::Deep { at });
+    }
     let (operand, after, operators) = unary(alloc, tokens, at + 1, depth + 1, before + 1)?;
     let all = UnaryNode::Prefix {
         operator,
@@ -163,7 +209,12 @@ fn primary(
     at: usize,
     depth: u32,
     before: u32,
-) -> Result<(PrimaryNode, usize, u32), SyntaxFault> {
+) -> Result<(PrimaryNode, usize, u32), SyntaxFault>
+    requires inside { at ≤ length tokens.now }
+    requires nesting { depth ≤ 64 }
+    requires operators { before ≤ 256 }
+    ensures { Gives view_primary operators_primary (primary_family depth before) tokens.now at before 1 result }
+{
     if is_number(tokens, at) {
         let token = tokens[at];
         let number = Number {
@@ -190,12 +241,7 @@ fn primary(
     if is(tokens, at, Kind::False) {
         return Ok((PrimaryNode::False(tokens[at].place), at + 1, before));
     }
-    let name = expect_name(tokens, at, depth, before)?;
-    if is(tokens, at + 1, Kind::ColonColon) {
-        let (path, after) = item(tokens, at + 1, depth, before, name)?;
-        return Ok((PrimaryNode::Path(path), after, before));
-    }
-    let (path, after, operators) = dotted(alloc, tokens, at + 1, depth, before, name)?;
+    let (path, after, operators) = path(alloc, tokens, at, depth, before)?;
     Ok((PrimaryNode::Path(path), after, operators))
 }
 
@@ -206,7 +252,10 @@ fn item(
     depth: u32,
     before: u32,
     first: Name,
-) -> Result<(PathNode, usize), SyntaxFault> {
+) -> Result<(PathNode, usize), SyntaxFault>
+    requires inside { at ≤ length tokens.now }
+    ensures { GivesItem tokens.now at depth before first result }
+{
     let colons = expect(tokens, at, Kind::ColonColon, depth, before)?;
     let second = expect_name(tokens, at + 1, depth, before)?;
     if !is(tokens, at + 2, Kind::ColonColon) {
@@ -229,17 +278,26 @@ fn item(
     Ok((path, at + 4))
 }
 
-// Names with dots between them, behind the first name.
+// A name, and more names behind dots or `::`.
 #[cycle(expression)]
-fn dotted(
+fn path(
     alloc: Global,
     tokens: &[Token],
     at: usize,
     depth: u32,
     before: u32,
-    name: Name,
-) -> Result<(PathNode, usize, u32), SyntaxFault> {
-    let (index, after, operators) = index(alloc, tokens, at, depth, before)?;
+) -> Result<(PathNode, usize, u32), SyntaxFault>
+    requires inside { at ≤ length tokens.now }
+    requires nesting { depth ≤ 64 }
+    requires operators { before ≤ 256 }
+    ensures { Gives view_path operators_path (path_family depth before) tokens.now at before 1 result }
+{
+    let name = expect_name(tokens, at, depth, before)?;
+    if is(tokens, at + 1, Kind::ColonColon) {
+        let (path, after) = item(tokens, at + 1, depth, before, name)?;
+        return Ok((path, after, before));
+    }
+    let (index, after, operators) = index(alloc, tokens, at + 1, depth, before)?;
     let first = PartNode { name, index };
     let mut rest = Vec::new(alloc);
     let mut place = after;
@@ -261,7 +319,12 @@ fn next_part(
     at: usize,
     depth: u32,
     before: u32,
-) -> Result<(NextPart, usize, u32), SyntaxFault> {
+) -> Result<(NextPart, usize, u32), SyntaxFault>
+    requires inside { at ≤ length tokens.now }
+    requires nesting { depth ≤ 64 }
+    requires operators { before ≤ 256 }
+    ensures { Gives view_next_part operators_next_part (next_part_family depth before) tokens.now at before 1 result }
+{
     let dot = expect(tokens, at, Kind::Dot, depth, before)?;
     let name = expect_name(tokens, at + 1, depth, before)?;
     let (index, after, operators) = index(alloc, tokens, at + 2, depth, before)?;
@@ -277,7 +340,12 @@ fn index(
     at: usize,
     depth: u32,
     before: u32,
-) -> Result<(Option<IndexNode>, usize, u32), SyntaxFault> {
+) -> Result<(Option<IndexNode>, usize, u32), SyntaxFault>
+    requires inside { at ≤ length tokens.now }
+    requires nesting { depth ≤ 64 }
+    requires operators { before ≤ 256 }
+    ensures { Gives view_index_option operators_maybe_index (index_family depth before) tokens.now at before 0 result }
+{
     if !is(tokens, at, Kind::LeftBracket) {
         return Ok((None, at, before));
     }

@@ -1,9 +1,13 @@
 //! Which operators tokens are.
 ghost use Rattle.std.specs.Prelude.{◌≡◌};
-ghost use Rattle.pst_parse_expr.specs.Operators.{operator_of_kind, prefix_of_kind};
+ghost use Rattle.std.specs.Prelude.{drop, is_some};
+ghost use Rattle.pst_ast.specs.ExpressionProper;
+ghost use Rattle.pst_reading.specs.Parser.{next};
+ghost use Rattle.pst_parse_expr.specs.Operators.{operator_of_kind, prefix_of_kind, operator_of, is_in, prefix_of};
+ghost use Rattle.pst_parse_expr.specs.Operators;
 
 use pst_ast::{Operator, PrefixOperator};
-use pst_reading::is;
+use pst_reading::{is, token_at};
 use pst_token::{Kind, Token};
 
 // The operator between parts that a kind of token is.
@@ -46,7 +50,9 @@ pub fn prefix_of_kind(kind: Kind) -> Option<PrefixOperator>
 }
 
 // How tightly an operator binds, from 0 for `||` to 9 for `*`.
-fn level_of(operator: Operator) -> u32 {
+fn level_of(operator: Operator) -> u32
+    ensures { result ≡ ExpressionProper.level_of operator }
+{
     match operator {
         Operator::Or => 0,
         Operator::And => 1,
@@ -62,20 +68,27 @@ fn level_of(operator: Operator) -> u32 {
 }
 
 // Whether there is nothing in a token but its kind.
-fn is_bare(token: Token) -> bool {
+#[tactic(auto, unfolding(crate::specs::Operators::is_bare))]
+fn is_bare(token: Token) -> bool
+    ensures { result ≡ Operators.is_bare token }
+{
     token.name.0 == 0 && token.number == 0
 }
 
 // The operator of a level between parts at a place.
-pub fn operator_at(tokens: &[Token], at: usize, level: u32) -> Option<Operator> {
-    if at >= tokens.len() {
+#[tactic(auto, unfolding(crate::specs::Operators::operator_of))]
+pub fn operator_at(tokens: &[Token], at: usize, level: u32) -> Option<Operator>
+    ensures { result ≡ operator_of level (next (drop at tokens.now)) }
+{
+    let Some(token) = token_at(tokens, at) else {
         return None;
-    }
-    let token = tokens[at];
+    };
     if !is_bare(token) {
         return None;
     }
-    let operator = operator_of_kind(token.kind)?;
+    let Some(operator) = operator_of_kind(token.kind) else {
+        return None;
+    };
     if level_of(operator) == level {
         Some(operator)
     } else {
@@ -84,21 +97,28 @@ pub fn operator_at(tokens: &[Token], at: usize, level: u32) -> Option<Operator> 
 }
 
 // Whether an operator of a level stands between parts at a place.
-pub fn has_operator(tokens: &[Token], at: usize, level: u32) -> bool {
+pub fn has_operator(tokens: &[Token], at: usize, level: u32) -> bool
+    ensures { result ≡ is_some (operator_of level (next (drop at tokens.now))) }
+{
     operator_at(tokens, at, level).is_some()
 }
 
 // Whether `in` stands at a place, which is an operator of level 6.
-pub fn has_in(tokens: &[Token], at: usize, level: u32) -> bool {
+#[tactic(auto, unfolding(crate::specs::Operators::is_in))]
+pub fn has_in(tokens: &[Token], at: usize, level: u32) -> bool
+    ensures { result ≡ is_in level (next (drop at tokens.now)) }
+{
     level == 6 && is(tokens, at, Kind::In)
 }
 
 // The operator before a part at a place.
-pub fn prefix_at(tokens: &[Token], at: usize) -> Option<PrefixOperator> {
-    if at >= tokens.len() {
+#[tactic(auto, unfolding(crate::specs::Operators::prefix_of))]
+pub fn prefix_at(tokens: &[Token], at: usize) -> Option<PrefixOperator>
+    ensures { result ≡ prefix_of (next (drop at tokens.now)) }
+{
+    let Some(token) = token_at(tokens, at) else {
         return None;
-    }
-    let token = tokens[at];
+    };
     if !is_bare(token) {
         return None;
     }

@@ -1,4 +1,8 @@
 //! The rules that other parsers stand on.
+ghost use Rattle.std.specs.Prelude.{◌≤◌, ◌<◌, length};
+ghost use Rattle.pst_ast.specs.Answers.{AnswersExpr};
+ghost use Rattle.pst_reading.specs.Ended.{IsEnded};
+
 use crate::expression::{LEVELS, level};
 use pst_ast::{ExprNode, SyntaxFault};
 use pst_token::Token;
@@ -11,7 +15,12 @@ pub fn parse_expr(
     tokens: &[Token],
     at: usize,
     depth: u32,
-) -> Result<(ExprNode, usize), SyntaxFault> {
+) -> Result<(ExprNode, usize), SyntaxFault>
+    requires ended { IsEnded tokens.now }
+    requires inside { at < length tokens.now }
+    requires nesting { depth ≤ 64 }
+    ensures { AnswersExpr tokens.now at depth result }
+{
     let (expr, after, _operators) = level(alloc, tokens, at, depth, 0, LEVELS)?;
     Ok((expr, after))
 }

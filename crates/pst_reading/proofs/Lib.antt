@@ -8,3 +8,4 @@ pub mod Places
 pub mod Giving
 pub mod Counted
 pub mod Final
+pub mod Looping

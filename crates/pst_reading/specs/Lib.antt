@@ -1,3 +1,4 @@
 pub mod Kinds
 pub mod Parser
 pub mod Gives
+pub mod Ended

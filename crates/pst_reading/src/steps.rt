@@ -1,5 +1,6 @@
 //! The steps that every rule is made of.
 ghost use Rattle.std.specs.Prelude.{◌≡◌, ◌≤◌, ◌++◌, ◌∷◌, [], length, drop, IfOk, IfErr, OnOk, OnErr};
+ghost use Rattle.std.specs.Bool.{OnFalse};
 ghost use Rattle.pst_ast.specs.Limits.{counted};
 ghost use Rattle.pst_ast.specs.Limits;
 ghost use Rattle.pst_ast.specs.declared.fault.SyntaxFault.TheVariants.{NoMemory};
@@ -28,7 +29,8 @@ pub fn kind_number(kind: Kind) -> u8
 /// Whether a token breaks a limit, by the derivations that are open at it and the operators of its
 /// outermost expression up to it.
 pub fn is_over(nesting: u32, operators: u32) -> bool
-    ensures { result ≡ Limits.is_over (counted nesting operators) }
+    ensures over { result ≡ Limits.is_over (counted nesting operators) }
+    ensures within { OnFalse result ((nesting ≤ 64) × (operators ≤ 256)) }
 {
     nesting > MOST_NESTING || operators > MOST_OPERATORS
 }
@@ -90,7 +92,8 @@ pub fn expect(
     nesting: u32,
     operators: u32,
 ) -> Result<Place, SyntaxFault>
-    ensures { Expects (mark_by wanted (counted nesting operators)) tokens.now at result }
+    ensures reads { Expects (mark_by wanted (counted nesting operators)) tokens.now at result }
+    ensures within { IfOk result (λ place. (nesting ≤ 64) × (operators ≤ 256)) }
 {
     let Some(token) = token_at(tokens, at) else {
         return Err(SyntaxFault::At { at });
@@ -112,7 +115,8 @@ pub fn expect_name(
     nesting: u32,
     operators: u32,
 ) -> Result<Name, SyntaxFault>
-    ensures { Expects (name_by (counted nesting operators)) tokens.now at result }
+    ensures reads { Expects (name_by (counted nesting operators)) tokens.now at result }
+    ensures within { IfOk result (λ name. (nesting ≤ 64) × (operators ≤ 256)) }
 {
     let Some(token) = token_at(tokens, at) else {
         return Err(SyntaxFault::At { at });

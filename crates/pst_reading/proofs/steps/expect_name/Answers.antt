@@ -3,5 +3,5 @@ use Rattle.pst_ast.specs.Limits.{counted}
 use Rattle.pst_reading.proofs.Places.{name_taken}
 use Rattle.pst_reading.proofs.steps.expect_name.Goals as goal
 
-pub returns : goal.returns
-returns c = name_taken (counted c.args.nesting c.args.operators) c.args.at c.args.tokens.now c.in-Some.token (search rules) (search rules) (search rules)
+pub returns-clause-reads : goal.returns-clause-reads
+returns-clause-reads c = name_taken (counted c.args.nesting c.args.operators) c.args.at c.args.tokens.now c.in-Some.token (search rules) (search rules) (search rules)
