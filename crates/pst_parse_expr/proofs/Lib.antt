@@ -7,4 +7,6 @@ pub mod Parts
 pub mod PartsAgain
 pub mod ExprAgain
 pub mod Deciding
+pub mod NoEnd
 pub mod Answering
+pub mod Loops

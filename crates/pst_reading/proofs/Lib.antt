@@ -9,3 +9,4 @@ pub mod Giving
 pub mod Counted
 pub mod Final
 pub mod Looping
+pub mod Whole
