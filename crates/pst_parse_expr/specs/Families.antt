@@ -1,12 +1,14 @@
 -- The parsers of expressions for each size: each function of the program has one of these.
-use Rattle.std.specs.Prelude.{ℕ, ◌+◌, ◌-◌, ◌≤◌, List, length, Option, Some, None, Result, Ok, Err, drop}
+use Rattle.std.specs.Prelude.{ℕ, ◌+◌, ◌-◌, ◌≤◌, List, [], ◌∷◌, length, Option, Some, None, Result, Ok, Err, drop}
 use Rattle.pst_token.specs.declared.token.Token.{Token}
 use Rattle.pst_ast.specs.declared.leaf.Name.{Name}
 use Rattle.pst_ast.specs.declared.expression.IndexNode.{IndexNode}
 use Rattle.pst_ast.specs.declared.expression.PathNode.{PathNode}
 use Rattle.pst_ast.specs.declared.fault.SyntaxFault.{SyntaxFault}
-use Rattle.pst_ast.specs.ExpressionView.{view_index, view_path}
-use Rattle.pst_ast.specs.ExpressionTree.{ExprTree, UnaryTree, PrimaryTree, PathTree, NextPartTree, MaybeIndex, NoIndex, SomeIndex, RangesTree, RangeTree}
+use Rattle.pst_ast.specs.declared.expression.NextPart.{NextPart}
+use Rattle.pst_ast.specs.declared.expression.NextRange.{NextRange}
+use Rattle.pst_ast.specs.ExpressionView.{view_index, view_next_part, view_next_range, view_path}
+use Rattle.pst_ast.specs.ExpressionTree.{ExprTree, UnaryTree, PrimaryTree, PathTree, NextPartTree, NextPartRow, NoNextPartRow, MoreNextPartRow, MaybeIndex, NoIndex, SomeIndex, RangesTree, RangeTree, NextRangeRow, NoNextRangeRow, MoreNextRangeRow}
 use Rattle.pst_reading.specs.Parser.{Parser, Took, Wrong, next}
 use Rattle.pst_reading.specs.Gives.{Family, SettlesFrom, FailsFrom}
 use Rattle.pst_parse_expr.specs.Reading.{Parsers, in_by, item_by, operation_of, level_by, unary_by, primary_by, path_by, next_part_by, maybe_index_by, ranges_by, range_by, expr_at}
@@ -59,3 +61,12 @@ view_index_option (Some index) = SomeIndex (view_index index)
 abbrev pub GivesItem : List Token → ℕ → ℕ → ℕ → Name → Result (PathNode × ℕ) SyntaxFault → Type 0
 GivesItem tokens at depth before first (Ok x) = SettlesFrom (λ size prefixes. item_by depth before first) tokens at at (Took (view_path x.0) (drop x.1 tokens)) × (at + 2 ≤ x.1) × (x.1 ≤ length tokens)
 GivesItem tokens at depth before first (Err fault) = FailsFrom (λ size prefixes. item_by depth before first) tokens at at fault
+
+-- parts behind dots, and ranges behind commas, in a row
+abbrev pub part_row : List NextPart → NextPartRow
+part_row [] = NoNextPartRow
+part_row (part ∷ parts) = MoreNextPartRow (view_next_part part) (part_row parts)
+
+abbrev pub range_row : List NextRange → NextRangeRow
+range_row [] = NoNextRangeRow
+range_row (range ∷ ranges) = MoreNextRangeRow (view_next_range range) (range_row ranges)

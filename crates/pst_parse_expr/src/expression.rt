@@ -138,7 +138,7 @@ pub fn ranges(
     let mut rest = Vec::new(alloc);
     let mut place = after;
     let mut count = operators;
-    'ranges: while is(tokens, place, Kind::Comma) {
+    'more: while is(tokens, place, Kind::Comma) {
         let comma = expect(tokens, place, Kind::Comma, depth, count)?;
         let (range, after, operators) = range(alloc, tokens, place + 1, depth, count)?;
         push(&mut rest, NextRange { comma, range })?;

@@ -10,6 +10,7 @@ use std::alloc::Global;
 
 /// The longest expression at a place, with `depth` derivations that count open round it, and the
 /// place behind it.
+#[tactic(auto, using(crate::proofs::Answering::tree_answers, crate::proofs::Answering::fault_answers))]
 pub fn parse_expr(
     alloc: Global,
     tokens: &[Token],

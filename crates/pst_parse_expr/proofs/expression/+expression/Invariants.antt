@@ -1,4 +1,7 @@
 use Rattle.std.proofs.Common.{◌≤◌, length, drop, ◌+◌, ◌-◌, ◌*◌, ◌<◌}
+use Rattle.pst_ast.specs.ExpressionView.{view_expr, view_part, view_range}
+use Rattle.pst_parse_expr.specs.Families.{part_row, range_row}
+use Rattle.pst_parse_expr.proofs.Loops.{LevelLoop, RangesLoop, PathLoop}
 use Rattle.pst_parse_expr.proofs.expression.+expression.Given as goal
 
 abbrev pub decreases-level : goal.decreases-level
@@ -30,3 +33,21 @@ decreases-next_part l = (length l.tokens.now - l.at) * 32
 
 abbrev pub decreases-index : goal.decreases-index
 decreases-index l = (length l.tokens.now - l.at) * 32
+
+abbrev pub invariant-level-operations : goal.invariant-level-operations
+invariant-level-operations l = LevelLoop l.tokens l.fn.at (l.above - 1) l.depth l.before (view_expr l.left) l.place l.count
+
+abbrev pub decreases-level-operations : goal.decreases-level-operations
+decreases-level-operations l = length l.tokens - l.place
+
+abbrev pub invariant-path-parts : goal.invariant-path-parts
+invariant-path-parts l = PathLoop l.tokens l.fn.at l.depth l.before (view_part l.first) (part_row l.rest.items) l.place l.count
+
+abbrev pub decreases-path-parts : goal.decreases-path-parts
+decreases-path-parts l = length l.tokens - l.place
+
+abbrev pub invariant-ranges-more : goal.invariant-ranges-more
+invariant-ranges-more l = RangesLoop l.tokens l.fn.at l.depth l.before (view_range l.first.value) (range_row l.rest.items) l.place l.count
+
+abbrev pub decreases-ranges-more : goal.decreases-ranges-more
+decreases-ranges-more l = length l.tokens - l.place
