@@ -46,7 +46,7 @@ at_size tokens start depth o h le zero lt = absurd (omega (arith, lt))
 at_size tokens start depth o h le (suc n) lt = h n n (omega (arith, lt, length-drop start tokens, le)) (omega (arith, lt, length-drop start tokens, le))
 
 module _ (tokens : List Token) (start depth : ℕ) (e : IsEnded tokens) (lt : start < length tokens) where
-  pub tree_answers : (x : ExprNode × ℕ × ℕ) → Given view_expr operators_expr (level_family 10 depth 0) tokens start 0 1 x → AnswersExpr tokens start depth (Ok (x.0, x.1))
+  pub tree_answers : (x : ExprNode × ℕ × ℕ) → Given view_expr operators_expr (level_family 10 depth 0) tokens start start 0 1 x → AnswersExpr tokens start depth (Ok (x.0, x.1))
   tree_answers x g = read_answer TheExpr depth (λ n. expr_at n depth 0) (explains depth) (Stops 0) (λ n e rest. expr_again n depth 0 e rest) ends decide expr_free tokens start e lt (view_expr x.0) x.1 (omega (arith, g.after)) g.inside (at_size tokens start depth _ g.settles (omega (arith, lt)))
 
   pub fault_answers : (f : SyntaxFault) → FailsFrom (level_family 10 depth 0) tokens start start f → IsFault TheExpr tokens start depth f

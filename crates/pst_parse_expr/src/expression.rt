@@ -36,7 +36,7 @@ pub fn level(
     requires nesting { depth ≤ 64 }
     requires operators { before ≤ 256 }
     requires above { above ≤ 10 }
-    ensures { Gives view_expr operators_expr (level_family above depth before) tokens.now at before 1 result }
+    ensures { Gives view_expr operators_expr (level_family above depth before) tokens.now at at before 1 result }
 {
     if above == 0 {
         let (part, after, operators) = unary(alloc, tokens, at, depth, before)?;
@@ -71,7 +71,7 @@ fn operation(
     requires operators { before ≤ 256 }
     requires above { above ≤ 9 }
     requires counted { operators_expr (view_expr left) ≤ before }
-    ensures { Gives view_expr operators_expr (operation_family above depth (before - operators_expr (view_expr left)) (view_expr left) (next (drop at tokens.now))) tokens.now at (before - operators_expr (view_expr left)) 1 result }
+    ensures { Gives view_expr operators_expr (operation_family above depth (before - operators_expr (view_expr left)) (view_expr left) (next (drop at tokens.now))) tokens.now at at (before - operators_expr (view_expr left)) 1 result }
 {
     let Some(operator) = operator_at(tokens, at, LEVELS - 1 - above) else {
         return membership(alloc, tokens, at, depth, before, left);
@@ -103,7 +103,7 @@ fn membership(
     requires nesting { depth ≤ 64 }
     requires operators { before ≤ 256 }
     requires counted { operators_expr (view_expr left) ≤ before }
-    ensures { Gives view_expr operators_expr (in_family depth (before - operators_expr (view_expr left)) (view_expr left)) tokens.now at (before - operators_expr (view_expr left)) 1 result }
+    ensures { Gives view_expr operators_expr (in_family depth (before - operators_expr (view_expr left)) (view_expr left)) tokens.now at at (before - operators_expr (view_expr left)) 1 result }
 {
     let in_ = expect(tokens, at, Kind::In, depth, before + 1)?;
     let left_bracket = expect(tokens, at + 1, Kind::LeftBracket, depth, before + 1)?;
@@ -131,7 +131,8 @@ pub fn ranges(
     requires inside { at ≤ length tokens.now }
     requires nesting { depth ≤ 64 }
     requires operators { before ≤ 256 }
-    ensures { Gives view_ranges operators_ranges (ranges_family depth before) tokens.now at before 1 result }
+    requires behind { 1 ≤ at }
+    ensures { Gives view_ranges operators_ranges (ranges_family depth before) tokens.now (at - 1) at before 1 result }
 {
     let (first, after, operators) = range(alloc, tokens, at, depth, before)?;
     let first = boxed(alloc, first)?;
@@ -160,7 +161,8 @@ fn range(
     requires inside { at ≤ length tokens.now }
     requires nesting { depth ≤ 64 }
     requires operators { before ≤ 256 }
-    ensures { Gives view_range operators_range (range_family depth before) tokens.now at before 1 result }
+    requires behind { 1 ≤ at }
+    ensures { Gives view_range operators_range (range_family depth before) tokens.now (at - 1) at before 1 result }
 {
     let (low, after, operators) = level(alloc, tokens, at, depth, before, LEVELS)?;
     if !is(tokens, after, Kind::DotDot) {
@@ -183,7 +185,7 @@ fn unary(
     requires inside { at ≤ length tokens.now }
     requires nesting { depth ≤ 64 }
     requires operators { before ≤ 256 }
-    ensures { Gives view_unary operators_unary (unary_family depth before) tokens.now at before 1 result }
+    ensures { Gives view_unary operators_unary (unary_family depth before) tokens.now at at before 1 result }
 {
     let Some(operator) = prefix_at(tokens, at) else {
         let (part, after, operators) = primary(alloc, tokens, at, depth, before)?;
@@ -213,7 +215,7 @@ fn primary(
     requires inside { at ≤ length tokens.now }
     requires nesting { depth ≤ 64 }
     requires operators { before ≤ 256 }
-    ensures { Gives view_primary operators_primary (primary_family depth before) tokens.now at before 1 result }
+    ensures { Gives view_primary operators_primary (primary_family depth before) tokens.now at at before 1 result }
 {
     if is_number(tokens, at) {
         let token = tokens[at];
@@ -290,7 +292,7 @@ fn path(
     requires inside { at ≤ length tokens.now }
     requires nesting { depth ≤ 64 }
     requires operators { before ≤ 256 }
-    ensures { Gives view_path operators_path (path_family depth before) tokens.now at before 1 result }
+    ensures { Gives view_path operators_path (path_family depth before) tokens.now at at before 1 result }
 {
     let name = expect_name(tokens, at, depth, before)?;
     if is(tokens, at + 1, Kind::ColonColon) {
@@ -323,7 +325,7 @@ fn next_part(
     requires inside { at ≤ length tokens.now }
     requires nesting { depth ≤ 64 }
     requires operators { before ≤ 256 }
-    ensures { Gives view_next_part operators_next_part (next_part_family depth before) tokens.now at before 1 result }
+    ensures { Gives view_next_part operators_next_part (next_part_family depth before) tokens.now at at before 1 result }
 {
     let dot = expect(tokens, at, Kind::Dot, depth, before)?;
     let name = expect_name(tokens, at + 1, depth, before)?;
@@ -344,7 +346,7 @@ fn index(
     requires inside { at ≤ length tokens.now }
     requires nesting { depth ≤ 64 }
     requires operators { before ≤ 256 }
-    ensures { Gives view_index_option operators_maybe_index (index_family depth before) tokens.now at before 0 result }
+    ensures { Gives view_index_option operators_maybe_index (index_family depth before) tokens.now at at before 0 result }
 {
     if !is(tokens, at, Kind::LeftBracket) {
         return Ok((None, at, before));

@@ -19,18 +19,18 @@ FailsFrom family tokens start at (the_fault.At k) = SettlesFrom family tokens st
 FailsFrom family tokens start at (the_fault.Deep k) = SettlesFrom family tokens start at (TooDeep (drop k tokens)) × (at ≤ k) × (k ≤ length tokens)
 FailsFrom family tokens start at the_fault.NoMemory = Unit {0}
 
--- a value, the place behind it, at least so many tokens on, and the operators in front of that
-pub record Given {X A : Type 0} (view : X → A) (operators : A → ℕ) (family : Family A) (tokens : List Token) (at before least : ℕ) (x : X × ℕ × ℕ) : Type 0 where
-  pub settles : SettlesFrom family tokens at at (Took (view x.0) (drop x.1 tokens))
+-- a value, the place behind it, at least so many tokens on, and the operators in front of that; for all bounds that suffice from start on
+pub record Given {X A : Type 0} (view : X → A) (operators : A → ℕ) (family : Family A) (tokens : List Token) (start at before least : ℕ) (x : X × ℕ × ℕ) : Type 0 where
+  pub settles : SettlesFrom family tokens start at (Took (view x.0) (drop x.1 tokens))
   pub after : at + least ≤ x.1
   pub inside : x.1 ≤ length tokens
   pub counted : x.2 ≡ before + operators (view x.0)
   pub within : x.2 ≤ 256
 
 -- view forgets where a value lies in memory
-abbrev pub Gives : {X A : Type 0} → (X → A) → (A → ℕ) → Family A → List Token → ℕ → ℕ → ℕ → Result (X × ℕ × ℕ) SyntaxFault → Type 0
-Gives view operators family tokens at before least (Ok x) = Given view operators family tokens at before least x
-Gives view operators family tokens at before least (Err fault) = FailsFrom family tokens at at fault
+abbrev pub Gives : {X A : Type 0} → (X → A) → (A → ℕ) → Family A → List Token → ℕ → ℕ → ℕ → ℕ → Result (X × ℕ × ℕ) SyntaxFault → Type 0
+Gives view operators family tokens start at before least (Ok x) = Given view operators family tokens start at before least x
+Gives view operators family tokens start at before least (Err fault) = FailsFrom family tokens start at fault
 
 -- the same of a single token
 abbrev pub Expects : {A : Type 0} → Parser A → List Token → ℕ → Result A SyntaxFault → Type 0

@@ -1,0 +1,206 @@
+use Rattle.std.proofs.lemmas.Result.{err_from_is_err_and}
+use Rattle.pst_parse_expr.proofs.Loops.{range_low_fails, single_given}
+use Rattle.std.proofs.Common.{rules, arith, ◌≡◌, ◌≤◌, ◌<◌, ◌+◌, ◌-◌, ◌⊎◌, length, drop, true, Some, IfOk, ℕ, ◌*◌, ◌/◌, ◌%◌, Bool, false, nat_eq, nat_lt, List, [], ◌∷◌, ◌++◌, slice_index_or, slice_set, bit_and, bit_or, Fits, w8, w32, w64, Bor, MutBor}
+use Rattle.pst_ast.specs.ExpressionView.{view_expr, view_unary, view_primary, view_path, view_next_part, view_ranges, view_range}
+use Rattle.pst_ast.specs.ExpressionOperators.{operators_expr, operators_unary, operators_primary, operators_path, operators_next_part, operators_maybe_index, operators_ranges, operators_range}
+use Rattle.pst_reading.specs.Parser.{next}
+use Rattle.pst_reading.specs.Gives.{Gives}
+use Rattle.pst_parse_expr.specs.Operators.{operator_of, is_in}
+use Rattle.pst_parse_expr.specs.Families.{view_index_option, GivesItem, level_family, operation_family, in_family, ranges_family, range_family, unary_family, primary_family, path_family, next_part_family, index_family}
+use Rattle.pst_parse_expr.proofs.expression.+expression.Goals as goal
+
+-- src/expression.rt:353:36
+pub index-returns-in_err-expr : goal.index-returns-in_err-expr
+index-returns-in_err-expr t c = ?
+
+-- src/expression.rt:354:25
+pub index-returns-in_err-right_bracket : goal.index-returns-in_err-right_bracket
+index-returns-in_err-right_bracket t c = ?
+
+-- src/expression.rt:336:1
+pub index-returns : goal.index-returns
+index-returns t c = ?
+
+-- src/expression.rt:42:40
+pub level-returns-in_err-part : goal.level-returns-in_err-part
+level-returns-in_err-part t c = ?
+
+-- src/expression.rt:43:9
+pub level-returns-then-above-eq0 : goal.level-returns-then-above-eq0
+level-returns-then-above-eq0 t c = ?
+
+-- src/expression.rt:45:44
+pub level-returns-in_err-left : goal.level-returns-in_err-left
+level-returns-in_err-left t c = ?
+
+-- src/expression.rt:46:5
+pub level-operations-init : goal.level-operations-init
+level-operations-init t c = ?
+
+-- src/expression.rt:50:13
+pub level-returns-in_err-all : goal.level-returns-in_err-all
+level-returns-in_err-all t c = ?
+
+-- src/expression.rt:46:5
+pub level-operations-preserved : goal.level-operations-preserved
+level-operations-preserved t c = ?
+
+-- src/expression.rt:26:1
+pub level-returns : goal.level-returns
+level-returns t c = ?
+
+-- src/expression.rt:110:38
+pub membership-returns-in_err-ranges : goal.membership-returns-in_err-ranges
+membership-returns-in_err-ranges t c = ?
+
+-- src/expression.rt:111:25
+pub membership-returns-in_err-right_bracket : goal.membership-returns-in_err-right_bracket
+membership-returns-in_err-right_bracket t c = ?
+
+-- src/expression.rt:93:1
+pub membership-returns : goal.membership-returns
+membership-returns t c = ?
+
+-- src/expression.rt:330:37
+pub next_part-returns-in_err-index : goal.next_part-returns-in_err-index
+next_part-returns-in_err-index t c = ?
+
+-- src/expression.rt:315:1
+pub next_part-returns : goal.next_part-returns
+next_part-returns t c = ?
+
+-- src/expression.rt:77:9
+pub operation-returns-in_default : goal.operation-returns-in_default
+operation-returns-in_default t c = ?
+
+-- src/expression.rt:80:9
+pub operation-returns-then-is_over : goal.operation-returns-then-is_over
+operation-returns-then-is_over t c = ?
+
+-- src/expression.rt:82:37
+pub operation-level-requires : goal.operation-level-requires
+operation-level-requires t c = ?
+
+-- src/expression.rt:82:37
+pub operation-returns-in_err-right : goal.operation-returns-in_err-right
+operation-returns-in_err-right t c = ?
+
+-- src/expression.rt:59:1
+pub operation-returns : goal.operation-returns
+operation-returns t c = ?
+
+-- src/expression.rt:297:29
+pub path-returns-in_err-path : goal.path-returns-in_err-path
+path-returns-in_err-path t c = ?
+
+-- src/expression.rt:298:9
+pub path-returns-then-is : goal.path-returns-then-is
+path-returns-then-is t c = ?
+
+-- src/expression.rt:300:37
+pub path-returns-in_err-index : goal.path-returns-in_err-index
+path-returns-in_err-index t c = ?
+
+-- src/expression.rt:305:5
+pub path-parts-init : goal.path-parts-init
+path-parts-init t c = ?
+
+-- src/expression.rt:306:40
+pub path-returns-in_err-part : goal.path-returns-in_err-part
+path-returns-in_err-part t c = ?
+
+-- src/expression.rt:305:5
+pub path-parts-preserved : goal.path-parts-preserved
+path-parts-preserved t c = ?
+
+-- src/expression.rt:282:1
+pub path-returns : goal.path-returns
+path-returns t c = ?
+
+-- src/expression.rt:228:40
+pub primary-returns-in_err-expr : goal.primary-returns-in_err-expr
+primary-returns-in_err-expr t c = ?
+
+-- src/expression.rt:230:13
+pub primary-returns-in_err-right_parenthesis : goal.primary-returns-in_err-right_parenthesis
+primary-returns-in_err-right_parenthesis t c = ?
+
+-- src/expression.rt:236:9
+pub primary-returns-then-is : goal.primary-returns-then-is
+primary-returns-then-is t c = ?
+
+-- src/expression.rt:244:36
+pub primary-returns-in_err-path : goal.primary-returns-in_err-path
+primary-returns-in_err-path t c = ?
+
+-- src/expression.rt:205:1
+pub primary-returns : goal.primary-returns
+primary-returns t c = ?
+
+-- src/expression.rt:165:35
+pub range-returns-in_err-low : goal.range-returns-in_err-low
+range-returns-in_err-low t c =
+    let p = err_from_is_err_and c.from_residual.result c.from_residual.ensures.1 in
+    rw (p.1, p.2) (range_low_fails c.args.tokens.now (c.args.at - 1) c.args.at c.args.depth c.args.before (omega (arith, c.requires.behind)) c.requires.inside c.in_err-low.field-0.0 c.in_err-low.ensures)
+
+-- src/expression.rt:167:9
+pub range-returns-then-not-is : goal.range-returns-then-not-is
+range-returns-then-not-is t c = record {
+  settles = single_given c.args.tokens.now (c.args.at - 1) c.args.at c.args.depth c.args.before (omega (arith, c.requires.behind)) c.requires.inside (view_expr c.in_ok-low.low) c.in_ok-low.after (search rules) c.in_ok-low.ensures.settles;
+  after = c.in_ok-low.ensures.after;
+  inside = c.in_ok-low.ensures.inside;
+  counted = c.in_ok-low.ensures.counted;
+  within = c.in_ok-low.ensures.within;
+}
+
+-- src/expression.rt:170:36
+pub range-returns-in_err-high : goal.range-returns-in_err-high
+range-returns-in_err-high t c = ?
+
+-- src/expression.rt:152:1
+pub range-returns : goal.range-returns
+range-returns t c = ?
+
+-- src/expression.rt:136:37
+pub ranges-returns-in_err-first : goal.ranges-returns-in_err-first
+ranges-returns-in_err-first t c = ?
+
+-- src/expression.rt:141:5
+pub ranges-more-init : goal.ranges-more-init
+ranges-more-init t c = ?
+
+-- src/expression.rt:143:41
+pub ranges-returns-in_err-range : goal.ranges-returns-in_err-range
+ranges-returns-in_err-range t c = ?
+
+-- src/expression.rt:141:5
+pub ranges-more-preserved : goal.ranges-more-preserved
+ranges-more-preserved t c = ?
+
+-- src/expression.rt:123:1
+pub ranges-returns : goal.ranges-returns
+ranges-returns t c = ?
+
+-- src/expression.rt:189:40
+pub unary-returns-in_err-part : goal.unary-returns-in_err-part
+unary-returns-in_err-part t c = ?
+
+-- src/expression.rt:190:9
+pub unary-returns-in_default : goal.unary-returns-in_default
+unary-returns-in_default t c = ?
+
+-- src/expression.rt:193:9
+pub unary-returns-then-is_over : goal.unary-returns-then-is_over
+unary-returns-then-is_over t c = ?
+
+-- src/expression.rt:195:39
+pub unary-unary-requires : goal.unary-unary-requires
+unary-unary-requires t c = ?
+
+-- src/expression.rt:195:39
+pub unary-returns-in_err-operand : goal.unary-returns-in_err-operand
+unary-returns-in_err-operand t c = ?
+
+-- src/expression.rt:175:1
+pub unary-returns : goal.unary-returns
+unary-returns t c = ?
