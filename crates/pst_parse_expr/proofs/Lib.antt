@@ -10,3 +10,4 @@ pub mod Deciding
 pub mod NoEnd
 pub mod Answering
 pub mod Loops
+pub mod Rules

@@ -1,5 +1,9 @@
 use Rattle.std.proofs.lemmas.Result.{err_from_is_err_and}
+use Rattle.std.proofs.Common.{subst}
+use Rattle.pst_reading.specs.Parser.{Took}
+use Rattle.pst_reading.specs.Gives.{SettlesFrom, FailsFrom}
 use Rattle.pst_parse_expr.proofs.Loops.{range_low_fails, single_given}
+use Rattle.pst_parse_expr.proofs.Rules.{between_given, between_fails}
 use Rattle.std.proofs.Common.{rules, arith, ◌≡◌, ◌≤◌, ◌<◌, ◌+◌, ◌-◌, ◌⊎◌, length, drop, true, Some, IfOk, ℕ, ◌*◌, ◌/◌, ◌%◌, Bool, false, nat_eq, nat_lt, List, [], ◌∷◌, ◌++◌, slice_index_or, slice_set, bit_and, bit_or, Fits, w8, w32, w64, Bor, MutBor}
 use Rattle.pst_ast.specs.ExpressionView.{view_expr, view_unary, view_primary, view_path, view_next_part, view_ranges, view_range}
 use Rattle.pst_ast.specs.ExpressionOperators.{operators_expr, operators_unary, operators_primary, operators_path, operators_next_part, operators_maybe_index, operators_ranges, operators_range}
@@ -155,11 +159,22 @@ range-returns-then-not-is t c = record {
 
 -- src/expression.rt:170:36
 pub range-returns-in_err-high : goal.range-returns-in_err-high
-range-returns-in_err-high t c = ?
+range-returns-in_err-high t c =
+    let p = err_from_is_err_and c.from_residual-in_err-high.result c.from_residual-in_err-high.ensures.1 in
+    let fails = subst (λ (k : ℕ). FailsFrom (level_family 10 c.args.depth k) c.args.tokens.now (c.in_ok-low.after + 1) (c.in_ok-low.after + 1) c.in_err-high.field-0.0) c.in_ok-low.ensures.counted c.in_err-high.ensures in
+    rw (p.1, p.2) (between_fails c.args.tokens.now (c.args.at - 1) c.args.at c.args.depth c.args.before (omega (arith, c.requires.behind)) c.requires.inside (view_expr c.in_ok-low.low) c.in_ok-low.after c.in_ok-low.ensures.settles (omega (arith, c.in_ok-low.ensures.after)) c.in_ok-dots.ensures.reads.1 (search rules) c.in_ok-dots.dots (search rules) c.in_err-high.field-0.0 fails)
 
 -- src/expression.rt:152:1
 pub range-returns : goal.range-returns
-range-returns t c = ?
+range-returns t c = record {
+  settles =
+      let given = subst (λ (k : ℕ). SettlesFrom (level_family 10 c.args.depth k) c.args.tokens.now (c.in_ok-low.after + 1) (c.in_ok-low.after + 1) (Took (view_expr c.in_ok-high.high) (drop c.in_ok-high.after c.args.tokens.now))) c.in_ok-low.ensures.counted c.in_ok-high.ensures.settles in
+      between_given c.args.tokens.now (c.args.at - 1) c.args.at c.args.depth c.args.before (omega (arith, c.requires.behind)) c.requires.inside (view_expr c.in_ok-low.low) c.in_ok-low.after c.in_ok-low.ensures.settles (omega (arith, c.in_ok-low.ensures.after)) c.in_ok-dots.ensures.reads.1 (search rules) c.in_ok-dots.dots (search rules) (view_expr c.in_ok-high.high) c.in_ok-high.after given;
+  after = omega (arith, c.in_ok-low.ensures.after, c.in_ok-high.ensures.after);
+  inside = c.in_ok-high.ensures.inside;
+  counted = omega (arith, c.in_ok-low.ensures.counted, c.in_ok-high.ensures.counted);
+  within = c.in_ok-high.ensures.within;
+}
 
 -- src/expression.rt:136:37
 pub ranges-returns-in_err-first : goal.ranges-returns-in_err-first
