@@ -1,5 +1,5 @@
 -- What each rule of expressions gives, from what its parts give.
-use Rattle.std.proofs.Common.{◌≡◌, ℕ, zero, suc, ◌+◌, ◌-◌, ◌<◌, ◌≤◌, List, length, drop, refl, ap, subst, sym, arith, true, false, Some, None, Option}
+use Rattle.std.proofs.Common.{◌≡◌, ℕ, zero, suc, ◌+◌, ◌-◌, ◌<◌, ◌≤◌, List, length, drop, refl, ap, subst, sym, arith, true, false, Some, None, Option, Ok, Err}
 use Rattle.pst_base.specs.declared.position.Place.{Place}
 use Rattle.pst_token.specs.declared.kind.Kind.TheVariants as kind
 use Rattle.pst_token.specs.declared.token.Token.{Token}
@@ -47,3 +47,50 @@ module _ (tokens : List Token) (start at d b : ℕ) (lt : start < at) (le : at �
       (fails_choice tokens start kind.DotDot (λ m n. followed_by (mark_by kind.DotDot (counted d (b + operators_expr low))) (second m)) (λ m n. Done (RangeSingle low)) after e true present
       (fails_then tokens start (λ m n. mark_by kind.DotDot (counted d (b + operators_expr low))) (λ m n. second m) after (after + 1) dots e (omega arith) (token_given tokens start (mark_by kind.DotDot (counted d (b + operators_expr low))) after dots dots_given)
       (fails_first tokens start (λ m n. expr_at m d (b + operators_expr low)) (λ m n x. Done (RangeBetween low dots x)) (after + 1) e (nested_fault tokens start (after + 1) d (b + operators_expr low) (omega (arith, lt, more)) inside e h))))
+
+-- ---- an index
+
+module _ (tokens : List Token) (at d b inner : ℕ) (deeper : inner ≡ suc d) (present : next_is (is_mark kind.LeftBracket) (next (drop at tokens)) ≡ true) (open_place : Place) (opened : run is_over (mark_by kind.LeftBracket (counted inner b)) (drop at tokens) ≡ Took open_place (drop (at + 1) tokens)) (inside : at + 1 ≤ length tokens) where
+  abbrev closing : ℕ → Place → ExprTree → Parser IndexTree
+  closing x l e = followed_by (mark_by kind.RightBracket (counted x (b + operators_expr e))) (λ r. Done (MakeIndex l e r))
+
+  abbrev inner_of : ℕ → ℕ → Place → Parser IndexTree
+  inner_of x m l = followed_by (expr_at m x b) (closing x l)
+
+  abbrev index_with : ℕ → ℕ → Parser IndexTree
+  index_with x m = followed_by (mark_by kind.LeftBracket (counted x b)) (inner_of x m)
+
+  abbrev maybe_with : ℕ → ℕ → Parser MaybeIndex
+  maybe_with x m = if_mark kind.LeftBracket (followed_by (index_with x m) (λ i. Done (SomeIndex i))) (Done NoIndex)
+
+  whole_fails : (e : SyntaxFault) → FailsFrom (λ m n. inner_of inner m open_place) tokens at (at + 1) e → FailsFrom (index_family d b) tokens at at e
+  whole_fails e h =
+      subst (λ (x : ℕ). FailsFrom (λ m n. maybe_with x m) tokens at at e) deeper
+      (fails_choice tokens at kind.LeftBracket (λ m n. followed_by (index_with inner m) (λ i. Done (SomeIndex i))) (λ m n. Done NoIndex) at e true present
+      (fails_first tokens at (λ m n. index_with inner m) (λ m n i. Done (SomeIndex i)) at e
+      (fails_then tokens at (λ m n. mark_by kind.LeftBracket (counted inner b)) (λ m n. inner_of inner m) at (at + 1) open_place e (omega arith) (token_given tokens at (mark_by kind.LeftBracket (counted inner b)) at open_place opened) h)))
+
+  pub index_inner_fails : (e : SyntaxFault) → FailsFrom (level_family 10 inner b) tokens (at + 1) (at + 1) e → FailsFrom (index_family d b) tokens at at e
+  index_inner_fails e h = whole_fails e (fails_first tokens at (λ m n. expr_at m inner b) (λ m n. closing inner open_place) (at + 1) e (nested_fault tokens at (at + 1) inner b (omega arith) inside e h))
+
+  module _ (tree : ExprTree) (after : ℕ) (given : SettlesFrom (level_family 10 inner b) tokens (at + 1) (at + 1) (Took tree (drop after tokens))) (more : at + 1 ≤ after) (within : after ≤ length tokens) where
+    pub index_close_fails : (e : SyntaxFault) → Expects (mark_by kind.RightBracket (counted inner (b + operators_expr tree))) tokens after (Err e) → FailsFrom (index_family d b) tokens at at e
+    index_close_fails e h =
+        whole_fails e (fails_then tokens at (λ m n. expr_at m inner b) (λ m n. closing inner open_place) (at + 1) after tree e more (expr_nested tokens at (at + 1) inner b (Took tree (drop after tokens)) (omega arith) inside given)
+        (fails_first tokens at (λ m n. mark_by kind.RightBracket (counted inner (b + operators_expr tree))) (λ m n r. Done (MakeIndex open_place tree r)) after e (token_fails tokens at (mark_by kind.RightBracket (counted inner (b + operators_expr tree))) after e within h)))
+
+    pub index_given : (close_place : Place) → run is_over (mark_by kind.RightBracket (counted inner (b + operators_expr tree))) (drop after tokens) ≡ Took close_place (drop (after + 1) tokens) → SettlesFrom (index_family d b) tokens at at (Took (SomeIndex (MakeIndex open_place tree close_place)) (drop (after + 1) tokens))
+    index_given close_place closed =
+        let end = drop (after + 1) tokens in
+        let tree_is = MakeIndex open_place tree close_place in
+        subst (λ (x : ℕ). SettlesFrom (λ m n. maybe_with x m) tokens at at (Took (SomeIndex tree_is) end)) deeper
+        (settles_choice tokens at kind.LeftBracket (λ m n. followed_by (index_with inner m) (λ i. Done (SomeIndex i))) (λ m n. Done NoIndex) at (Took (SomeIndex tree_is) end) true present
+        (settles_both tokens at (λ m n. index_with inner m) (λ m n i. Done (SomeIndex i)) at (after + 1) tree_is (Took (SomeIndex tree_is) end)
+        (settles_both tokens at (λ m n. mark_by kind.LeftBracket (counted inner b)) (λ m n. inner_of inner m) at (at + 1) open_place (Took tree_is end) (token_given tokens at (mark_by kind.LeftBracket (counted inner b)) at open_place opened)
+        (settles_both tokens at (λ m n. expr_at m inner b) (λ m n. closing inner open_place) (at + 1) after tree (Took tree_is end) (expr_nested tokens at (at + 1) inner b (Took tree (drop after tokens)) (omega arith) inside given)
+        (settles_both tokens at (λ m n. mark_by kind.RightBracket (counted inner (b + operators_expr tree))) (λ m n r. Done (MakeIndex open_place tree r)) after (after + 1) close_place (Took tree_is end) (token_given tokens at (mark_by kind.RightBracket (counted inner (b + operators_expr tree))) after close_place closed)
+        (done tokens at (after + 1) tree_is))))
+        (done tokens at (after + 1) (SomeIndex tree_is))))
+
+pub no_index_given : (tokens : List Token) (at d b : ℕ) → next_is (is_mark kind.LeftBracket) (next (drop at tokens)) ≡ false → SettlesFrom (index_family d b) tokens at at (Took NoIndex (drop at tokens))
+no_index_given tokens at d b absent = settles_choice tokens at kind.LeftBracket (λ m n. followed_by (index_by (expr_at m) d b) (λ i. Done (SomeIndex i))) (λ m n. Done NoIndex) at (Took NoIndex (drop at tokens)) false absent (done tokens at at NoIndex)

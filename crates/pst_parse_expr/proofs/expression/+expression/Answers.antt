@@ -1,9 +1,12 @@
 use Rattle.std.proofs.lemmas.Result.{err_from_is_err_and}
 use Rattle.std.proofs.Common.{subst}
-use Rattle.pst_reading.specs.Parser.{Took}
-use Rattle.pst_reading.specs.Gives.{SettlesFrom, FailsFrom}
+use Rattle.std.proofs.Common.{Err}
+use Rattle.pst_token.specs.declared.kind.Kind.TheVariants as kind
+use Rattle.pst_ast.specs.Limits.{counted, is_over}
+use Rattle.pst_reading.specs.Parser.{Took, run, mark_by}
+use Rattle.pst_reading.specs.Gives.{SettlesFrom, FailsFrom, Expects}
 use Rattle.pst_parse_expr.proofs.Loops.{range_low_fails, single_given}
-use Rattle.pst_parse_expr.proofs.Rules.{between_given, between_fails}
+use Rattle.pst_parse_expr.proofs.Rules.{between_given, between_fails, index_inner_fails, index_close_fails, index_given, no_index_given}
 use Rattle.std.proofs.Common.{rules, arith, ◌≡◌, ◌≤◌, ◌<◌, ◌+◌, ◌-◌, ◌⊎◌, length, drop, true, Some, IfOk, ℕ, ◌*◌, ◌/◌, ◌%◌, Bool, false, nat_eq, nat_lt, List, [], ◌∷◌, ◌++◌, slice_index_or, slice_set, bit_and, bit_or, Fits, w8, w32, w64, Bor, MutBor}
 use Rattle.pst_ast.specs.ExpressionView.{view_expr, view_unary, view_primary, view_path, view_next_part, view_ranges, view_range}
 use Rattle.pst_ast.specs.ExpressionOperators.{operators_expr, operators_unary, operators_primary, operators_path, operators_next_part, operators_maybe_index, operators_ranges, operators_range}
@@ -15,15 +18,28 @@ use Rattle.pst_parse_expr.proofs.expression.+expression.Goals as goal
 
 -- src/expression.rt:353:36
 pub index-returns-in_err-expr : goal.index-returns-in_err-expr
-index-returns-in_err-expr t c = ?
+index-returns-in_err-expr t c =
+    let p = err_from_is_err_and c.from_residual-in_err-expr.result c.from_residual-in_err-expr.ensures.1 in
+    rw (p.1, p.2) (index_inner_fails c.args.tokens.now c.args.at c.args.depth c.args.before (c.args.depth + 1) (omega arith) (search rules) c.in_ok-left_bracket.left_bracket c.in_ok-left_bracket.ensures.reads.0 c.in_ok-left_bracket.ensures.reads.1 c.in_err-expr.field-0.0 c.in_err-expr.ensures)
 
 -- src/expression.rt:354:25
 pub index-returns-in_err-right_bracket : goal.index-returns-in_err-right_bracket
-index-returns-in_err-right_bracket t c = ?
+index-returns-in_err-right_bracket t c =
+    let p = err_from_is_err_and c.from_residual-in_err-right_bracket.result c.from_residual-in_err-right_bracket.ensures.1 in
+    let fails = subst (λ (k : ℕ). Expects (mark_by kind.RightBracket (counted (c.args.depth + 1) k)) c.args.tokens.now c.in_ok-expr.after (Err c.in_err-right_bracket.field-0.0)) c.in_ok-expr.ensures.counted c.in_err-right_bracket.ensures.reads in
+    rw (p.1, p.2) (index_close_fails c.args.tokens.now c.args.at c.args.depth c.args.before (c.args.depth + 1) (omega arith) (search rules) c.in_ok-left_bracket.left_bracket c.in_ok-left_bracket.ensures.reads.0 c.in_ok-left_bracket.ensures.reads.1 (view_expr c.in_ok-expr.expr) c.in_ok-expr.after c.in_ok-expr.ensures.settles (omega (arith, c.in_ok-expr.ensures.after)) c.in_ok-expr.ensures.inside c.in_err-right_bracket.field-0.0 fails)
 
 -- src/expression.rt:336:1
 pub index-returns : goal.index-returns
-index-returns t c = ?
+index-returns t c = record {
+  settles =
+      let closed = subst (λ (k : ℕ). run is_over (mark_by kind.RightBracket (counted (c.args.depth + 1) k)) (drop c.in_ok-expr.after c.args.tokens.now) ≡ Took c.in_ok-right_bracket.right_bracket (drop (c.in_ok-expr.after + 1) c.args.tokens.now)) c.in_ok-expr.ensures.counted c.in_ok-right_bracket.ensures.reads.0 in
+      rw c.in_ok-boxed.ensures.ok (index_given c.args.tokens.now c.args.at c.args.depth c.args.before (c.args.depth + 1) (omega arith) (search rules) c.in_ok-left_bracket.left_bracket c.in_ok-left_bracket.ensures.reads.0 c.in_ok-left_bracket.ensures.reads.1 (view_expr c.in_ok-expr.expr) c.in_ok-expr.after c.in_ok-expr.ensures.settles (omega (arith, c.in_ok-expr.ensures.after)) c.in_ok-expr.ensures.inside c.in_ok-right_bracket.right_bracket closed);
+  after = omega (arith, c.in_ok-expr.ensures.after);
+  inside = c.in_ok-right_bracket.ensures.reads.1;
+  counted = rw c.in_ok-boxed.ensures.ok c.in_ok-expr.ensures.counted;
+  within = c.in_ok-expr.ensures.within;
+}
 
 -- src/expression.rt:42:40
 pub level-returns-in_err-part : goal.level-returns-in_err-part
