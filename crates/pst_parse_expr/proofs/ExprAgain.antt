@@ -212,8 +212,8 @@ pub expr_again : (size d b : ℕ) (e : ExprTree) (rest : List Token) → IsPrope
 unfolding expr_at
 expr_again zero d b e rest proper short s = absurd (omega (arith, short))
 expr_again (suc size) d b e rest proper short s =
-    level_again (unary_by (primary_by (expr_at size) size) size) (ranges_by (expr_at size) size) size d
-    (λ before u more p n t. unary_again (expr_at size) size (expr_again size) size d before u more p n n t)
+    level_again (unary_by (primary_by (expr_at size) size) (suc size)) (ranges_by (expr_at size) size) size d
+    (λ before u more p n t. unary_again (expr_at size) size (expr_again size) (suc size) d before u more p (omega (arith, n)) n t)
     (λ before rs place more p n. ranges_again (expr_at size) size (expr_again size) d before rs place more p n)
     (some_unary (expr_at size) size (expr_again size))
     10 0 refl b e rest proper (omega arith) (omega (arith, short)) s

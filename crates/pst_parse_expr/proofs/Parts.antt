@@ -202,6 +202,6 @@ pub expr_explains : (size d b : ℕ) → Explains (IsLevel 0 d b) (expr_at size 
 unfolding expr_at
 expr_explains zero d b ts = refused_here (IsLevel 0 d b) ts (some_expr d b)
 expr_explains (suc size) d b ts =
-    level_explains (unary_by (primary_by (expr_at size) size) size) (ranges_by (expr_at size) size) size d
-    (unary_explains (expr_at size) size (expr_explains size) size d) (ranges_explains (expr_at size) size (expr_explains size) d)
+    level_explains (unary_by (primary_by (expr_at size) size) (suc size)) (ranges_by (expr_at size) size) size d
+    (unary_explains (expr_at size) size (expr_explains size) (suc size) d) (ranges_explains (expr_at size) size (expr_explains size) d)
     10 0 refl b ts

@@ -5,15 +5,17 @@ use Rattle.pst_token.specs.declared.kind.Kind.TheVariants as kind
 use Rattle.pst_token.specs.declared.token.Token.{Token}
 use Rattle.pst_ast.specs.declared.fault.SyntaxFault.{SyntaxFault}
 use Rattle.pst_ast.specs.declared.fault.SyntaxFault.TheVariants as the_fault
-use Rattle.pst_ast.specs.ExpressionTree.{ExprTree, MakeIndex, IndexTree, MaybeIndex, NoIndex, SomeIndex, RangeTree, RangeSingle, RangeBetween}
+use Rattle.pst_ast.specs.ExpressionTree.{ExprTree, UnaryTree, UnaryPrefix, UnaryPrimary, PrimaryTree, MakeIndex, IndexTree, MaybeIndex, NoIndex, SomeIndex, RangeTree, RangeSingle, RangeBetween}
 use Rattle.pst_ast.specs.ExpressionOperators.{operators_expr}
 use Rattle.pst_ast.specs.Limits.{counted, is_over}
 use Rattle.pst_reading.specs.Kinds.{is_mark, next_is}
 use Rattle.pst_reading.specs.Parser.{Parser, Done, Outcome, Took, Refused, TooDeep, run, next, mark_by, if_mark, ◌>>=◌, followed_by}
 use Rattle.pst_reading.specs.Gives.{Family, SettlesFrom, FailsFrom, Expects}
 use Rattle.pst_reading.proofs.Giving.{settles_both, fails_first, fails_then, settles_choice, fails_choice, token_given, token_fails, done}
-use Rattle.pst_parse_expr.specs.Reading.{expr_at, index_by, maybe_index_by}
-use Rattle.pst_parse_expr.specs.Families.{level_family, range_family, index_family}
+use Rattle.pst_ast.specs.declared.leaf.PrefixOperator.{PrefixOperator}
+use Rattle.pst_parse_expr.specs.Operators.{prefix_of}
+use Rattle.pst_parse_expr.specs.Reading.{expr_at, prefix_by, primary_by, unary_by, index_by, maybe_index_by}
+use Rattle.pst_parse_expr.specs.Families.{level_family, range_family, index_family, unary_family, primary_family}
 use Rattle.pst_parse_expr.proofs.Loops.{expr_nested}
 
 pub nested_fault : (tokens : List Token) (start at d b : ℕ) → start < at → at ≤ length tokens → (f : SyntaxFault) → FailsFrom (level_family 10 d b) tokens at at f → FailsFrom (λ m n. expr_at m d b) tokens start at f
@@ -94,3 +96,20 @@ module _ (tokens : List Token) (at d b inner : ℕ) (deeper : inner ≡ suc d) (
 
 pub no_index_given : (tokens : List Token) (at d b : ℕ) → next_is (is_mark kind.LeftBracket) (next (drop at tokens)) ≡ false → SettlesFrom (index_family d b) tokens at at (Took NoIndex (drop at tokens))
 no_index_given tokens at d b absent = settles_choice tokens at kind.LeftBracket (λ m n. followed_by (index_by (expr_at m) d b) (λ i. Done (SomeIndex i))) (λ m n. Done NoIndex) at (Took NoIndex (drop at tokens)) false absent (done tokens at at NoIndex)
+
+-- ---- operators before a part
+
+module _ (tokens : List Token) (at d b : ℕ) where
+  unary_look : {o : Option PrefixOperator} → prefix_of (next (drop at tokens)) ≡ o → (x : Outcome UnaryTree) → SettlesFrom (λ m n. prefix_by (primary_by (expr_at m) m) (unary_by (primary_by (expr_at m) m) n) d b o) tokens at at x → SettlesFrom (unary_family d b) tokens at at x
+  unary_look e x h size prefixes m n = subst (λ (p : Option PrefixOperator). run is_over (prefix_by (primary_by (expr_at size) size) (unary_by (primary_by (expr_at size) size) prefixes) d b p) (drop at tokens) ≡ x) (sym e) (h size prefixes m n)
+
+  pub plain_fails : (e : SyntaxFault) → prefix_of (next (drop at tokens)) ≡ None → FailsFrom (primary_family d b) tokens at at e → FailsFrom (unary_family d b) tokens at at e
+  plain_fails e none h = looked e (fails_first tokens at (λ m n. primary_by (expr_at m) m d b) (λ m n p. Done (UnaryPrimary p)) at e h)
+    where
+      looked : (f : SyntaxFault) → FailsFrom (λ m n. prefix_by (primary_by (expr_at m) m) (unary_by (primary_by (expr_at m) m) n) d b None) tokens at at f → FailsFrom (unary_family d b) tokens at at f
+      looked (the_fault.At k) g = (unary_look none (Refused (drop k tokens)) g.0, g.1, g.2)
+      looked (the_fault.Deep k) g = (unary_look none (TooDeep (drop k tokens)) g.0, g.1, g.2)
+      looked the_fault.NoMemory g = tt
+
+  pub plain_given : (p : PrimaryTree) (after : ℕ) → prefix_of (next (drop at tokens)) ≡ None → SettlesFrom (primary_family d b) tokens at at (Took p (drop after tokens)) → SettlesFrom (unary_family d b) tokens at at (Took (UnaryPrimary p) (drop after tokens))
+  plain_given p after none h = unary_look none (Took (UnaryPrimary p) (drop after tokens)) (settles_both tokens at (λ m n. primary_by (expr_at m) m d b) (λ m n q. Done (UnaryPrimary q)) at after p (Took (UnaryPrimary p) (drop after tokens)) h (done tokens at after (UnaryPrimary p)))

@@ -1,5 +1,5 @@
 -- The parsers of expressions for each size: each function of the program has one of these.
-use Rattle.std.specs.Prelude.{ℕ, ◌+◌, ◌-◌, ◌≤◌, List, [], ◌∷◌, length, Option, Some, None, Result, Ok, Err, drop}
+use Rattle.std.specs.Prelude.{ℕ, suc, ◌+◌, ◌-◌, ◌≤◌, List, [], ◌∷◌, length, Option, Some, None, Result, Ok, Err, drop}
 use Rattle.pst_token.specs.declared.token.Token.{Token}
 use Rattle.pst_ast.specs.declared.leaf.Name.{Name}
 use Rattle.pst_ast.specs.declared.expression.IndexNode.{IndexNode}
@@ -15,7 +15,7 @@ use Rattle.pst_parse_expr.specs.Reading.{Parsers, in_by, item_by, operation_of, 
 
 -- parts without an operator between them, within size
 abbrev pub unary_within : ℕ → Parsers UnaryTree
-unary_within size = unary_by (primary_by (expr_at size) size) size
+unary_within size = unary_by (primary_by (expr_at size) size) (suc size)
 
 abbrev pub level_family : ℕ → ℕ → ℕ → Family ExprTree
 level_family above depth before size prefixes = level_by (unary_within size) (ranges_by (expr_at size) size) size above depth before
@@ -38,7 +38,7 @@ abbrev pub range_family : ℕ → ℕ → Family RangeTree
 range_family depth before size prefixes = range_by (expr_at size) depth before
 
 abbrev pub unary_family : ℕ → ℕ → Family UnaryTree
-unary_family depth before size prefixes = unary_by (primary_by (expr_at size) size) prefixes depth before
+unary_family depth before size prefixes = unary_by (primary_by (expr_at size) size) (suc prefixes) depth before
 
 abbrev pub primary_family : ℕ → ℕ → Family PrimaryTree
 primary_family depth before size prefixes = primary_by (expr_at size) size depth before

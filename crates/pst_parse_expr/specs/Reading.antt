@@ -150,7 +150,7 @@ ranges_by expr turns depth before = do
 
 unfoldable pub expr_at : ℕ → Parsers ExprTree
 expr_at zero depth before = Spent
-expr_at (suc size) depth before = level_by (unary_by (primary_by (expr_at size) size) size) (ranges_by (expr_at size) size) size 10 depth before
+expr_at (suc size) depth before = level_by (unary_by (primary_by (expr_at size) size) (suc size)) (ranges_by (expr_at size) size) size 10 depth before
 
 abbrev pub expr_parser : ℕ → ℕ → Parser ExprTree
 expr_parser depth size = expr_at size depth 0

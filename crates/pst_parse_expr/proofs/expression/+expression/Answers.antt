@@ -6,7 +6,7 @@ use Rattle.pst_ast.specs.Limits.{counted, is_over}
 use Rattle.pst_reading.specs.Parser.{Took, run, mark_by}
 use Rattle.pst_reading.specs.Gives.{SettlesFrom, FailsFrom, Expects}
 use Rattle.pst_parse_expr.proofs.Loops.{range_low_fails, single_given}
-use Rattle.pst_parse_expr.proofs.Rules.{between_given, between_fails, index_inner_fails, index_close_fails, index_given, no_index_given}
+use Rattle.pst_parse_expr.proofs.Rules.{between_given, between_fails, index_inner_fails, index_close_fails, index_given, plain_fails, plain_given}
 use Rattle.std.proofs.Common.{rules, arith, ◌≡◌, ◌≤◌, ◌<◌, ◌+◌, ◌-◌, ◌⊎◌, length, drop, true, Some, IfOk, ℕ, ◌*◌, ◌/◌, ◌%◌, Bool, false, nat_eq, nat_lt, List, [], ◌∷◌, ◌++◌, slice_index_or, slice_set, bit_and, bit_or, Fits, w8, w32, w64, Bor, MutBor}
 use Rattle.pst_ast.specs.ExpressionView.{view_expr, view_unary, view_primary, view_path, view_next_part, view_ranges, view_range}
 use Rattle.pst_ast.specs.ExpressionOperators.{operators_expr, operators_unary, operators_primary, operators_path, operators_next_part, operators_maybe_index, operators_ranges, operators_range}
@@ -214,11 +214,19 @@ ranges-returns t c = ?
 
 -- src/expression.rt:189:40
 pub unary-returns-in_err-part : goal.unary-returns-in_err-part
-unary-returns-in_err-part t c = ?
+unary-returns-in_err-part t c =
+    let p = err_from_is_err_and c.from_residual.result c.from_residual.ensures.1 in
+    rw (p.1, p.2) (plain_fails c.args.tokens.now c.args.at c.args.depth c.args.before c.in_err-part.field-0.0 (search rules) c.in_err-part.ensures)
 
 -- src/expression.rt:190:9
 pub unary-returns-in_default : goal.unary-returns-in_default
-unary-returns-in_default t c = ?
+unary-returns-in_default t c = record {
+  settles = plain_given c.args.tokens.now c.args.at c.args.depth c.args.before (view_primary c.in_ok-part.part) c.in_ok-part.after (search rules) c.in_ok-part.ensures.settles;
+  after = c.in_ok-part.ensures.after;
+  inside = c.in_ok-part.ensures.inside;
+  counted = c.in_ok-part.ensures.counted;
+  within = c.in_ok-part.ensures.within;
+}
 
 -- src/expression.rt:193:9
 pub unary-returns-then-is_over : goal.unary-returns-then-is_over
