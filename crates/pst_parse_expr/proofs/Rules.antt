@@ -1,5 +1,5 @@
 -- What each rule of expressions gives, from what its parts give.
-use Rattle.std.proofs.Common.{◌≡◌, ℕ, zero, suc, ◌+◌, ◌-◌, ◌<◌, ◌≤◌, List, length, drop, refl, ap, subst, sym, arith, true, false, Some, None, Option, Ok, Err}
+use Rattle.std.proofs.Common.{[], ◌∷◌, Bool, if◌then◌else◌, length-drop, ◌≡◌, ℕ, zero, suc, ◌+◌, ◌-◌, ◌<◌, ◌≤◌, List, length, drop, refl, ap, subst, sym, arith, true, false, Some, None, Option, Ok, Err}
 use Rattle.pst_base.specs.declared.position.Place.{Place}
 use Rattle.pst_token.specs.declared.kind.Kind.TheVariants as kind
 use Rattle.pst_token.specs.declared.token.Token.{Token}
@@ -17,6 +17,7 @@ use Rattle.pst_parse_expr.specs.Operators.{prefix_of}
 use Rattle.pst_parse_expr.specs.Reading.{expr_at, prefix_by, primary_by, unary_by, index_by, maybe_index_by}
 use Rattle.pst_parse_expr.specs.Families.{level_family, range_family, index_family, unary_family, primary_family}
 use Rattle.pst_parse_expr.proofs.Loops.{expr_nested}
+use Rattle.pst_parse_expr.proofs.Tokens.{no_prefix}
 
 pub nested_fault : (tokens : List Token) (start at d b : ℕ) → start < at → at ≤ length tokens → (f : SyntaxFault) → FailsFrom (level_family 10 d b) tokens at at f → FailsFrom (λ m n. expr_at m d b) tokens start at f
 nested_fault tokens start at d b lt le (the_fault.At k) g = (expr_nested tokens start at d b (Refused (drop k tokens)) lt le g.0, g.1, g.2)
@@ -113,3 +114,20 @@ module _ (tokens : List Token) (at d b : ℕ) where
 
   pub plain_given : (p : PrimaryTree) (after : ℕ) → prefix_of (next (drop at tokens)) ≡ None → SettlesFrom (primary_family d b) tokens at at (Took p (drop after tokens)) → SettlesFrom (unary_family d b) tokens at at (Took (UnaryPrimary p) (drop after tokens))
   plain_given p after none h = unary_look none (Took (UnaryPrimary p) (drop after tokens)) (settles_both tokens at (λ m n. primary_by (expr_at m) m d b) (λ m n q. Done (UnaryPrimary q)) at after p (Took (UnaryPrimary p) (drop after tokens)) h (done tokens at after (UnaryPrimary p)))
+
+some_next : (ts : List Token) (o : PrefixOperator) → prefix_of (next ts) ≡ Some o → (t : Token) × (us : List Token) × (ts ≡ t ∷ us)
+some_next [] o e = absurd (some_none no_prefix e)
+  where
+    some_none : prefix_of None ≡ None → prefix_of None ≡ Some o → ⊥
+    some_none x y = cc
+some_next (t ∷ us) o e = (t, us, refl)
+
+pub prefix_inside : (tokens : List Token) (at : ℕ) (o : PrefixOperator) → prefix_of (next (drop at tokens)) ≡ Some o → at + 1 ≤ length tokens
+prefix_inside tokens at o e = let s = some_next (drop at tokens) o e in omega (arith, ap length s.2, length-drop at tokens)
+
+module _ (tokens : List Token) (at d b inner more : ℕ) (deeper : inner ≡ suc d) (one_more : more ≡ suc b) (o : PrefixOperator) (found : prefix_of (next (drop at tokens)) ≡ Some o) where
+  pub prefix_deep : is_over (counted inner more) ≡ true → FailsFrom (unary_family d b) tokens at at (the_fault.Deep at)
+  prefix_deep over =
+      let s = some_next (drop at tokens) o found in
+      let h : SettlesFrom (λ m n. prefix_by (primary_by (expr_at m) m) (unary_by (primary_by (expr_at m) m) n) d b (Some o)) tokens at at (TooDeep (drop at tokens)) = λ m n x y. subst (λ (u : List Token). run is_over (prefix_by (primary_by (expr_at m) m) (unary_by (primary_by (expr_at m) m) n) d b (Some o)) u ≡ TooDeep u) (sym s.2) (ap (λ (q : Bool). if q then TooDeep (s.0 ∷ s.1) else run is_over (followed_by (unary_by (primary_by (expr_at m) m) n (suc d) (suc b)) (λ operand. Done (UnaryPrefix o s.0.place operand))) s.1) (subst (λ (i : ℕ). is_over (counted i (suc b)) ≡ true) deeper (subst (λ (j : ℕ). is_over (counted inner j) ≡ true) one_more over))) in
+      (unary_look tokens at d b found (TooDeep (drop at tokens)) h, omega arith, omega (arith, prefix_inside tokens at o found))

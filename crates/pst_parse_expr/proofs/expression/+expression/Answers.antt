@@ -6,7 +6,7 @@ use Rattle.pst_ast.specs.Limits.{counted, is_over}
 use Rattle.pst_reading.specs.Parser.{Took, run, mark_by}
 use Rattle.pst_reading.specs.Gives.{SettlesFrom, FailsFrom, Expects}
 use Rattle.pst_parse_expr.proofs.Loops.{range_low_fails, single_given}
-use Rattle.pst_parse_expr.proofs.Rules.{between_given, between_fails, index_inner_fails, index_close_fails, index_given, plain_fails, plain_given}
+use Rattle.pst_parse_expr.proofs.Rules.{between_given, between_fails, index_inner_fails, index_close_fails, index_given, plain_fails, plain_given, prefix_deep, prefix_inside}
 use Rattle.std.proofs.Common.{rules, arith, ◌≡◌, ◌≤◌, ◌<◌, ◌+◌, ◌-◌, ◌⊎◌, length, drop, true, Some, IfOk, ℕ, ◌*◌, ◌/◌, ◌%◌, Bool, false, nat_eq, nat_lt, List, [], ◌∷◌, ◌++◌, slice_index_or, slice_set, bit_and, bit_or, Fits, w8, w32, w64, Bor, MutBor}
 use Rattle.pst_ast.specs.ExpressionView.{view_expr, view_unary, view_primary, view_path, view_next_part, view_ranges, view_range}
 use Rattle.pst_ast.specs.ExpressionOperators.{operators_expr, operators_unary, operators_primary, operators_path, operators_next_part, operators_maybe_index, operators_ranges, operators_range}
@@ -230,11 +230,11 @@ unary-returns-in_default t c = record {
 
 -- src/expression.rt:193:9
 pub unary-returns-then-is_over : goal.unary-returns-then-is_over
-unary-returns-then-is_over t c = ?
+unary-returns-then-is_over t c = prefix_deep c.args.tokens.now c.args.at c.args.depth c.args.before (c.args.depth + 1) (c.args.before + 1) (omega arith) (omega arith) c.in-Some.operator (search rules) (search rules)
 
 -- src/expression.rt:195:39
 pub unary-unary-requires : goal.unary-unary-requires
-unary-unary-requires t c = ?
+unary-unary-requires t c = let w = prefix_inside c.args.tokens.now c.args.at c.in-Some.operator (search rules) in search (rules, arith, w)
 
 -- src/expression.rt:195:39
 pub unary-returns-in_err-operand : goal.unary-returns-in_err-operand
