@@ -1,23 +1,25 @@
 -- What each rule of expressions gives, from what its parts give.
-use Rattle.std.proofs.Common.{[], ◌∷◌, Bool, if◌then◌else◌, length-drop, ◌≡◌, ℕ, zero, suc, ◌+◌, ◌-◌, ◌<◌, ◌≤◌, List, length, drop, refl, ap, subst, sym, arith, true, false, Some, None, Option, Ok, Err}
+use Rattle.std.proofs.Common.{[], ◌∷◌, Bool, if◌then◌else◌, length-drop, ◌≡◌, ℕ, zero, suc, ◌+◌, ◌-◌, ◌<◌, ◌≤◌, List, length, drop, refl, ap, subst, sym, ◌∙◌, arith, true, false, Some, None, Option, Ok, Err}
 use Rattle.pst_base.specs.declared.position.Place.{Place}
 use Rattle.pst_token.specs.declared.kind.Kind.TheVariants as kind
 use Rattle.pst_token.specs.declared.token.Token.{Token}
 use Rattle.pst_ast.specs.declared.fault.SyntaxFault.{SyntaxFault}
 use Rattle.pst_ast.specs.declared.fault.SyntaxFault.TheVariants as the_fault
-use Rattle.pst_ast.specs.ExpressionTree.{ExprTree, UnaryTree, UnaryPrefix, UnaryPrimary, PrimaryTree, MakeIndex, IndexTree, MaybeIndex, NoIndex, SomeIndex, RangeTree, RangeSingle, RangeBetween}
+use Rattle.pst_ast.specs.ExpressionTree.{ExprTree, ExprUnary, UnaryTree, UnaryPrefix, UnaryPrimary, PrimaryTree, MakeIndex, IndexTree, MaybeIndex, NoIndex, SomeIndex, RangeTree, RangeSingle, RangeBetween}
 use Rattle.pst_ast.specs.ExpressionOperators.{operators_expr}
 use Rattle.pst_ast.specs.Limits.{counted, is_over}
 use Rattle.pst_reading.specs.Kinds.{is_mark, next_is}
-use Rattle.pst_reading.specs.Parser.{Parser, Done, Outcome, Took, Refused, TooDeep, run, next, mark_by, if_mark, ◌>>=◌, followed_by}
+use Rattle.pst_reading.specs.Parser.{Parser, and_then, Done, Outcome, Took, Refused, TooDeep, run, next, mark_by, if_mark, ◌>>=◌, followed_by}
 use Rattle.pst_reading.specs.Gives.{Family, SettlesFrom, FailsFrom, Expects}
 use Rattle.pst_reading.proofs.Giving.{settles_both, fails_first, fails_then, settles_choice, fails_choice, token_given, token_fails, done}
 use Rattle.pst_ast.specs.declared.leaf.PrefixOperator.{PrefixOperator}
 use Rattle.pst_parse_expr.specs.Operators.{prefix_of}
 use Rattle.pst_parse_expr.specs.Reading.{expr_at, prefix_by, primary_by, unary_by, index_by, maybe_index_by}
-use Rattle.pst_parse_expr.specs.Families.{level_family, range_family, index_family, unary_family, primary_family}
+use Rattle.pst_parse_expr.specs.Families.{level_family, range_family, index_family, unary_family, unary_within, primary_family}
 use Rattle.pst_parse_expr.proofs.Loops.{expr_nested}
 use Rattle.pst_parse_expr.proofs.Tokens.{no_prefix}
+use Rattle.pst_reading.proofs.Becoming.{run_followed}
+use Rattle.pst_reading.proofs.Whole.{drop_more}
 
 pub nested_fault : (tokens : List Token) (start at d b : ℕ) → start < at → at ≤ length tokens → (f : SyntaxFault) → FailsFrom (level_family 10 d b) tokens at at f → FailsFrom (λ m n. expr_at m d b) tokens start at f
 nested_fault tokens start at d b lt le (the_fault.At k) g = (expr_nested tokens start at d b (Refused (drop k tokens)) lt le g.0, g.1, g.2)
@@ -131,3 +133,48 @@ module _ (tokens : List Token) (at d b inner more : ℕ) (deeper : inner ≡ suc
       let s = some_next (drop at tokens) o found in
       let h : SettlesFrom (λ m n. prefix_by (primary_by (expr_at m) m) (unary_by (primary_by (expr_at m) m) n) d b (Some o)) tokens at at (TooDeep (drop at tokens)) = λ m n x y. subst (λ (u : List Token). run is_over (prefix_by (primary_by (expr_at m) m) (unary_by (primary_by (expr_at m) m) n) d b (Some o)) u ≡ TooDeep u) (sym s.2) (ap (λ (q : Bool). if q then TooDeep (s.0 ∷ s.1) else run is_over (followed_by (unary_by (primary_by (expr_at m) m) n (suc d) (suc b)) (λ operand. Done (UnaryPrefix o s.0.place operand))) s.1) (subst (λ (i : ℕ). is_over (counted i (suc b)) ≡ true) deeper (subst (λ (j : ℕ). is_over (counted inner j) ≡ true) one_more over))) in
       (unary_look tokens at d b found (TooDeep (drop at tokens)) h, omega arith, omega (arith, prefix_inside tokens at o found))
+
+  -- the part behind the operator
+  nested_unary : (x : Outcome UnaryTree) → SettlesFrom (unary_family inner more) tokens (at + 1) (at + 1) x → (m n : ℕ) → length tokens ≤ m + at → length tokens ≤ n + at → run is_over (unary_by (primary_by (expr_at m) m) n inner more) (drop (at + 1) tokens) ≡ x
+  nested_unary x h m zero p q = absurd (omega (arith, q, prefix_inside tokens at o found))
+  nested_unary x h m (suc n) p q = h m n (omega (arith, p)) (omega (arith, q))
+
+  -- the whole runs as its part does
+  module _ (free : is_over (counted inner more) ≡ false) where
+    over_free : is_over (counted (suc d) (suc b)) ≡ false
+    over_free = subst (λ (i : ℕ). is_over (counted i (suc b)) ≡ false) deeper (subst (λ (j : ℕ). is_over (counted inner j) ≡ false) one_more free)
+
+    first_token : (t : Token) × (us : List Token) × (drop at tokens ≡ t ∷ us)
+    first_token = some_next (drop at tokens) o found
+
+    behind_first : drop (at + 1) tokens ≡ first_token.1
+    behind_first = ap (λ (k : ℕ). drop k tokens) (let e : at + 1 ≡ suc at = omega arith in e) ∙ drop_more at tokens first_token.0 first_token.1 first_token.2
+
+    prefix_runs : (x : Outcome UnaryTree) → SettlesFrom (unary_family inner more) tokens (at + 1) (at + 1) x → SettlesFrom (unary_family d b) tokens at at (and_then x (λ u rest. Took (UnaryPrefix o first_token.0.place u) rest))
+    prefix_runs x h = unary_look tokens at d b found (and_then x (λ u rest. Took (UnaryPrefix o first_token.0.place u) rest)) (λ m n p q. go m n p q)
+      where
+        go : (m n : ℕ) → length tokens ≤ m + at → length tokens ≤ n + at → run is_over (prefix_by (primary_by (expr_at m) m) (unary_by (primary_by (expr_at m) m) n) d b (Some o)) (drop at tokens) ≡ and_then x (λ u rest. Took (UnaryPrefix o first_token.0.place u) rest)
+        go m n p q =
+            let U = unary_by (primary_by (expr_at m) m) n in
+            let inner_run : run is_over (U (suc d) (suc b)) first_token.1 ≡ x = subst (λ (i : ℕ). run is_over (U i (suc b)) first_token.1 ≡ x) deeper (subst (λ (j : ℕ). run is_over (U inner j) first_token.1 ≡ x) one_more (subst (λ (v : List Token). run is_over (U inner more) v ≡ x) behind_first (nested_unary x h m n p q))) in
+            let part : run is_over (followed_by (U (suc d) (suc b)) (λ operand. Done (UnaryPrefix o first_token.0.place operand))) first_token.1 ≡ and_then x (λ u rest. Took (UnaryPrefix o first_token.0.place u) rest) = run_followed is_over (U (suc d) (suc b)) (λ operand. Done (UnaryPrefix o first_token.0.place operand)) first_token.1 ∙ ap (λ (y : Outcome UnaryTree). and_then y (λ u rest. Took (UnaryPrefix o first_token.0.place u) rest)) inner_run in
+            subst (λ (v : List Token). run is_over (prefix_by (primary_by (expr_at m) m) U d b (Some o)) v ≡ and_then x (λ u rest. Took (UnaryPrefix o first_token.0.place u) rest)) (sym first_token.2)
+            (ap (λ (c : Bool). if c then TooDeep (first_token.0 ∷ first_token.1) else run is_over (followed_by (U (suc d) (suc b)) (λ operand. Done (UnaryPrefix o first_token.0.place operand))) first_token.1) over_free ∙ part)
+
+    pub prefix_fails : (e : SyntaxFault) → FailsFrom (unary_family inner more) tokens (at + 1) (at + 1) e → FailsFrom (unary_family d b) tokens at at e
+    prefix_fails (the_fault.At k) g = (prefix_runs (Refused (drop k tokens)) g.0, omega (arith, g.1), g.2)
+    prefix_fails (the_fault.Deep k) g = (prefix_runs (TooDeep (drop k tokens)) g.0, omega (arith, g.1), g.2)
+    prefix_fails the_fault.NoMemory g = tt
+
+-- ---- the tightest level
+
+pub zero_fails : (tokens : List Token) (at d b above : ℕ) → above ≡ 0 → (e : SyntaxFault) → FailsFrom (unary_family d b) tokens at at e → FailsFrom (level_family above d b) tokens at at e
+zero_fails tokens at d b above none e h = subst (λ (k : ℕ). FailsFrom (level_family k d b) tokens at at e) (sym none) (fails_first tokens at (λ m n. unary_within m d b) (λ m n u. Done (ExprUnary u)) at e (same e h))
+  where
+    same : (f : SyntaxFault) → FailsFrom (unary_family d b) tokens at at f → FailsFrom (λ m n. unary_within m d b) tokens at at f
+    same (the_fault.At k) g = (λ m n p q. g.0 m m p p, g.1, g.2)
+    same (the_fault.Deep k) g = (λ m n p q. g.0 m m p p, g.1, g.2)
+    same the_fault.NoMemory g = tt
+
+pub zero_given : (tokens : List Token) (at d b above : ℕ) → above ≡ 0 → (u : UnaryTree) (after : ℕ) → SettlesFrom (unary_family d b) tokens at at (Took u (drop after tokens)) → SettlesFrom (level_family above d b) tokens at at (Took (ExprUnary u) (drop after tokens))
+zero_given tokens at d b above none u after h = subst (λ (k : ℕ). SettlesFrom (level_family k d b) tokens at at (Took (ExprUnary u) (drop after tokens))) (sym none) (settles_both tokens at (λ m n. unary_within m d b) (λ m n x. Done (ExprUnary x)) at after u (Took (ExprUnary u) (drop after tokens)) (λ m n p q. h m m p p) (done tokens at after (ExprUnary u)))

@@ -50,7 +50,7 @@ one_more : (xs : List Token) → 1 ≤ length xs → (t : Token) × (later : Lis
 one_more [] le = absurd (omega (arith, le))
 one_more (t ∷ xs) le = (t, xs, refl)
 
-drop_more : (n : ℕ) (xs : List Token) (t : Token) (rest : List Token) → drop n xs ≡ t ∷ rest → drop (suc n) xs ≡ rest
+pub drop_more : (n : ℕ) (xs : List Token) (t : Token) (rest : List Token) → drop n xs ≡ t ∷ rest → drop (suc n) xs ≡ rest
 drop_more zero [] t rest f = absurd cc
 drop_more zero (x ∷ xs) t rest f = cc
 drop_more (suc n) [] t rest f = absurd cc

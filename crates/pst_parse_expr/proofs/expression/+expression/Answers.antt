@@ -6,7 +6,7 @@ use Rattle.pst_ast.specs.Limits.{counted, is_over}
 use Rattle.pst_reading.specs.Parser.{Took, run, mark_by}
 use Rattle.pst_reading.specs.Gives.{SettlesFrom, FailsFrom, Expects}
 use Rattle.pst_parse_expr.proofs.Loops.{range_low_fails, single_given}
-use Rattle.pst_parse_expr.proofs.Rules.{between_given, between_fails, index_inner_fails, index_close_fails, index_given, plain_fails, plain_given, prefix_deep, prefix_inside}
+use Rattle.pst_parse_expr.proofs.Rules.{between_given, between_fails, index_inner_fails, index_close_fails, index_given, plain_fails, plain_given, prefix_deep, prefix_inside, prefix_fails, zero_fails, zero_given}
 use Rattle.std.proofs.Common.{rules, arith, ◌≡◌, ◌≤◌, ◌<◌, ◌+◌, ◌-◌, ◌⊎◌, length, drop, true, Some, IfOk, ℕ, ◌*◌, ◌/◌, ◌%◌, Bool, false, nat_eq, nat_lt, List, [], ◌∷◌, ◌++◌, slice_index_or, slice_set, bit_and, bit_or, Fits, w8, w32, w64, Bor, MutBor}
 use Rattle.pst_ast.specs.ExpressionView.{view_expr, view_unary, view_primary, view_path, view_next_part, view_ranges, view_range}
 use Rattle.pst_ast.specs.ExpressionOperators.{operators_expr, operators_unary, operators_primary, operators_path, operators_next_part, operators_maybe_index, operators_ranges, operators_range}
@@ -43,11 +43,19 @@ index-returns t c = record {
 
 -- src/expression.rt:42:40
 pub level-returns-in_err-part : goal.level-returns-in_err-part
-level-returns-in_err-part t c = ?
+level-returns-in_err-part t c =
+    let p = err_from_is_err_and c.from_residual.result c.from_residual.ensures.1 in
+    rw (p.1, p.2) (zero_fails c.args.tokens.now c.args.at c.args.depth c.args.before c.args.above (search rules) c.in_err-part.field-0.0 c.in_err-part.ensures)
 
 -- src/expression.rt:43:9
 pub level-returns-then-above-eq0 : goal.level-returns-then-above-eq0
-level-returns-then-above-eq0 t c = ?
+level-returns-then-above-eq0 t c = record {
+  settles = zero_given c.args.tokens.now c.args.at c.args.depth c.args.before c.args.above (search rules) (view_unary c.in_ok-part.part) c.in_ok-part.after c.in_ok-part.ensures.settles;
+  after = c.in_ok-part.ensures.after;
+  inside = c.in_ok-part.ensures.inside;
+  counted = c.in_ok-part.ensures.counted;
+  within = c.in_ok-part.ensures.within;
+}
 
 -- src/expression.rt:45:44
 pub level-returns-in_err-left : goal.level-returns-in_err-left
@@ -238,7 +246,9 @@ unary-unary-requires t c = let w = prefix_inside c.args.tokens.now c.args.at c.i
 
 -- src/expression.rt:195:39
 pub unary-returns-in_err-operand : goal.unary-returns-in_err-operand
-unary-returns-in_err-operand t c = ?
+unary-returns-in_err-operand t c =
+    let p = err_from_is_err_and c.from_residual-in_err-operand.result c.from_residual-in_err-operand.ensures.1 in
+    rw (p.1, p.2) (prefix_fails c.args.tokens.now c.args.at c.args.depth c.args.before (c.args.depth + 1) (c.args.before + 1) (omega arith) (omega arith) c.in-Some.operator (search rules) (search rules) c.in_err-operand.field-0.0 c.in_err-operand.ensures)
 
 -- src/expression.rt:175:1
 pub unary-returns : goal.unary-returns
