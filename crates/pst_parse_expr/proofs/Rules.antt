@@ -5,17 +5,22 @@ use Rattle.pst_token.specs.declared.kind.Kind.TheVariants as kind
 use Rattle.pst_token.specs.declared.token.Token.{Token}
 use Rattle.pst_ast.specs.declared.fault.SyntaxFault.{SyntaxFault}
 use Rattle.pst_ast.specs.declared.fault.SyntaxFault.TheVariants as the_fault
-use Rattle.pst_ast.specs.ExpressionTree.{ExprTree, ExprUnary, UnaryTree, UnaryPrefix, UnaryPrimary, PrimaryTree, MakeIndex, IndexTree, MaybeIndex, NoIndex, SomeIndex, RangeTree, RangeSingle, RangeBetween}
-use Rattle.pst_ast.specs.ExpressionOperators.{operators_expr}
+use Rattle.pst_ast.specs.declared.leaf.Name.{Name}
+use Rattle.pst_ast.specs.declared.expression.IndexNode.{IndexNode}
+use Rattle.pst_ast.specs.declared.expression.PartNode.{PartNode, roll-PartNode}
+use Rattle.pst_ast.specs.declared.expression.NextPart.{roll-NextPart}
+use Rattle.pst_ast.specs.ExpressionView.{view_part, view_next_part}
+use Rattle.pst_ast.specs.ExpressionTree.{PartTree, MakePart, NextPartTree, MakeNextPart, ExprTree, ExprUnary, UnaryTree, UnaryPrefix, UnaryPrimary, PrimaryTree, MakeIndex, IndexTree, MaybeIndex, NoIndex, SomeIndex, RangeTree, RangeSingle, RangeBetween}
+use Rattle.pst_ast.specs.ExpressionOperators.{operators_expr, operators_part, operators_maybe_index}
 use Rattle.pst_ast.specs.Limits.{counted, is_over}
 use Rattle.pst_reading.specs.Kinds.{is_mark, next_is}
-use Rattle.pst_reading.specs.Parser.{Parser, and_then, Done, Outcome, Took, Refused, TooDeep, run, next, mark_by, if_mark, ◌>>=◌, followed_by}
+use Rattle.pst_reading.specs.Parser.{Parser, and_then, Done, Outcome, Took, Refused, TooDeep, run, next, mark_by, name_by, if_mark, ◌>>=◌, followed_by}
 use Rattle.pst_reading.specs.Gives.{Family, SettlesFrom, FailsFrom, Expects}
-use Rattle.pst_reading.proofs.Giving.{settles_both, fails_first, fails_then, settles_choice, fails_choice, token_given, token_fails, done}
+use Rattle.pst_reading.proofs.Giving.{settles_both, fails_first, fails_then, settles_choice, fails_choice, token_given, token_fails, done, later, later_fault}
 use Rattle.pst_ast.specs.declared.leaf.PrefixOperator.{PrefixOperator}
 use Rattle.pst_parse_expr.specs.Operators.{prefix_of}
 use Rattle.pst_parse_expr.specs.Reading.{expr_at, prefix_by, primary_by, unary_by, index_by, maybe_index_by}
-use Rattle.pst_parse_expr.specs.Families.{level_family, range_family, index_family, unary_family, unary_within, primary_family}
+use Rattle.pst_parse_expr.specs.Families.{level_family, range_family, index_family, unary_family, unary_within, primary_family, next_part_family, view_index_option}
 use Rattle.pst_parse_expr.proofs.Loops.{expr_nested}
 use Rattle.pst_parse_expr.proofs.Tokens.{no_prefix}
 use Rattle.pst_reading.proofs.Becoming.{run_followed}
@@ -178,3 +183,38 @@ zero_fails tokens at d b above none e h = subst (λ (k : ℕ). FailsFrom (level_
 
 pub zero_given : (tokens : List Token) (at d b above : ℕ) → above ≡ 0 → (u : UnaryTree) (after : ℕ) → SettlesFrom (unary_family d b) tokens at at (Took u (drop after tokens)) → SettlesFrom (level_family above d b) tokens at at (Took (ExprUnary u) (drop after tokens))
 zero_given tokens at d b above none u after h = subst (λ (k : ℕ). SettlesFrom (level_family k d b) tokens at at (Took (ExprUnary u) (drop after tokens))) (sym none) (settles_both tokens at (λ m n. unary_within m d b) (λ m n x. Done (ExprUnary x)) at after u (Took (ExprUnary u) (drop after tokens)) (λ m n p q. h m m p p) (done tokens at after (ExprUnary u)))
+
+-- ---- a name behind a dot
+
+part_view : (name : Name) (index : Option IndexNode) → view_part (roll-PartNode (record { name = name; index = index })) ≡ MakePart name (view_index_option index)
+unfolding roll-PartNode denote.Hole.Carrier.roll
+part_view name None = refl
+part_view name (Some i) = refl
+
+pub next_view : (dot : Place) (part : PartNode) → view_next_part (roll-NextPart (record { dot = dot; part = part })) ≡ MakeNextPart dot (view_part part)
+unfolding roll-NextPart denote.Hole.Carrier.roll
+next_view dot part = refl
+
+module _ (tokens : List Token) (at d b : ℕ) (dot : Place) (dotted : run is_over (mark_by kind.Dot (counted d b)) (drop at tokens) ≡ Took dot (drop (at + 1) tokens)) (name : Name) (named : run is_over (name_by (counted d b)) (drop (at + 1) tokens) ≡ Took name (drop (at + 1 + 1) tokens)) where
+  abbrev part_index : ℕ → Place → Name → Parser NextPartTree
+  part_index m p x = followed_by (maybe_index_by (expr_at m) d b) (λ i. Done (MakeNextPart p (MakePart x i)))
+
+  abbrev part_name : ℕ → Place → Parser NextPartTree
+  part_name m p = followed_by (name_by (counted d b)) (part_index m p)
+
+  pub next_part_fails : (e : SyntaxFault) → FailsFrom (index_family d b) tokens (at + 1 + 1) (at + 1 + 1) e → FailsFrom (next_part_family d b) tokens at at e
+  next_part_fails e h =
+      fails_then tokens at (λ m n. mark_by kind.Dot (counted d b)) (λ m n. part_name m) at (at + 1) dot e (omega arith) (token_given tokens at (mark_by kind.Dot (counted d b)) at dot dotted)
+      (fails_then tokens at (λ m n. name_by (counted d b)) (λ m n. part_index m dot) (at + 1) (at + 1 + 1) name e (omega arith) (token_given tokens at (name_by (counted d b)) (at + 1) name named)
+      (fails_first tokens at (index_family d b) (λ m n i. Done (MakeNextPart dot (MakePart name i))) (at + 1 + 1) e (later_fault tokens at (index_family d b) (at + 1 + 1) e (omega arith) h)))
+
+  pub next_part_given : (index : Option IndexNode) (after : ℕ) → SettlesFrom (index_family d b) tokens (at + 1 + 1) (at + 1 + 1) (Took (view_index_option index) (drop after tokens)) → SettlesFrom (next_part_family d b) tokens at at (Took (MakeNextPart dot (view_part (roll-PartNode (record { name = name; index = index })))) (drop after tokens))
+  next_part_given index after h =
+      let tree = MakeNextPart dot (MakePart name (view_index_option index)) in
+      subst (λ (p : PartTree). SettlesFrom (next_part_family d b) tokens at at (Took (MakeNextPart dot p) (drop after tokens))) (sym (part_view name index))
+      (settles_both tokens at (λ m n. mark_by kind.Dot (counted d b)) (λ m n. part_name m) at (at + 1) dot (Took tree (drop after tokens)) (token_given tokens at (mark_by kind.Dot (counted d b)) at dot dotted)
+      (settles_both tokens at (λ m n. name_by (counted d b)) (λ m n. part_index m dot) (at + 1) (at + 1 + 1) name (Took tree (drop after tokens)) (token_given tokens at (name_by (counted d b)) (at + 1) name named)
+      (settles_both tokens at (index_family d b) (λ m n i. Done (MakeNextPart dot (MakePart name i))) (at + 1 + 1) after (view_index_option index) (Took tree (drop after tokens)) (later tokens at (index_family d b) (at + 1 + 1) (Took (view_index_option index) (drop after tokens)) (omega arith) h) (done tokens at after tree))))
+
+  pub next_part_counts : (index : Option IndexNode) → operators_part (view_part (roll-PartNode (record { name = name; index = index }))) ≡ operators_maybe_index (view_index_option index)
+  next_part_counts index = ap operators_part (part_view name index)

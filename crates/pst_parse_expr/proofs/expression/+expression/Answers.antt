@@ -6,7 +6,7 @@ use Rattle.pst_ast.specs.Limits.{counted, is_over}
 use Rattle.pst_reading.specs.Parser.{Took, run, mark_by}
 use Rattle.pst_reading.specs.Gives.{SettlesFrom, FailsFrom, Expects}
 use Rattle.pst_parse_expr.proofs.Loops.{range_low_fails, single_given}
-use Rattle.pst_parse_expr.proofs.Rules.{between_given, between_fails, index_inner_fails, index_close_fails, index_given, plain_fails, plain_given, prefix_deep, prefix_inside, prefix_fails, zero_fails, zero_given}
+use Rattle.pst_parse_expr.proofs.Rules.{between_given, between_fails, index_inner_fails, index_close_fails, index_given, plain_fails, plain_given, prefix_deep, prefix_inside, prefix_fails, zero_fails, zero_given, next_part_fails, next_part_given, next_part_counts, next_view}
 use Rattle.std.proofs.Common.{rules, arith, ◌≡◌, ◌≤◌, ◌<◌, ◌+◌, ◌-◌, ◌⊎◌, length, drop, true, Some, IfOk, ℕ, ◌*◌, ◌/◌, ◌%◌, Bool, false, nat_eq, nat_lt, List, [], ◌∷◌, ◌++◌, slice_index_or, slice_set, bit_and, bit_or, Fits, w8, w32, w64, Bor, MutBor}
 use Rattle.pst_ast.specs.ExpressionView.{view_expr, view_unary, view_primary, view_path, view_next_part, view_ranges, view_range}
 use Rattle.pst_ast.specs.ExpressionOperators.{operators_expr, operators_unary, operators_primary, operators_path, operators_next_part, operators_maybe_index, operators_ranges, operators_range}
@@ -91,11 +91,22 @@ membership-returns t c = ?
 
 -- src/expression.rt:330:37
 pub next_part-returns-in_err-index : goal.next_part-returns-in_err-index
-next_part-returns-in_err-index t c = ?
+next_part-returns-in_err-index t c =
+    let p = err_from_is_err_and c.from_residual-in_err-index.result c.from_residual-in_err-index.ensures.1 in
+    let e : c.args.at + 2 ≡ c.args.at + 1 + 1 = omega arith in
+    rw (p.1, p.2) (next_part_fails c.args.tokens.now c.args.at c.args.depth c.args.before c.in_ok-dot.dot c.in_ok-dot.ensures.reads.0 c.in_ok-name.name c.in_ok-name.ensures.reads.0 c.in_err-index.field-0.0 (subst (λ (k : ℕ). FailsFrom (index_family c.args.depth c.args.before) c.args.tokens.now k k c.in_err-index.field-0.0) e c.in_err-index.ensures))
 
 -- src/expression.rt:315:1
 pub next_part-returns : goal.next_part-returns
-next_part-returns t c = ?
+next_part-returns t c = record {
+  settles =
+      let e : c.args.at + 2 ≡ c.args.at + 1 + 1 = omega arith in
+      rw next_view (next_part_given c.args.tokens.now c.args.at c.args.depth c.args.before c.in_ok-dot.dot c.in_ok-dot.ensures.reads.0 c.in_ok-name.name c.in_ok-name.ensures.reads.0 c.in_ok-index.index c.in_ok-index.after (subst (λ (k : ℕ). SettlesFrom (index_family c.args.depth c.args.before) c.args.tokens.now k k (Took (view_index_option c.in_ok-index.index) (drop c.in_ok-index.after c.args.tokens.now))) e c.in_ok-index.ensures.settles));
+  after = omega (arith, c.in_ok-index.ensures.after);
+  inside = c.in_ok-index.ensures.inside;
+  counted = rw next_view (omega (arith, c.in_ok-index.ensures.counted, next_part_counts c.args.tokens.now c.args.at c.args.depth c.args.before c.in_ok-dot.dot c.in_ok-dot.ensures.reads.0 c.in_ok-name.name c.in_ok-name.ensures.reads.0 c.in_ok-index.index));
+  within = c.in_ok-index.ensures.within;
+}
 
 -- src/expression.rt:77:9
 pub operation-returns-in_default : goal.operation-returns-in_default
