@@ -1,5 +1,5 @@
 -- What each rule of expressions gives, from what its parts give.
-use Rattle.std.proofs.Common.{[], ◌∷◌, Bool, if◌then◌else◌, length-drop, ◌≡◌, ℕ, zero, suc, ◌+◌, ◌-◌, ◌<◌, ◌≤◌, List, length, drop, refl, ap, subst, sym, ◌∙◌, arith, true, false, Some, None, Option, Ok, Err}
+use Rattle.std.proofs.Common.{slice_index_or, [], ◌∷◌, Bool, if◌then◌else◌, length-drop, ◌≡◌, ℕ, zero, suc, ◌+◌, ◌-◌, ◌<◌, ◌≤◌, List, length, drop, refl, ap, subst, sym, ◌∙◌, arith, true, false, Some, None, Option, Ok, Err}
 use Rattle.pst_base.specs.declared.position.Place.{Place}
 use Rattle.pst_token.specs.declared.kind.Kind.TheVariants as kind
 use Rattle.pst_token.specs.declared.token.Token.{Token}
@@ -105,6 +105,12 @@ module _ (tokens : List Token) (at d b inner : ℕ) (deeper : inner ≡ suc d) (
 pub no_index_given : (tokens : List Token) (at d b : ℕ) → next_is (is_mark kind.LeftBracket) (next (drop at tokens)) ≡ false → SettlesFrom (index_family d b) tokens at at (Took NoIndex (drop at tokens))
 no_index_given tokens at d b absent = settles_choice tokens at kind.LeftBracket (λ m n. followed_by (index_by (expr_at m) d b) (λ i. Done (SomeIndex i))) (λ m n. Done NoIndex) at (Took NoIndex (drop at tokens)) false absent (done tokens at at NoIndex)
 
+slice_at : (ts : List Token) (n : ℕ) (t : Token) (us : List Token) (default : Token) → drop n ts ≡ t ∷ us → slice_index_or ts n default ≡ t
+slice_at [] zero t us default e = absurd cc
+slice_at [] (suc n) t us default e = absurd cc
+slice_at (x ∷ xs) zero t us default e = cc
+slice_at (x ∷ xs) (suc n) t us default e = slice_at xs n t us default e
+
 -- ---- operators before a part
 
 module _ (tokens : List Token) (at d b : ℕ) where
@@ -170,6 +176,9 @@ module _ (tokens : List Token) (at d b inner more : ℕ) (deeper : inner ≡ suc
     prefix_fails (the_fault.At k) g = (prefix_runs (Refused (drop k tokens)) g.0, omega (arith, g.1), g.2)
     prefix_fails (the_fault.Deep k) g = (prefix_runs (TooDeep (drop k tokens)) g.0, omega (arith, g.1), g.2)
     prefix_fails the_fault.NoMemory g = tt
+
+    pub prefix_given : (u : UnaryTree) (after : ℕ) (default : Token) → SettlesFrom (unary_family inner more) tokens (at + 1) (at + 1) (Took u (drop after tokens)) → SettlesFrom (unary_family d b) tokens at at (Took (UnaryPrefix o (slice_index_or tokens at default).place u) (drop after tokens))
+    prefix_given u after default h = subst (λ (t : Token). SettlesFrom (unary_family d b) tokens at at (Took (UnaryPrefix o t.place u) (drop after tokens))) (sym (slice_at tokens at first_token.0 first_token.1 default first_token.2)) (prefix_runs (Took u (drop after tokens)) h)
 
 -- ---- the tightest level
 

@@ -6,7 +6,7 @@ use Rattle.pst_ast.specs.Limits.{counted, is_over}
 use Rattle.pst_reading.specs.Parser.{Took, run, mark_by}
 use Rattle.pst_reading.specs.Gives.{SettlesFrom, FailsFrom, Expects}
 use Rattle.pst_parse_expr.proofs.Loops.{range_low_fails, single_given}
-use Rattle.pst_parse_expr.proofs.Rules.{between_given, between_fails, index_inner_fails, index_close_fails, index_given, plain_fails, plain_given, prefix_deep, prefix_inside, prefix_fails, zero_fails, zero_given, next_part_fails, next_part_given, next_part_counts, next_view}
+use Rattle.pst_parse_expr.proofs.Rules.{between_given, between_fails, index_inner_fails, index_close_fails, index_given, plain_fails, plain_given, prefix_deep, prefix_inside, prefix_fails, prefix_given, zero_fails, zero_given, next_part_fails, next_part_given, next_part_counts, next_view}
 use Rattle.std.proofs.Common.{rules, arith, ◌≡◌, ◌≤◌, ◌<◌, ◌+◌, ◌-◌, ◌⊎◌, length, drop, true, Some, IfOk, ℕ, ◌*◌, ◌/◌, ◌%◌, Bool, false, nat_eq, nat_lt, List, [], ◌∷◌, ◌++◌, slice_index_or, slice_set, bit_and, bit_or, Fits, w8, w32, w64, Bor, MutBor}
 use Rattle.pst_ast.specs.ExpressionView.{view_expr, view_unary, view_primary, view_path, view_next_part, view_ranges, view_range}
 use Rattle.pst_ast.specs.ExpressionOperators.{operators_expr, operators_unary, operators_primary, operators_path, operators_next_part, operators_maybe_index, operators_ranges, operators_range}
@@ -263,4 +263,10 @@ unary-returns-in_err-operand t c =
 
 -- src/expression.rt:175:1
 pub unary-returns : goal.unary-returns
-unary-returns t c = ?
+unary-returns t c = record {
+  settles = rw c.in_ok-boxed.ensures.ok (prefix_given c.args.tokens.now c.args.at c.args.depth c.args.before (c.args.depth + 1) (c.args.before + 1) (omega arith) (omega arith) c.in-Some.operator (search rules) (search rules) (view_unary c.in_ok-operand.operand) c.in_ok-operand.after _ c.in_ok-operand.ensures.settles);
+  after = omega (arith, c.in_ok-operand.ensures.after);
+  inside = c.in_ok-operand.ensures.inside;
+  counted = rw c.in_ok-boxed.ensures.ok (omega (arith, c.in_ok-operand.ensures.counted));
+  within = c.in_ok-operand.ensures.within;
+}
