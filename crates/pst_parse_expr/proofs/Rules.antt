@@ -10,17 +10,17 @@ use Rattle.pst_ast.specs.declared.expression.IndexNode.{IndexNode}
 use Rattle.pst_ast.specs.declared.expression.PartNode.{PartNode, roll-PartNode}
 use Rattle.pst_ast.specs.declared.expression.NextPart.{roll-NextPart}
 use Rattle.pst_ast.specs.ExpressionView.{view_part, view_next_part}
-use Rattle.pst_ast.specs.ExpressionTree.{PartTree, MakePart, NextPartTree, MakeNextPart, ExprTree, ExprUnary, UnaryTree, UnaryPrefix, UnaryPrimary, PrimaryTree, MakeIndex, IndexTree, MaybeIndex, NoIndex, SomeIndex, RangeTree, RangeSingle, RangeBetween}
+use Rattle.pst_ast.specs.ExpressionTree.{PartTree, MakePart, NextPartTree, MakeNextPart, ExprTree, ExprUnary, UnaryTree, UnaryPrefix, UnaryPrimary, PrimaryTree, PrimaryTrue, PrimaryFalse, PrimaryPath, PathTree, MakeIndex, IndexTree, MaybeIndex, NoIndex, SomeIndex, RangeTree, RangeSingle, RangeBetween}
 use Rattle.pst_ast.specs.ExpressionOperators.{operators_expr, operators_part, operators_maybe_index}
 use Rattle.pst_ast.specs.Limits.{counted, is_over}
-use Rattle.pst_reading.specs.Kinds.{is_mark, next_is}
+use Rattle.pst_reading.specs.Kinds.{is_mark, is_number, next_is}
 use Rattle.pst_reading.specs.Parser.{Parser, and_then, Done, Outcome, Took, Refused, TooDeep, run, next, mark_by, name_by, if_mark, ◌>>=◌, followed_by}
 use Rattle.pst_reading.specs.Gives.{Family, SettlesFrom, FailsFrom, Expects}
 use Rattle.pst_reading.proofs.Giving.{settles_both, fails_first, fails_then, settles_choice, fails_choice, token_given, token_fails, done, later, later_fault}
 use Rattle.pst_ast.specs.declared.leaf.PrefixOperator.{PrefixOperator}
 use Rattle.pst_parse_expr.specs.Operators.{prefix_of}
-use Rattle.pst_parse_expr.specs.Reading.{expr_at, prefix_by, primary_by, unary_by, index_by, maybe_index_by}
-use Rattle.pst_parse_expr.specs.Families.{level_family, range_family, index_family, unary_family, unary_within, primary_family, next_part_family, view_index_option}
+use Rattle.pst_parse_expr.specs.Reading.{path_by, group_by, number_by, expr_at, prefix_by, primary_by, unary_by, index_by, maybe_index_by}
+use Rattle.pst_parse_expr.specs.Families.{level_family, range_family, index_family, unary_family, unary_within, primary_family, path_family, next_part_family, view_index_option}
 use Rattle.pst_parse_expr.proofs.Loops.{expr_nested}
 use Rattle.pst_parse_expr.proofs.Tokens.{no_prefix}
 use Rattle.pst_reading.proofs.Becoming.{run_followed}
@@ -227,3 +227,24 @@ module _ (tokens : List Token) (at d b : ℕ) (dot : Place) (dotted : run is_ove
 
   pub next_part_counts : (index : Option IndexNode) → operators_part (view_part (roll-PartNode (record { name = name; index = index }))) ≡ operators_maybe_index (view_index_option index)
   next_part_counts index = ap operators_part (part_view name index)
+
+-- ---- a part that is a path
+
+module _ (tokens : List Token) (at d b : ℕ) (no_number : next_is is_number (next (drop at tokens)) ≡ false) (no_group : next_is (is_mark kind.LeftParenthesis) (next (drop at tokens)) ≡ false) (no_true : next_is (is_mark kind.True) (next (drop at tokens)) ≡ false) (no_false : next_is (is_mark kind.False) (next (drop at tokens)) ≡ false) where
+  abbrev path_part : ℕ → Parser PrimaryTree
+  path_part m = followed_by (path_by (expr_at m) m d b) (λ path. Done (PrimaryPath path))
+
+  primary_path : (x : Outcome PrimaryTree) → SettlesFrom (λ m n. path_part m) tokens at at x → SettlesFrom (primary_family d b) tokens at at x
+  primary_path x h =
+      let f = settles_choice tokens at kind.False (λ m n. followed_by (mark_by kind.False (counted d b)) (λ place. Done (PrimaryFalse place))) (λ m n. path_part m) at x false no_false h in
+      let g = settles_choice tokens at kind.True (λ m n. followed_by (mark_by kind.True (counted d b)) (λ place. Done (PrimaryTrue place))) (λ m n. if_mark kind.False (followed_by (mark_by kind.False (counted d b)) (λ place. Done (PrimaryFalse place))) (path_part m)) at x false no_true f in
+      let k = settles_choice tokens at kind.LeftParenthesis (λ m n. group_by (expr_at m) d b) (λ m n. if_mark kind.True (followed_by (mark_by kind.True (counted d b)) (λ place. Done (PrimaryTrue place))) (if_mark kind.False (followed_by (mark_by kind.False (counted d b)) (λ place. Done (PrimaryFalse place))) (path_part m))) at x false no_group g in
+      λ m n p q. subst (λ (y : Bool). run is_over (if y then number_by d b else if_mark kind.LeftParenthesis (group_by (expr_at m) d b) (if_mark kind.True (followed_by (mark_by kind.True (counted d b)) (λ place. Done (PrimaryTrue place))) (if_mark kind.False (followed_by (mark_by kind.False (counted d b)) (λ place. Done (PrimaryFalse place))) (path_part m)))) (drop at tokens) ≡ x) (sym no_number) (k m n p q)
+
+  pub path_part_fails : (e : SyntaxFault) → FailsFrom (path_family d b) tokens at at e → FailsFrom (primary_family d b) tokens at at e
+  path_part_fails (the_fault.At k) h = let g = fails_first tokens at (path_family d b) (λ m n path. Done (PrimaryPath path)) at (the_fault.At k) h in (primary_path (Refused (drop k tokens)) g.0, g.1, g.2)
+  path_part_fails (the_fault.Deep k) h = let g = fails_first tokens at (path_family d b) (λ m n path. Done (PrimaryPath path)) at (the_fault.Deep k) h in (primary_path (TooDeep (drop k tokens)) g.0, g.1, g.2)
+  path_part_fails the_fault.NoMemory h = tt
+
+  pub path_part_given : (path : PathTree) (after : ℕ) → SettlesFrom (path_family d b) tokens at at (Took path (drop after tokens)) → SettlesFrom (primary_family d b) tokens at at (Took (PrimaryPath path) (drop after tokens))
+  path_part_given path after h = primary_path (Took (PrimaryPath path) (drop after tokens)) (settles_both tokens at (path_family d b) (λ m n x. Done (PrimaryPath x)) at after path (Took (PrimaryPath path) (drop after tokens)) h (done tokens at after (PrimaryPath path)))

@@ -6,7 +6,7 @@ use Rattle.pst_ast.specs.Limits.{counted, is_over}
 use Rattle.pst_reading.specs.Parser.{Took, run, mark_by}
 use Rattle.pst_reading.specs.Gives.{SettlesFrom, FailsFrom, Expects}
 use Rattle.pst_parse_expr.proofs.Loops.{range_low_fails, single_given}
-use Rattle.pst_parse_expr.proofs.Rules.{between_given, between_fails, index_inner_fails, index_close_fails, index_given, plain_fails, plain_given, prefix_deep, prefix_inside, prefix_fails, prefix_given, zero_fails, zero_given, next_part_fails, next_part_given, next_part_counts, next_view}
+use Rattle.pst_parse_expr.proofs.Rules.{between_given, between_fails, index_inner_fails, index_close_fails, index_given, plain_fails, plain_given, prefix_deep, prefix_inside, prefix_fails, prefix_given, zero_fails, zero_given, next_part_fails, next_part_given, next_part_counts, next_view, path_part_fails, path_part_given}
 use Rattle.std.proofs.Common.{rules, arith, ◌≡◌, ◌≤◌, ◌<◌, ◌+◌, ◌-◌, ◌⊎◌, length, drop, true, Some, IfOk, ℕ, ◌*◌, ◌/◌, ◌%◌, Bool, false, nat_eq, nat_lt, List, [], ◌∷◌, ◌++◌, slice_index_or, slice_set, bit_and, bit_or, Fits, w8, w32, w64, Bor, MutBor}
 use Rattle.pst_ast.specs.ExpressionView.{view_expr, view_unary, view_primary, view_path, view_next_part, view_ranges, view_range}
 use Rattle.pst_ast.specs.ExpressionOperators.{operators_expr, operators_unary, operators_primary, operators_path, operators_next_part, operators_maybe_index, operators_ranges, operators_range}
@@ -170,11 +170,19 @@ primary-returns-then-is t c = ?
 
 -- src/expression.rt:244:36
 pub primary-returns-in_err-path : goal.primary-returns-in_err-path
-primary-returns-in_err-path t c = ?
+primary-returns-in_err-path t c =
+    let p = err_from_is_err_and c.from_residual-in_err-path.result c.from_residual-in_err-path.ensures.1 in
+    rw (p.1, p.2) (path_part_fails c.args.tokens.now c.args.at c.args.depth c.args.before (search rules) (search rules) (search rules) (search rules) c.in_err-path.field-0.0 c.in_err-path.ensures)
 
 -- src/expression.rt:205:1
 pub primary-returns : goal.primary-returns
-primary-returns t c = ?
+primary-returns t c = record {
+  settles = path_part_given c.args.tokens.now c.args.at c.args.depth c.args.before (search rules) (search rules) (search rules) (search rules) (view_path c.in_ok-path.path) c.in_ok-path.after c.in_ok-path.ensures.settles;
+  after = c.in_ok-path.ensures.after;
+  inside = c.in_ok-path.ensures.inside;
+  counted = c.in_ok-path.ensures.counted;
+  within = c.in_ok-path.ensures.within;
+}
 
 -- src/expression.rt:165:35
 pub range-returns-in_err-low : goal.range-returns-in_err-low
