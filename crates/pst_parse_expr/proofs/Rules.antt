@@ -10,7 +10,7 @@ use Rattle.pst_ast.specs.declared.expression.IndexNode.{IndexNode}
 use Rattle.pst_ast.specs.declared.expression.PartNode.{PartNode, roll-PartNode}
 use Rattle.pst_ast.specs.declared.expression.NextPart.{roll-NextPart}
 use Rattle.pst_ast.specs.ExpressionView.{view_part, view_next_part}
-use Rattle.pst_ast.specs.ExpressionTree.{PartTree, MakePart, NextPartTree, MakeNextPart, ExprTree, ExprUnary, UnaryTree, UnaryPrefix, UnaryPrimary, PrimaryTree, PrimaryTrue, PrimaryFalse, PrimaryPath, PathTree, MakeIndex, IndexTree, MaybeIndex, NoIndex, SomeIndex, RangeTree, RangeSingle, RangeBetween}
+use Rattle.pst_ast.specs.ExpressionTree.{PartTree, MakePart, NextPartTree, MakeNextPart, ExprTree, ExprUnary, UnaryTree, UnaryPrefix, UnaryPrimary, PrimaryTree, PrimaryTrue, PrimaryFalse, PrimaryPath, PrimaryGroup, PathTree, MakeIndex, IndexTree, MaybeIndex, NoIndex, SomeIndex, RangeTree, RangeSingle, RangeBetween}
 use Rattle.pst_ast.specs.ExpressionOperators.{operators_expr, operators_part, operators_maybe_index}
 use Rattle.pst_ast.specs.Limits.{counted, is_over}
 use Rattle.pst_reading.specs.Kinds.{is_mark, is_number, next_is}
@@ -248,3 +248,51 @@ module _ (tokens : List Token) (at d b : ℕ) (no_number : next_is is_number (ne
 
   pub path_part_given : (path : PathTree) (after : ℕ) → SettlesFrom (path_family d b) tokens at at (Took path (drop after tokens)) → SettlesFrom (primary_family d b) tokens at at (Took (PrimaryPath path) (drop after tokens))
   path_part_given path after h = primary_path (Took (PrimaryPath path) (drop after tokens)) (settles_both tokens at (path_family d b) (λ m n x. Done (PrimaryPath x)) at after path (Took (PrimaryPath path) (drop after tokens)) h (done tokens at after (PrimaryPath path)))
+
+-- ---- an expression in brackets
+
+module _ (tokens : List Token) (at d b inner : ℕ) (deeper : inner ≡ suc d) (no_number : next_is is_number (next (drop at tokens)) ≡ false) (present : next_is (is_mark kind.LeftParenthesis) (next (drop at tokens)) ≡ true) (open_place : Place) (opened : run is_over (mark_by kind.LeftParenthesis (counted inner b)) (drop at tokens) ≡ Took open_place (drop (at + 1) tokens)) (inside : at + 1 ≤ length tokens) where
+  abbrev group_close : ℕ → Place → ExprTree → Parser PrimaryTree
+  group_close x l e = followed_by (mark_by kind.RightParenthesis (counted x (b + operators_expr e))) (λ r. Done (PrimaryGroup l e r))
+
+  abbrev group_inner : ℕ → ℕ → Place → Parser PrimaryTree
+  group_inner x m l = followed_by (expr_at m x b) (group_close x l)
+
+  abbrev group_with : ℕ → ℕ → Parser PrimaryTree
+  group_with x m = followed_by (mark_by kind.LeftParenthesis (counted x b)) (group_inner x m)
+
+  abbrev group_others : ℕ → Parser PrimaryTree
+  group_others m = if_mark kind.True (followed_by (mark_by kind.True (counted d b)) (λ place. Done (PrimaryTrue place))) (if_mark kind.False (followed_by (mark_by kind.False (counted d b)) (λ place. Done (PrimaryFalse place))) (followed_by (path_by (expr_at m) m d b) (λ path. Done (PrimaryPath path))))
+
+  primary_group : (x : Outcome PrimaryTree) → SettlesFrom (λ m n. group_with inner m) tokens at at x → SettlesFrom (primary_family d b) tokens at at x
+  primary_group x h =
+      let h' = subst (λ (i : ℕ). SettlesFrom (λ m n. group_with i m) tokens at at x) deeper h in
+      let k = settles_choice tokens at kind.LeftParenthesis (λ m n. group_with (suc d) m) (λ m n. group_others m) at x true present h' in
+      λ m n p q. subst (λ (y : Bool). run is_over (if y then number_by d b else if_mark kind.LeftParenthesis (group_with (suc d) m) (group_others m)) (drop at tokens) ≡ x) (sym no_number) (k m n p q)
+
+  group_fails : (e : SyntaxFault) → FailsFrom (λ m n. group_inner inner m open_place) tokens at (at + 1) e → FailsFrom (primary_family d b) tokens at at e
+  group_fails e h = go e (fails_then tokens at (λ m n. mark_by kind.LeftParenthesis (counted inner b)) (λ m n. group_inner inner m) at (at + 1) open_place e (omega arith) (token_given tokens at (mark_by kind.LeftParenthesis (counted inner b)) at open_place opened) h)
+    where
+      go : (f : SyntaxFault) → FailsFrom (λ m n. group_with inner m) tokens at at f → FailsFrom (primary_family d b) tokens at at f
+      go (the_fault.At k) g = (primary_group (Refused (drop k tokens)) g.0, g.1, g.2)
+      go (the_fault.Deep k) g = (primary_group (TooDeep (drop k tokens)) g.0, g.1, g.2)
+      go the_fault.NoMemory g = tt
+
+  pub group_inner_fails : (e : SyntaxFault) → FailsFrom (level_family 10 inner b) tokens (at + 1) (at + 1) e → FailsFrom (primary_family d b) tokens at at e
+  group_inner_fails e h = group_fails e (fails_first tokens at (λ m n. expr_at m inner b) (λ m n. group_close inner open_place) (at + 1) e (nested_fault tokens at (at + 1) inner b (omega arith) inside e h))
+
+  module _ (tree : ExprTree) (after : ℕ) (given : SettlesFrom (level_family 10 inner b) tokens (at + 1) (at + 1) (Took tree (drop after tokens))) (more : at + 1 ≤ after) (within : after ≤ length tokens) where
+    pub group_close_fails : (e : SyntaxFault) → Expects (mark_by kind.RightParenthesis (counted inner (b + operators_expr tree))) tokens after (Err e) → FailsFrom (primary_family d b) tokens at at e
+    group_close_fails e h =
+        group_fails e (fails_then tokens at (λ m n. expr_at m inner b) (λ m n. group_close inner open_place) (at + 1) after tree e more (expr_nested tokens at (at + 1) inner b (Took tree (drop after tokens)) (omega arith) inside given)
+        (fails_first tokens at (λ m n. mark_by kind.RightParenthesis (counted inner (b + operators_expr tree))) (λ m n r. Done (PrimaryGroup open_place tree r)) after e (token_fails tokens at (mark_by kind.RightParenthesis (counted inner (b + operators_expr tree))) after e within h)))
+
+    pub group_given : (close_place : Place) → run is_over (mark_by kind.RightParenthesis (counted inner (b + operators_expr tree))) (drop after tokens) ≡ Took close_place (drop (after + 1) tokens) → SettlesFrom (primary_family d b) tokens at at (Took (PrimaryGroup open_place tree close_place) (drop (after + 1) tokens))
+    group_given close_place closed =
+        let end = drop (after + 1) tokens in
+        let whole = PrimaryGroup open_place tree close_place in
+        primary_group (Took whole end)
+        (settles_both tokens at (λ m n. mark_by kind.LeftParenthesis (counted inner b)) (λ m n. group_inner inner m) at (at + 1) open_place (Took whole end) (token_given tokens at (mark_by kind.LeftParenthesis (counted inner b)) at open_place opened)
+        (settles_both tokens at (λ m n. expr_at m inner b) (λ m n. group_close inner open_place) (at + 1) after tree (Took whole end) (expr_nested tokens at (at + 1) inner b (Took tree (drop after tokens)) (omega arith) inside given)
+        (settles_both tokens at (λ m n. mark_by kind.RightParenthesis (counted inner (b + operators_expr tree))) (λ m n r. Done (PrimaryGroup open_place tree r)) after (after + 1) close_place (Took whole end) (token_given tokens at (mark_by kind.RightParenthesis (counted inner (b + operators_expr tree))) after close_place closed)
+        (done tokens at (after + 1) whole))))

@@ -6,7 +6,7 @@ use Rattle.pst_ast.specs.Limits.{counted, is_over}
 use Rattle.pst_reading.specs.Parser.{Took, run, mark_by}
 use Rattle.pst_reading.specs.Gives.{SettlesFrom, FailsFrom, Expects}
 use Rattle.pst_parse_expr.proofs.Loops.{range_low_fails, single_given}
-use Rattle.pst_parse_expr.proofs.Rules.{between_given, between_fails, index_inner_fails, index_close_fails, index_given, plain_fails, plain_given, prefix_deep, prefix_inside, prefix_fails, prefix_given, zero_fails, zero_given, next_part_fails, next_part_given, next_part_counts, next_view, path_part_fails, path_part_given}
+use Rattle.pst_parse_expr.proofs.Rules.{between_given, between_fails, index_inner_fails, index_close_fails, index_given, plain_fails, plain_given, prefix_deep, prefix_inside, prefix_fails, prefix_given, zero_fails, zero_given, next_part_fails, next_part_given, next_part_counts, next_view, path_part_fails, path_part_given, group_inner_fails, group_close_fails, group_given}
 use Rattle.std.proofs.Common.{rules, arith, ◌≡◌, ◌≤◌, ◌<◌, ◌+◌, ◌-◌, ◌⊎◌, length, drop, true, Some, IfOk, ℕ, ◌*◌, ◌/◌, ◌%◌, Bool, false, nat_eq, nat_lt, List, [], ◌∷◌, ◌++◌, slice_index_or, slice_set, bit_and, bit_or, Fits, w8, w32, w64, Bor, MutBor}
 use Rattle.pst_ast.specs.ExpressionView.{view_expr, view_unary, view_primary, view_path, view_next_part, view_ranges, view_range}
 use Rattle.pst_ast.specs.ExpressionOperators.{operators_expr, operators_unary, operators_primary, operators_path, operators_next_part, operators_maybe_index, operators_ranges, operators_range}
@@ -158,15 +158,28 @@ path-returns t c = ?
 
 -- src/expression.rt:228:40
 pub primary-returns-in_err-expr : goal.primary-returns-in_err-expr
-primary-returns-in_err-expr t c = ?
+primary-returns-in_err-expr t c =
+    let p = err_from_is_err_and c.from_residual-in_err-expr.result c.from_residual-in_err-expr.ensures.1 in
+    rw (p.1, p.2) (group_inner_fails c.args.tokens.now c.args.at c.args.depth c.args.before (c.args.depth + 1) (omega arith) (search rules) (search rules) c.in_ok-left_parenthesis.left_parenthesis c.in_ok-left_parenthesis.ensures.reads.0 c.in_ok-left_parenthesis.ensures.reads.1 c.in_err-expr.field-0.0 c.in_err-expr.ensures)
 
 -- src/expression.rt:230:13
 pub primary-returns-in_err-right_parenthesis : goal.primary-returns-in_err-right_parenthesis
-primary-returns-in_err-right_parenthesis t c = ?
+primary-returns-in_err-right_parenthesis t c =
+    let p = err_from_is_err_and c.from_residual-in_err-right_parenthesis.result c.from_residual-in_err-right_parenthesis.ensures.1 in
+    let fails = subst (λ (k : ℕ). Expects (mark_by kind.RightParenthesis (counted (c.args.depth + 1) k)) c.args.tokens.now c.in_ok-expr.after (Err c.in_err-right_parenthesis.field-0.0)) c.in_ok-expr.ensures.counted c.in_err-right_parenthesis.ensures.reads in
+    rw (p.1, p.2) (group_close_fails c.args.tokens.now c.args.at c.args.depth c.args.before (c.args.depth + 1) (omega arith) (search rules) (search rules) c.in_ok-left_parenthesis.left_parenthesis c.in_ok-left_parenthesis.ensures.reads.0 c.in_ok-left_parenthesis.ensures.reads.1 (view_expr c.in_ok-expr.expr) c.in_ok-expr.after c.in_ok-expr.ensures.settles (omega (arith, c.in_ok-expr.ensures.after)) c.in_ok-expr.ensures.inside c.in_err-right_parenthesis.field-0.0 fails)
 
 -- src/expression.rt:236:9
 pub primary-returns-then-is : goal.primary-returns-then-is
-primary-returns-then-is t c = ?
+primary-returns-then-is t c = record {
+  settles =
+      let closed = subst (λ (k : ℕ). run is_over (mark_by kind.RightParenthesis (counted (c.args.depth + 1) k)) (drop c.in_ok-expr.after c.args.tokens.now) ≡ Took c.in_ok-right_parenthesis.right_parenthesis (drop (c.in_ok-expr.after + 1) c.args.tokens.now)) c.in_ok-expr.ensures.counted c.in_ok-right_parenthesis.ensures.reads.0 in
+      rw c.in_ok-boxed.ensures.ok (group_given c.args.tokens.now c.args.at c.args.depth c.args.before (c.args.depth + 1) (omega arith) (search rules) (search rules) c.in_ok-left_parenthesis.left_parenthesis c.in_ok-left_parenthesis.ensures.reads.0 c.in_ok-left_parenthesis.ensures.reads.1 (view_expr c.in_ok-expr.expr) c.in_ok-expr.after c.in_ok-expr.ensures.settles (omega (arith, c.in_ok-expr.ensures.after)) c.in_ok-expr.ensures.inside c.in_ok-right_parenthesis.right_parenthesis closed);
+  after = omega (arith, c.in_ok-expr.ensures.after);
+  inside = c.in_ok-right_parenthesis.ensures.reads.1;
+  counted = rw c.in_ok-boxed.ensures.ok c.in_ok-expr.ensures.counted;
+  within = c.in_ok-expr.ensures.within;
+}
 
 -- src/expression.rt:244:36
 pub primary-returns-in_err-path : goal.primary-returns-in_err-path
