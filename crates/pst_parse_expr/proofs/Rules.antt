@@ -10,8 +10,8 @@ use Rattle.pst_ast.specs.declared.expression.IndexNode.{IndexNode}
 use Rattle.pst_ast.specs.declared.expression.PartNode.{PartNode, roll-PartNode}
 use Rattle.pst_ast.specs.declared.expression.NextPart.{roll-NextPart}
 use Rattle.pst_ast.specs.ExpressionView.{view_part, view_next_part}
-use Rattle.pst_ast.specs.ExpressionTree.{PartTree, MakePart, NextPartTree, MakeNextPart, ExprTree, ExprUnary, UnaryTree, UnaryPrefix, UnaryPrimary, PrimaryTree, PrimaryTrue, PrimaryFalse, PrimaryPath, PrimaryGroup, PathTree, MakeIndex, IndexTree, MaybeIndex, NoIndex, SomeIndex, RangeTree, RangeSingle, RangeBetween}
-use Rattle.pst_ast.specs.ExpressionOperators.{operators_expr, operators_part, operators_maybe_index}
+use Rattle.pst_ast.specs.ExpressionTree.{PartTree, MakePart, NextPartTree, MakeNextPart, ExprTree, ExprUnary, ExprIn, RangesTree, UnaryTree, UnaryPrefix, UnaryPrimary, PrimaryTree, PrimaryTrue, PrimaryFalse, PrimaryPath, PrimaryGroup, PathTree, MakeIndex, IndexTree, MaybeIndex, NoIndex, SomeIndex, RangeTree, RangeSingle, RangeBetween}
+use Rattle.pst_ast.specs.ExpressionOperators.{operators_ranges, operators_expr, operators_part, operators_maybe_index}
 use Rattle.pst_ast.specs.Limits.{counted, is_over}
 use Rattle.pst_reading.specs.Kinds.{is_mark, is_number, next_is}
 use Rattle.pst_reading.specs.Parser.{Parser, and_then, Done, Outcome, Took, Refused, TooDeep, run, next, mark_by, name_by, if_mark, ◌>>=◌, followed_by}
@@ -19,8 +19,8 @@ use Rattle.pst_reading.specs.Gives.{Family, SettlesFrom, FailsFrom, Expects}
 use Rattle.pst_reading.proofs.Giving.{settles_both, fails_first, fails_then, settles_choice, fails_choice, token_given, token_fails, done, later, later_fault}
 use Rattle.pst_ast.specs.declared.leaf.PrefixOperator.{PrefixOperator}
 use Rattle.pst_parse_expr.specs.Operators.{prefix_of}
-use Rattle.pst_parse_expr.specs.Reading.{path_by, group_by, number_by, expr_at, prefix_by, primary_by, unary_by, index_by, maybe_index_by}
-use Rattle.pst_parse_expr.specs.Families.{level_family, range_family, index_family, unary_family, unary_within, primary_family, path_family, next_part_family, view_index_option}
+use Rattle.pst_parse_expr.specs.Reading.{ranges_by, path_by, group_by, number_by, expr_at, prefix_by, primary_by, unary_by, index_by, maybe_index_by}
+use Rattle.pst_parse_expr.specs.Families.{in_family, ranges_family, level_family, range_family, index_family, unary_family, unary_within, primary_family, path_family, next_part_family, view_index_option}
 use Rattle.pst_parse_expr.proofs.Loops.{expr_nested}
 use Rattle.pst_parse_expr.proofs.Tokens.{no_prefix}
 use Rattle.pst_reading.proofs.Becoming.{run_followed}
@@ -296,3 +296,53 @@ module _ (tokens : List Token) (at d b inner : ℕ) (deeper : inner ≡ suc d) (
         (settles_both tokens at (λ m n. expr_at m inner b) (λ m n. group_close inner open_place) (at + 1) after tree (Took whole end) (expr_nested tokens at (at + 1) inner b (Took tree (drop after tokens)) (omega arith) inside given)
         (settles_both tokens at (λ m n. mark_by kind.RightParenthesis (counted inner (b + operators_expr tree))) (λ m n r. Done (PrimaryGroup open_place tree r)) after (after + 1) close_place (Took whole end) (token_given tokens at (mark_by kind.RightParenthesis (counted inner (b + operators_expr tree))) after close_place closed)
         (done tokens at (after + 1) whole))))
+
+-- ---- `in` and its ranges
+
+module _ (tokens : List Token) (at d b x : ℕ) (left : ExprTree) (one_more : x ≡ suc (b + operators_expr left)) (in_place : Place) (entered : run is_over (mark_by kind.In (counted d x)) (drop at tokens) ≡ Took in_place (drop (at + 1) tokens)) (open_place : Place) (opened : run is_over (mark_by kind.LeftBracket (counted d x)) (drop (at + 1) tokens) ≡ Took open_place (drop (at + 1 + 1) tokens)) where
+  abbrev in_close : ℕ → Place → Place → RangesTree → Parser ExprTree
+  in_close y p l rs = followed_by (mark_by kind.RightBracket (counted d (y + operators_ranges rs))) (λ r. Done (ExprIn left p l rs r))
+
+  abbrev in_ranges : ℕ → ℕ → Place → Place → Parser ExprTree
+  in_ranges y m p l = followed_by (ranges_by (expr_at m) m d y) (in_close y p l)
+
+  abbrev in_open : ℕ → ℕ → Place → Parser ExprTree
+  in_open y m p = followed_by (mark_by kind.LeftBracket (counted d y)) (in_ranges y m p)
+
+  abbrev in_with : ℕ → ℕ → Parser ExprTree
+  in_with y m = followed_by (mark_by kind.In (counted d y)) (in_open y m)
+
+  in_fails : (e : SyntaxFault) → FailsFrom (λ m n. in_ranges x m in_place open_place) tokens at (at + 1 + 1) e → FailsFrom (in_family d b left) tokens at at e
+  in_fails e h =
+      subst (λ (y : ℕ). FailsFrom (λ m n. in_with y m) tokens at at e) one_more
+      (fails_then tokens at (λ m n. mark_by kind.In (counted d x)) (λ m n. in_open x m) at (at + 1) in_place e (omega arith) (token_given tokens at (mark_by kind.In (counted d x)) at in_place entered)
+      (fails_then tokens at (λ m n. mark_by kind.LeftBracket (counted d x)) (λ m n. in_ranges x m in_place) (at + 1) (at + 1 + 1) open_place e (omega arith) (token_given tokens at (mark_by kind.LeftBracket (counted d x)) (at + 1) open_place opened) h))
+
+  -- the ranges stand behind the bracket
+  module _ (before_ranges : ℕ) (near : at ≤ before_ranges) where
+    pub in_ranges_fail : (e : SyntaxFault) → FailsFrom (ranges_family d x) tokens before_ranges (at + 1 + 1) e → FailsFrom (in_family d b left) tokens at at e
+    in_ranges_fail e h = in_fails e (fails_first tokens at (ranges_family d x) (λ m n. in_close x in_place open_place) (at + 1 + 1) e (go e h))
+      where
+        go : (f : SyntaxFault) → FailsFrom (ranges_family d x) tokens before_ranges (at + 1 + 1) f → FailsFrom (ranges_family d x) tokens at (at + 1 + 1) f
+        go (the_fault.At k) g = (λ m n p q. g.0 m n (omega (arith, p, near)) (omega (arith, q, near)), g.1, g.2)
+        go (the_fault.Deep k) g = (λ m n p q. g.0 m n (omega (arith, p, near)) (omega (arith, q, near)), g.1, g.2)
+        go the_fault.NoMemory g = tt
+
+    module _ (rs : RangesTree) (after : ℕ) (given : SettlesFrom (ranges_family d x) tokens before_ranges (at + 1 + 1) (Took rs (drop after tokens))) (more : at + 1 + 1 ≤ after) (within : after ≤ length tokens) where
+      nearer : SettlesFrom (ranges_family d x) tokens at (at + 1 + 1) (Took rs (drop after tokens))
+      nearer m n p q = given m n (omega (arith, p, near)) (omega (arith, q, near))
+
+      pub in_close_fails : (e : SyntaxFault) → Expects (mark_by kind.RightBracket (counted d (x + operators_ranges rs))) tokens after (Err e) → FailsFrom (in_family d b left) tokens at at e
+      in_close_fails e h = in_fails e (fails_then tokens at (ranges_family d x) (λ m n. in_close x in_place open_place) (at + 1 + 1) after rs e more nearer
+          (fails_first tokens at (λ m n. mark_by kind.RightBracket (counted d (x + operators_ranges rs))) (λ m n r. Done (ExprIn left in_place open_place rs r)) after e (token_fails tokens at (mark_by kind.RightBracket (counted d (x + operators_ranges rs))) after e within h)))
+
+      pub in_given : (close_place : Place) → run is_over (mark_by kind.RightBracket (counted d (x + operators_ranges rs))) (drop after tokens) ≡ Took close_place (drop (after + 1) tokens) → SettlesFrom (in_family d b left) tokens at at (Took (ExprIn left in_place open_place rs close_place) (drop (after + 1) tokens))
+      in_given close_place closed =
+          let end = drop (after + 1) tokens in
+          let whole = ExprIn left in_place open_place rs close_place in
+          subst (λ (y : ℕ). SettlesFrom (λ m n. in_with y m) tokens at at (Took whole end)) one_more
+          (settles_both tokens at (λ m n. mark_by kind.In (counted d x)) (λ m n. in_open x m) at (at + 1) in_place (Took whole end) (token_given tokens at (mark_by kind.In (counted d x)) at in_place entered)
+          (settles_both tokens at (λ m n. mark_by kind.LeftBracket (counted d x)) (λ m n. in_ranges x m in_place) (at + 1) (at + 1 + 1) open_place (Took whole end) (token_given tokens at (mark_by kind.LeftBracket (counted d x)) (at + 1) open_place opened)
+          (settles_both tokens at (ranges_family d x) (λ m n. in_close x in_place open_place) (at + 1 + 1) after rs (Took whole end) nearer
+          (settles_both tokens at (λ m n. mark_by kind.RightBracket (counted d (x + operators_ranges rs))) (λ m n r. Done (ExprIn left in_place open_place rs r)) after (after + 1) close_place (Took whole end) (token_given tokens at (mark_by kind.RightBracket (counted d (x + operators_ranges rs))) after close_place closed)
+          (done tokens at (after + 1) whole)))))

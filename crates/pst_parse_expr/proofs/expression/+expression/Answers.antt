@@ -6,7 +6,7 @@ use Rattle.pst_ast.specs.Limits.{counted, is_over}
 use Rattle.pst_reading.specs.Parser.{Took, run, mark_by}
 use Rattle.pst_reading.specs.Gives.{SettlesFrom, FailsFrom, Expects}
 use Rattle.pst_parse_expr.proofs.Loops.{range_low_fails, single_given}
-use Rattle.pst_parse_expr.proofs.Rules.{between_given, between_fails, index_inner_fails, index_close_fails, index_given, plain_fails, plain_given, prefix_deep, prefix_inside, prefix_fails, prefix_given, zero_fails, zero_given, next_part_fails, next_part_given, next_part_counts, next_view, path_part_fails, path_part_given, group_inner_fails, group_close_fails, group_given}
+use Rattle.pst_parse_expr.proofs.Rules.{between_given, between_fails, index_inner_fails, index_close_fails, index_given, plain_fails, plain_given, prefix_deep, prefix_inside, prefix_fails, prefix_given, zero_fails, zero_given, next_part_fails, next_part_given, next_part_counts, next_view, path_part_fails, path_part_given, group_inner_fails, group_close_fails, group_given, in_ranges_fail, in_close_fails, in_given}
 use Rattle.std.proofs.Common.{rules, arith, ◌≡◌, ◌≤◌, ◌<◌, ◌+◌, ◌-◌, ◌⊎◌, length, drop, true, Some, IfOk, ℕ, ◌*◌, ◌/◌, ◌%◌, Bool, false, nat_eq, nat_lt, List, [], ◌∷◌, ◌++◌, slice_index_or, slice_set, bit_and, bit_or, Fits, w8, w32, w64, Bor, MutBor}
 use Rattle.pst_ast.specs.ExpressionView.{view_expr, view_unary, view_primary, view_path, view_next_part, view_ranges, view_range}
 use Rattle.pst_ast.specs.ExpressionOperators.{operators_expr, operators_unary, operators_primary, operators_path, operators_next_part, operators_maybe_index, operators_ranges, operators_range}
@@ -79,15 +79,31 @@ level-returns t c = ?
 
 -- src/expression.rt:110:38
 pub membership-returns-in_err-ranges : goal.membership-returns-in_err-ranges
-membership-returns-in_err-ranges t c = ?
+membership-returns-in_err-ranges t c =
+    let p = err_from_is_err_and c.from_residual-in_err-ranges.result c.from_residual-in_err-ranges.ensures.1 in
+    let e : c.args.at + 2 ≡ c.args.at + 1 + 1 = omega arith in
+    rw (p.1, p.2) (in_ranges_fail c.args.tokens.now c.args.at c.args.depth (c.args.before - operators_expr (view_expr c.args.left)) (c.args.before + 1) (view_expr c.args.left) (omega (arith, c.requires.counted)) c.in_ok-in_.in_ c.in_ok-in_.ensures.reads.0 c.in_ok-left_bracket.left_bracket c.in_ok-left_bracket.ensures.reads.0 (c.args.at + 2 - 1) (omega arith) c.in_err-ranges.field-0.0 (subst (λ (k : ℕ). FailsFrom (ranges_family c.args.depth (c.args.before + 1)) c.args.tokens.now (c.args.at + 2 - 1) k c.in_err-ranges.field-0.0) e c.in_err-ranges.ensures))
 
 -- src/expression.rt:111:25
 pub membership-returns-in_err-right_bracket : goal.membership-returns-in_err-right_bracket
-membership-returns-in_err-right_bracket t c = ?
+membership-returns-in_err-right_bracket t c =
+    let p = err_from_is_err_and c.from_residual-in_err-right_bracket.result c.from_residual-in_err-right_bracket.ensures.1 in
+    let e : c.args.at + 2 ≡ c.args.at + 1 + 1 = omega arith in
+    let fails = subst (λ (k : ℕ). Expects (mark_by kind.RightBracket (counted c.args.depth k)) c.args.tokens.now c.in_ok-ranges.after (Err c.in_err-right_bracket.field-0.0)) c.in_ok-ranges.ensures.counted c.in_err-right_bracket.ensures.reads in
+    rw (p.1, p.2) (in_close_fails c.args.tokens.now c.args.at c.args.depth (c.args.before - operators_expr (view_expr c.args.left)) (c.args.before + 1) (view_expr c.args.left) (omega (arith, c.requires.counted)) c.in_ok-in_.in_ c.in_ok-in_.ensures.reads.0 c.in_ok-left_bracket.left_bracket c.in_ok-left_bracket.ensures.reads.0 (c.args.at + 2 - 1) (omega arith) (view_ranges c.in_ok-ranges.ranges) c.in_ok-ranges.after (subst (λ (k : ℕ). SettlesFrom (ranges_family c.args.depth (c.args.before + 1)) c.args.tokens.now (c.args.at + 2 - 1) k (Took (view_ranges c.in_ok-ranges.ranges) (drop c.in_ok-ranges.after c.args.tokens.now))) e c.in_ok-ranges.ensures.settles) (omega (arith, c.in_ok-ranges.ensures.after)) c.in_ok-ranges.ensures.inside c.in_err-right_bracket.field-0.0 fails)
 
 -- src/expression.rt:93:1
 pub membership-returns : goal.membership-returns
-membership-returns t c = ?
+membership-returns t c = record {
+  settles =
+      let e : c.args.at + 2 ≡ c.args.at + 1 + 1 = omega arith in
+      let closed = subst (λ (k : ℕ). run is_over (mark_by kind.RightBracket (counted c.args.depth k)) (drop c.in_ok-ranges.after c.args.tokens.now) ≡ Took c.in_ok-right_bracket.right_bracket (drop (c.in_ok-ranges.after + 1) c.args.tokens.now)) c.in_ok-ranges.ensures.counted c.in_ok-right_bracket.ensures.reads.0 in
+      rw c.in_ok-boxed.ensures.ok (in_given c.args.tokens.now c.args.at c.args.depth (c.args.before - operators_expr (view_expr c.args.left)) (c.args.before + 1) (view_expr c.args.left) (omega (arith, c.requires.counted)) c.in_ok-in_.in_ c.in_ok-in_.ensures.reads.0 c.in_ok-left_bracket.left_bracket c.in_ok-left_bracket.ensures.reads.0 (c.args.at + 2 - 1) (omega arith) (view_ranges c.in_ok-ranges.ranges) c.in_ok-ranges.after (subst (λ (k : ℕ). SettlesFrom (ranges_family c.args.depth (c.args.before + 1)) c.args.tokens.now (c.args.at + 2 - 1) k (Took (view_ranges c.in_ok-ranges.ranges) (drop c.in_ok-ranges.after c.args.tokens.now))) e c.in_ok-ranges.ensures.settles) (omega (arith, c.in_ok-ranges.ensures.after)) c.in_ok-ranges.ensures.inside c.in_ok-right_bracket.right_bracket closed);
+  after = omega (arith, c.in_ok-ranges.ensures.after);
+  inside = c.in_ok-right_bracket.ensures.reads.1;
+  counted = rw c.in_ok-boxed.ensures.ok (omega (arith, c.in_ok-ranges.ensures.counted, c.requires.counted));
+  within = c.in_ok-ranges.ensures.within;
+}
 
 -- src/expression.rt:330:37
 pub next_part-returns-in_err-index : goal.next_part-returns-in_err-index
