@@ -10,16 +10,16 @@ use Rattle.pst_ast.specs.declared.expression.IndexNode.{IndexNode}
 use Rattle.pst_ast.specs.declared.expression.PartNode.{PartNode, roll-PartNode}
 use Rattle.pst_ast.specs.declared.expression.NextPart.{roll-NextPart}
 use Rattle.pst_ast.specs.ExpressionView.{view_part, view_next_part}
-use Rattle.pst_ast.specs.ExpressionTree.{PartTree, MakePart, NextPartTree, MakeNextPart, ExprTree, ExprUnary, ExprIn, RangesTree, UnaryTree, UnaryPrefix, UnaryPrimary, PrimaryTree, PrimaryTrue, PrimaryFalse, PrimaryPath, PrimaryGroup, PathTree, MakeIndex, IndexTree, MaybeIndex, NoIndex, SomeIndex, RangeTree, RangeSingle, RangeBetween}
-use Rattle.pst_ast.specs.ExpressionOperators.{operators_ranges, operators_expr, operators_part, operators_maybe_index}
+use Rattle.pst_ast.specs.ExpressionTree.{PartTree, MakePart, NextPartTree, MakeNextPart, ExprTree, ExprUnary, ExprIn, RangesTree, UnaryTree, UnaryPrefix, UnaryPrimary, PrimaryTree, PrimaryTrue, PrimaryFalse, PrimaryPath, PrimaryGroup, PathTree, PathDotted, NoNextPartRow, NoNextRangeRow, MakeRanges, MakeIndex, IndexTree, MaybeIndex, NoIndex, SomeIndex, RangeTree, RangeSingle, RangeBetween}
+use Rattle.pst_ast.specs.ExpressionOperators.{operators_range, operators_ranges, operators_expr, operators_part, operators_maybe_index}
 use Rattle.pst_ast.specs.Limits.{counted, is_over}
 use Rattle.pst_reading.specs.Kinds.{is_mark, is_number, next_is}
-use Rattle.pst_reading.specs.Parser.{Parser, and_then, Done, Outcome, Took, Refused, TooDeep, run, next, mark_by, name_by, if_mark, ◌>>=◌, followed_by}
+use Rattle.pst_reading.specs.Parser.{Parser, repeat_by, and_then, Done, Outcome, Took, Refused, TooDeep, run, next, mark_by, name_by, if_mark, ◌>>=◌, followed_by}
 use Rattle.pst_reading.specs.Gives.{Family, SettlesFrom, FailsFrom, Expects}
 use Rattle.pst_reading.proofs.Giving.{settles_both, fails_first, fails_then, settles_choice, fails_choice, token_given, token_fails, done, later, later_fault}
 use Rattle.pst_ast.specs.declared.leaf.PrefixOperator.{PrefixOperator}
 use Rattle.pst_parse_expr.specs.Operators.{prefix_of}
-use Rattle.pst_parse_expr.specs.Reading.{ranges_by, path_by, group_by, number_by, expr_at, prefix_by, primary_by, unary_by, index_by, maybe_index_by}
+use Rattle.pst_parse_expr.specs.Reading.{operation_of, level_by, more_ranges_of, parts_of, item_by, dotted_by, ranges_by, path_by, group_by, number_by, expr_at, prefix_by, primary_by, unary_by, index_by, maybe_index_by}
 use Rattle.pst_parse_expr.specs.Families.{in_family, ranges_family, level_family, range_family, index_family, unary_family, unary_within, primary_family, path_family, next_part_family, view_index_option}
 use Rattle.pst_parse_expr.proofs.Loops.{expr_nested}
 use Rattle.pst_parse_expr.proofs.Tokens.{no_prefix}
@@ -346,3 +346,33 @@ module _ (tokens : List Token) (at d b x : ℕ) (left : ExprTree) (one_more : x 
           (settles_both tokens at (ranges_family d x) (λ m n. in_close x in_place open_place) (at + 1 + 1) after rs (Took whole end) nearer
           (settles_both tokens at (λ m n. mark_by kind.RightBracket (counted d (x + operators_ranges rs))) (λ m n r. Done (ExprIn left in_place open_place rs r)) after (after + 1) close_place (Took whole end) (token_given tokens at (mark_by kind.RightBracket (counted d (x + operators_ranges rs))) after close_place closed)
           (done tokens at (after + 1) whole)))))
+
+-- ---- the first part of a level, and of ranges
+
+pub left_fails : (tokens : List Token) (at d b above tighter : ℕ) → above ≡ suc tighter → (e : SyntaxFault) → FailsFrom (level_family tighter d b) tokens at at e → FailsFrom (level_family above d b) tokens at at e
+left_fails tokens at d b above tighter is e h = subst (λ (k : ℕ). FailsFrom (level_family k d b) tokens at at e) (sym is) (fails_first tokens at (level_family tighter d b) (λ m n. repeat_by (operation_of (level_by (unary_within m) (ranges_by (expr_at m) m) m tighter) (ranges_by (expr_at m) m) (9 - tighter) d b) m) at e h)
+
+pub first_range_fails : (tokens : List Token) (start at d b : ℕ) (e : SyntaxFault) → FailsFrom (range_family d b) tokens start at e → FailsFrom (ranges_family d b) tokens start at e
+first_range_fails tokens start at d b e h = fails_first tokens start (range_family d b) (λ m n first. followed_by (repeat_by (more_ranges_of (expr_at m) d (b + operators_range first)) m NoNextRangeRow) (λ more. Done (MakeRanges first more))) at e h
+
+-- ---- paths
+
+module _ (tokens : List Token) (at d b : ℕ) (name : Name) (named : run is_over (name_by (counted d b)) (drop at tokens) ≡ Took name (drop (at + 1) tokens)) where
+  abbrev behind_name : ℕ → Name → Parser PathTree
+  behind_name m x = if_mark kind.ColonColon (item_by d b x) (dotted_by (expr_at m) m d b x)
+
+  pub item_fails : next_is (is_mark kind.ColonColon) (next (drop (at + 1) tokens)) ≡ true → (e : SyntaxFault) → FailsFrom (λ m n. item_by d b name) tokens (at + 1) (at + 1) e → FailsFrom (path_family d b) tokens at at e
+  item_fails present e h =
+      fails_then tokens at (λ m n. name_by (counted d b)) (λ m n. behind_name m) at (at + 1) name e (omega arith) (token_given tokens at (name_by (counted d b)) at name named)
+      (fails_choice tokens at kind.ColonColon (λ m n. item_by d b name) (λ m n. dotted_by (expr_at m) m d b name) (at + 1) e true present (later_fault tokens at (λ m n. item_by d b name) (at + 1) e (omega arith) h))
+
+  pub item_given : next_is (is_mark kind.ColonColon) (next (drop (at + 1) tokens)) ≡ true → (path : PathTree) (after : ℕ) → SettlesFrom (λ m n. item_by d b name) tokens (at + 1) (at + 1) (Took path (drop after tokens)) → SettlesFrom (path_family d b) tokens at at (Took path (drop after tokens))
+  item_given present path after h =
+      settles_both tokens at (λ m n. name_by (counted d b)) (λ m n. behind_name m) at (at + 1) name (Took path (drop after tokens)) (token_given tokens at (name_by (counted d b)) at name named)
+      (settles_choice tokens at kind.ColonColon (λ m n. item_by d b name) (λ m n. dotted_by (expr_at m) m d b name) (at + 1) (Took path (drop after tokens)) true present (later tokens at (λ m n. item_by d b name) (at + 1) (Took path (drop after tokens)) (omega arith) h))
+
+  pub path_index_fails : next_is (is_mark kind.ColonColon) (next (drop (at + 1) tokens)) ≡ false → (e : SyntaxFault) → FailsFrom (index_family d b) tokens (at + 1) (at + 1) e → FailsFrom (path_family d b) tokens at at e
+  path_index_fails absent e h =
+      fails_then tokens at (λ m n. name_by (counted d b)) (λ m n. behind_name m) at (at + 1) name e (omega arith) (token_given tokens at (name_by (counted d b)) at name named)
+      (fails_choice tokens at kind.ColonColon (λ m n. item_by d b name) (λ m n. dotted_by (expr_at m) m d b name) (at + 1) e false absent
+      (fails_first tokens at (index_family d b) (λ m n i. followed_by (repeat_by (parts_of (expr_at m) d (b + operators_part (MakePart name i))) m NoNextPartRow) (λ row. Done (PathDotted (MakePart name i) row))) (at + 1) e (later_fault tokens at (index_family d b) (at + 1) e (omega arith) h)))

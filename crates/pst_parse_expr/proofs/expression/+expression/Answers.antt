@@ -6,7 +6,7 @@ use Rattle.pst_ast.specs.Limits.{counted, is_over}
 use Rattle.pst_reading.specs.Parser.{Took, run, mark_by}
 use Rattle.pst_reading.specs.Gives.{SettlesFrom, FailsFrom, Expects}
 use Rattle.pst_parse_expr.proofs.Loops.{range_low_fails, single_given}
-use Rattle.pst_parse_expr.proofs.Rules.{between_given, between_fails, index_inner_fails, index_close_fails, index_given, plain_fails, plain_given, prefix_deep, prefix_inside, prefix_fails, prefix_given, zero_fails, zero_given, next_part_fails, next_part_given, next_part_counts, next_view, path_part_fails, path_part_given, group_inner_fails, group_close_fails, group_given, in_ranges_fail, in_close_fails, in_given}
+use Rattle.pst_parse_expr.proofs.Rules.{between_given, between_fails, index_inner_fails, index_close_fails, index_given, plain_fails, plain_given, prefix_deep, prefix_inside, prefix_fails, prefix_given, zero_fails, zero_given, next_part_fails, next_part_given, next_part_counts, next_view, path_part_fails, path_part_given, group_inner_fails, group_close_fails, group_given, in_ranges_fail, in_close_fails, in_given, item_fails, item_given, path_index_fails, left_fails, first_range_fails}
 use Rattle.std.proofs.Common.{rules, arith, ◌≡◌, ◌≤◌, ◌<◌, ◌+◌, ◌-◌, ◌⊎◌, length, drop, true, Some, IfOk, ℕ, ◌*◌, ◌/◌, ◌%◌, Bool, false, nat_eq, nat_lt, List, [], ◌∷◌, ◌++◌, slice_index_or, slice_set, bit_and, bit_or, Fits, w8, w32, w64, Bor, MutBor}
 use Rattle.pst_ast.specs.ExpressionView.{view_expr, view_unary, view_primary, view_path, view_next_part, view_ranges, view_range}
 use Rattle.pst_ast.specs.ExpressionOperators.{operators_expr, operators_unary, operators_primary, operators_path, operators_next_part, operators_maybe_index, operators_ranges, operators_range}
@@ -59,7 +59,9 @@ level-returns-then-above-eq0 t c = record {
 
 -- src/expression.rt:45:44
 pub level-returns-in_err-left : goal.level-returns-in_err-left
-level-returns-in_err-left t c = ?
+level-returns-in_err-left t c =
+    let p = err_from_is_err_and c.from_residual-in_err-left.result c.from_residual-in_err-left.ensures.1 in
+    rw (p.1, p.2) (left_fails c.args.tokens.now c.args.at c.args.depth c.args.before c.args.above (c.args.above - 1) (search (rules, arith)) c.in_err-left.field-0.0 c.in_err-left.ensures)
 
 -- src/expression.rt:46:5
 pub level-operations-init : goal.level-operations-init
@@ -146,7 +148,9 @@ operation-returns t c = ?
 
 -- src/expression.rt:297:29
 pub path-returns-in_err-path : goal.path-returns-in_err-path
-path-returns-in_err-path t c = ?
+path-returns-in_err-path t c =
+    let p = err_from_is_err_and c.from_residual-in_err-path.result c.from_residual-in_err-path.ensures.1 in
+    rw (p.1, p.2) (item_fails c.args.tokens.now c.args.at c.args.depth c.args.before c.in_ok-name.name c.in_ok-name.ensures.reads.0 (search rules) c.in_err-path.field-0.0 c.in_err-path.ensures)
 
 -- src/expression.rt:298:9
 pub path-returns-then-is : goal.path-returns-then-is
@@ -154,7 +158,9 @@ path-returns-then-is t c = ?
 
 -- src/expression.rt:300:37
 pub path-returns-in_err-index : goal.path-returns-in_err-index
-path-returns-in_err-index t c = ?
+path-returns-in_err-index t c =
+    let p = err_from_is_err_and c.from_residual-in_err-index.result c.from_residual-in_err-index.ensures.1 in
+    rw (p.1, p.2) (path_index_fails c.args.tokens.now c.args.at c.args.depth c.args.before c.in_ok-name.name c.in_ok-name.ensures.reads.0 (search rules) c.in_err-index.field-0.0 c.in_err-index.ensures)
 
 -- src/expression.rt:305:5
 pub path-parts-init : goal.path-parts-init
@@ -250,7 +256,9 @@ range-returns t c = record {
 
 -- src/expression.rt:136:37
 pub ranges-returns-in_err-first : goal.ranges-returns-in_err-first
-ranges-returns-in_err-first t c = ?
+ranges-returns-in_err-first t c =
+    let p = err_from_is_err_and c.from_residual.result c.from_residual.ensures.1 in
+    rw (p.1, p.2) (first_range_fails c.args.tokens.now (c.args.at - 1) c.args.at c.args.depth c.args.before c.in_err-first.field-0.0 c.in_err-first.ensures)
 
 -- src/expression.rt:141:5
 pub ranges-more-init : goal.ranges-more-init
