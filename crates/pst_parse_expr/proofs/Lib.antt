@@ -11,3 +11,4 @@ pub mod NoEnd
 pub mod Answering
 pub mod Loops
 pub mod Rules
+pub mod Turns

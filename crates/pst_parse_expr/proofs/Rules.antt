@@ -195,7 +195,7 @@ zero_given tokens at d b above none u after h = subst (λ (k : ℕ). SettlesFrom
 
 -- ---- a name behind a dot
 
-part_view : (name : Name) (index : Option IndexNode) → view_part (roll-PartNode (record { name = name; index = index })) ≡ MakePart name (view_index_option index)
+pub part_view : (name : Name) (index : Option IndexNode) → view_part (roll-PartNode (record { name = name; index = index })) ≡ MakePart name (view_index_option index)
 unfolding roll-PartNode denote.Hole.Carrier.roll
 part_view name None = refl
 part_view name (Some i) = refl

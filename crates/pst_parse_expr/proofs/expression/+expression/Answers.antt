@@ -6,14 +6,15 @@ use Rattle.pst_ast.specs.Limits.{counted, is_over}
 use Rattle.pst_reading.specs.Parser.{Took, run, mark_by}
 use Rattle.pst_reading.specs.Gives.{SettlesFrom, FailsFrom, Expects}
 use Rattle.pst_parse_expr.proofs.Loops.{range_low_fails, single_given}
-use Rattle.pst_parse_expr.proofs.Rules.{between_given, between_fails, index_inner_fails, index_close_fails, index_given, plain_fails, plain_given, prefix_deep, prefix_inside, prefix_fails, prefix_given, zero_fails, zero_given, next_part_fails, next_part_given, next_part_counts, next_view, path_part_fails, path_part_given, group_inner_fails, group_close_fails, group_given, in_ranges_fail, in_close_fails, in_given, item_fails, item_given, path_index_fails, left_fails, first_range_fails}
+use Rattle.pst_parse_expr.proofs.Turns.{dotted_view, ranges_view, part_more, range_more, ranges_begin, ranges_end, ranges_fail, ranges_turn, path_begins, path_ends, path_fails, path_turns}
+use Rattle.pst_parse_expr.proofs.Rules.{part_view, between_given, between_fails, index_inner_fails, index_close_fails, index_given, plain_fails, plain_given, prefix_deep, prefix_inside, prefix_fails, prefix_given, zero_fails, zero_given, next_part_fails, next_part_given, next_part_counts, next_view, path_part_fails, path_part_given, group_inner_fails, group_close_fails, group_given, in_ranges_fail, in_close_fails, in_given, item_fails, item_given, path_index_fails, left_fails, first_range_fails}
 use Rattle.std.proofs.Common.{rules, arith, ◌≡◌, ◌≤◌, ◌<◌, ◌+◌, ◌-◌, ◌⊎◌, length, drop, true, Some, IfOk, ℕ, ◌*◌, ◌/◌, ◌%◌, Bool, false, nat_eq, nat_lt, List, [], ◌∷◌, ◌++◌, slice_index_or, slice_set, bit_and, bit_or, Fits, w8, w32, w64, Bor, MutBor}
 use Rattle.pst_ast.specs.ExpressionView.{view_expr, view_unary, view_primary, view_path, view_next_part, view_ranges, view_range}
 use Rattle.pst_ast.specs.ExpressionOperators.{operators_expr, operators_unary, operators_primary, operators_path, operators_next_part, operators_maybe_index, operators_ranges, operators_range}
 use Rattle.pst_reading.specs.Parser.{next}
 use Rattle.pst_reading.specs.Gives.{Gives}
 use Rattle.pst_parse_expr.specs.Operators.{operator_of, is_in}
-use Rattle.pst_parse_expr.specs.Families.{view_index_option, GivesItem, level_family, operation_family, in_family, ranges_family, range_family, unary_family, primary_family, path_family, next_part_family, index_family}
+use Rattle.pst_parse_expr.specs.Families.{part_row, range_row, view_index_option, GivesItem, level_family, operation_family, in_family, ranges_family, range_family, unary_family, primary_family, path_family, next_part_family, index_family}
 use Rattle.pst_parse_expr.proofs.expression.+expression.Goals as goal
 
 -- src/expression.rt:353:36
@@ -164,19 +165,28 @@ path-returns-in_err-index t c =
 
 -- src/expression.rt:305:5
 pub path-parts-init : goal.path-parts-init
-path-parts-init t c = ?
+path-parts-init t c = rw (part_view, c.new-rest.ensures.items) (path_begins c.args.tokens.now c.args.at c.args.depth c.args.before c.in_ok-name.name c.in_ok-name.ensures.reads.0 (search rules) (view_index_option c.in_ok-index.index) c.in_ok-index.after c.in_ok-index.operators c.in_ok-index.ensures.settles c.in_ok-index.ensures.after c.in_ok-index.ensures.inside c.in_ok-index.ensures.counted c.in_ok-index.ensures.within)
 
 -- src/expression.rt:306:40
 pub path-returns-in_err-part : goal.path-returns-in_err-part
-path-returns-in_err-part t c = ?
+path-returns-in_err-part t c =
+    let p = err_from_is_err_and c.from_residual-in_err-part.result c.from_residual-in_err-part.ensures.1 in
+    rw (p.1, p.2) (path_fails c.args.tokens.now c.args.at c.args.depth c.args.before _ (part_row c.parts.rest.items) c.parts.place c.parts.count c.parts.invariant (search rules) c.in_err-part.field-0.0 c.in_err-part.ensures)
 
 -- src/expression.rt:305:5
 pub path-parts-preserved : goal.path-parts-preserved
-path-parts-preserved t c = ?
+path-parts-preserved t c =
+    rw (c.in_ok-push.ensures.ok, part_more) (path_turns c.args.tokens.now c.args.at c.args.depth c.args.before _ (part_row c.parts.rest.items) c.parts.place c.parts.count c.parts.invariant (search rules) (view_next_part c.in_ok-part.part) c.in_ok-part.after c.in_ok-part.operators c.in_ok-part.ensures.settles c.in_ok-part.ensures.after c.in_ok-part.ensures.inside c.in_ok-part.ensures.counted c.in_ok-part.ensures.within)
 
 -- src/expression.rt:282:1
 pub path-returns : goal.path-returns
-path-returns t c = ?
+path-returns t c = record {
+  settles = rw dotted_view (path_ends c.args.tokens.now c.args.at c.args.depth c.args.before _ (part_row c.parts.rest.items) c.parts.place c.parts.count c.parts.invariant (search rules));
+  after = omega (arith, c.parts.invariant.after, c.parts.invariant.reached);
+  inside = c.parts.invariant.inside;
+  counted = rw dotted_view (omega (arith, c.parts.invariant.counted));
+  within = c.parts.invariant.within;
+}
 
 -- src/expression.rt:228:40
 pub primary-returns-in_err-expr : goal.primary-returns-in_err-expr
@@ -262,19 +272,28 @@ ranges-returns-in_err-first t c =
 
 -- src/expression.rt:141:5
 pub ranges-more-init : goal.ranges-more-init
-ranges-more-init t c = ?
+ranges-more-init t c = rw (c.in_ok-first-2.ensures.ok, c.new-rest.ensures.items) (ranges_begin c.args.tokens.now c.args.at c.args.depth c.args.before c.requires.behind (view_range c.in_ok-first.first) c.in_ok-first.after c.in_ok-first.operators c.in_ok-first.ensures.settles c.in_ok-first.ensures.after c.in_ok-first.ensures.inside c.in_ok-first.ensures.counted c.in_ok-first.ensures.within)
 
 -- src/expression.rt:143:41
 pub ranges-returns-in_err-range : goal.ranges-returns-in_err-range
-ranges-returns-in_err-range t c = ?
+ranges-returns-in_err-range t c =
+    let p = err_from_is_err_and c.from_residual-in_err-range.result c.from_residual-in_err-range.ensures.1 in
+    rw (p.1, p.2) (ranges_fail c.args.tokens.now c.args.at c.args.depth c.args.before c.requires.behind (view_range c.in_ok-first-2.first.value) (range_row c.more.rest.items) c.more.place c.more.count c.more.invariant (search rules) c.in_ok-comma.comma c.in_ok-comma.ensures.reads.0 (c.more.place + 1 - 1) (omega (arith, c.more.invariant.after, c.more.invariant.reached)) c.in_err-range.field-0.0 c.in_err-range.ensures)
 
 -- src/expression.rt:141:5
 pub ranges-more-preserved : goal.ranges-more-preserved
-ranges-more-preserved t c = ?
+ranges-more-preserved t c =
+    rw (c.in_ok-push.ensures.ok, range_more) (ranges_turn c.args.tokens.now c.args.at c.args.depth c.args.before c.requires.behind (view_range c.in_ok-first-2.first.value) (range_row c.more.rest.items) c.more.place c.more.count c.more.invariant (search rules) c.in_ok-comma.comma c.in_ok-comma.ensures.reads.0 (c.more.place + 1 - 1) (omega (arith, c.more.invariant.after, c.more.invariant.reached)) (view_range c.in_ok-range.range) c.in_ok-range.after c.in_ok-range.operators c.in_ok-range.ensures.settles c.in_ok-range.ensures.after c.in_ok-range.ensures.inside c.in_ok-range.ensures.counted c.in_ok-range.ensures.within)
 
 -- src/expression.rt:123:1
 pub ranges-returns : goal.ranges-returns
-ranges-returns t c = ?
+ranges-returns t c = record {
+  settles = rw ranges_view (ranges_end c.args.tokens.now c.args.at c.args.depth c.args.before c.requires.behind (view_range c.in_ok-first-2.first.value) (range_row c.more.rest.items) c.more.place c.more.count c.more.invariant (search rules));
+  after = omega (arith, c.more.invariant.after, c.more.invariant.reached);
+  inside = c.more.invariant.inside;
+  counted = rw ranges_view (omega (arith, c.more.invariant.counted));
+  within = c.more.invariant.within;
+}
 
 -- src/expression.rt:189:40
 pub unary-returns-in_err-part : goal.unary-returns-in_err-part
