@@ -38,6 +38,9 @@ parts_in (more_of-NextPart head tail) = ap (λ (r : NextPartRow). MoreNextPartRo
 pub dotted_view : (first : PartNode) (v : Vec NextPart) → view_path (the_path.Dotted first v) ≡ PathDotted (view_part first) (part_row v.items)
 dotted_view first v = ap (λ (r : NextPartRow). PathDotted (view_part first) r) (parts_in (hidden-the_row-NextPart-0 v) ∙ ap part_row (items_hidden-the_row-NextPart-0 v))
 
+pub dotted_counts : (first : PartNode) (v : Vec NextPart) (b count : ℕ) → count ≡ (b + operators_part (view_part first)) + operators_next_part_row (part_row v.items) → count ≡ b + operators_path (view_path (the_path.Dotted first v))
+dotted_counts first v b count e = e ∙ (let a : (b + operators_part (view_part first)) + operators_next_part_row (part_row v.items) ≡ b + (operators_part (view_part first) + operators_next_part_row (part_row v.items)) = omega arith in a) ∙ ap (λ (p : PathTree). b + operators_path p) (sym (dotted_view first v))
+
 ranges_in : {n : _} (k : Row_of-NextRange n) → view_next_range_row k ≡ range_row (items-the_row-NextRange n k)
 ranges_in end_of-NextRange = refl
 ranges_in (more_of-NextRange comma range tail) = ap (λ (r : NextRangeRow). MoreNextRangeRow (MakeNextRange comma (view_range range)) r) (ranges_in tail)

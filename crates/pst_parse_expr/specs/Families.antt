@@ -1,5 +1,5 @@
 -- The parsers of expressions for each size: each function of the program has one of these.
-use Rattle.std.specs.Prelude.{ℕ, suc, ◌+◌, ◌-◌, ◌≤◌, List, [], ◌∷◌, length, Option, Some, None, Result, Ok, Err, drop}
+use Rattle.std.specs.Prelude.{◌≡◌, ℕ, suc, ◌+◌, ◌-◌, ◌≤◌, List, [], ◌∷◌, length, Option, Some, None, Result, Ok, Err, drop}
 use Rattle.pst_token.specs.declared.token.Token.{Token}
 use Rattle.pst_ast.specs.declared.leaf.Name.{Name}
 use Rattle.pst_ast.specs.declared.expression.IndexNode.{IndexNode}
@@ -8,6 +8,7 @@ use Rattle.pst_ast.specs.declared.fault.SyntaxFault.{SyntaxFault}
 use Rattle.pst_ast.specs.declared.expression.NextPart.{NextPart}
 use Rattle.pst_ast.specs.declared.expression.NextRange.{NextRange}
 use Rattle.pst_ast.specs.ExpressionView.{view_index, view_next_part, view_next_range, view_path}
+use Rattle.pst_ast.specs.ExpressionOperators.{operators_path}
 use Rattle.pst_ast.specs.ExpressionTree.{ExprTree, UnaryTree, PrimaryTree, PathTree, NextPartTree, NextPartRow, NoNextPartRow, MoreNextPartRow, MaybeIndex, NoIndex, SomeIndex, RangesTree, RangeTree, NextRangeRow, NoNextRangeRow, MoreNextRangeRow}
 use Rattle.pst_reading.specs.Parser.{Parser, Took, Wrong, next}
 use Rattle.pst_reading.specs.Gives.{Family, SettlesFrom, FailsFrom}
@@ -57,9 +58,9 @@ abbrev pub view_index_option : Option IndexNode → MaybeIndex
 view_index_option None = NoIndex
 view_index_option (Some index) = SomeIndex (view_index index)
 
--- an item of an enum behind its first name
+-- an item of an enum behind its first name, which has no operators
 abbrev pub GivesItem : List Token → ℕ → ℕ → ℕ → Name → Result (PathNode × ℕ) SyntaxFault → Type 0
-GivesItem tokens at depth before first (Ok x) = SettlesFrom (λ size prefixes. item_by depth before first) tokens at at (Took (view_path x.0) (drop x.1 tokens)) × (at + 2 ≤ x.1) × (x.1 ≤ length tokens)
+GivesItem tokens at depth before first (Ok x) = SettlesFrom (λ size prefixes. item_by depth before first) tokens at at (Took (view_path x.0) (drop x.1 tokens)) × (at + 2 ≤ x.1) × (x.1 ≤ length tokens) × (operators_path (view_path x.0) ≡ 0)
 GivesItem tokens at depth before first (Err fault) = FailsFrom (λ size prefixes. item_by depth before first) tokens at at fault
 
 -- parts behind dots, and ranges behind commas, in a row

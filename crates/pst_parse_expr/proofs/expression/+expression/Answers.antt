@@ -2,11 +2,12 @@ use Rattle.std.proofs.lemmas.Result.{err_from_is_err_and}
 use Rattle.std.proofs.Common.{subst}
 use Rattle.std.proofs.Common.{Err}
 use Rattle.pst_token.specs.declared.kind.Kind.TheVariants as kind
+use Rattle.pst_ast.specs.declared.expression.PartNode.{roll-PartNode}
 use Rattle.pst_ast.specs.Limits.{counted, is_over}
 use Rattle.pst_reading.specs.Parser.{Took, run, mark_by}
 use Rattle.pst_reading.specs.Gives.{SettlesFrom, FailsFrom, Expects}
 use Rattle.pst_parse_expr.proofs.Loops.{range_low_fails, single_given}
-use Rattle.pst_parse_expr.proofs.Turns.{dotted_view, ranges_view, part_more, range_more, ranges_begin, ranges_end, ranges_fail, ranges_turn, path_begins, path_ends, path_fails, path_turns}
+use Rattle.pst_parse_expr.proofs.Turns.{dotted_view, dotted_counts, ranges_view, part_more, range_more, ranges_begin, ranges_end, ranges_fail, ranges_turn, path_begins, path_ends, path_fails, path_turns}
 use Rattle.pst_parse_expr.proofs.Rules.{part_view, between_given, between_fails, index_inner_fails, index_close_fails, index_given, plain_fails, plain_given, prefix_deep, prefix_inside, prefix_fails, prefix_given, zero_fails, zero_given, next_part_fails, next_part_given, next_part_counts, next_view, path_part_fails, path_part_given, group_inner_fails, group_close_fails, group_given, in_ranges_fail, in_close_fails, in_given, item_fails, item_given, path_index_fails, left_fails, first_range_fails}
 use Rattle.std.proofs.Common.{rules, arith, ◌≡◌, ◌≤◌, ◌<◌, ◌+◌, ◌-◌, ◌⊎◌, length, drop, true, Some, IfOk, ℕ, ◌*◌, ◌/◌, ◌%◌, Bool, false, nat_eq, nat_lt, List, [], ◌∷◌, ◌++◌, slice_index_or, slice_set, bit_and, bit_or, Fits, w8, w32, w64, Bor, MutBor}
 use Rattle.pst_ast.specs.ExpressionView.{view_expr, view_unary, view_primary, view_path, view_next_part, view_ranges, view_range}
@@ -155,7 +156,13 @@ path-returns-in_err-path t c =
 
 -- src/expression.rt:298:9
 pub path-returns-then-is : goal.path-returns-then-is
-path-returns-then-is t c = ?
+path-returns-then-is t c = record {
+  settles = item_given c.args.tokens.now c.args.at c.args.depth c.args.before c.in_ok-name.name c.in_ok-name.ensures.reads.0 (search rules) (view_path c.in_ok-path.path) c.in_ok-path.after c.in_ok-path.ensures.0;
+  after = omega (arith, c.in_ok-path.ensures.1);
+  inside = c.in_ok-path.ensures.2;
+  counted = omega (arith, c.in_ok-path.ensures.3);
+  within = c.requires.operators;
+}
 
 -- src/expression.rt:300:37
 pub path-returns-in_err-index : goal.path-returns-in_err-index
@@ -184,7 +191,7 @@ path-returns t c = record {
   settles = rw dotted_view (path_ends c.args.tokens.now c.args.at c.args.depth c.args.before _ (part_row c.parts.rest.items) c.parts.place c.parts.count c.parts.invariant (search rules));
   after = omega (arith, c.parts.invariant.after, c.parts.invariant.reached);
   inside = c.parts.invariant.inside;
-  counted = rw dotted_view (omega (arith, c.parts.invariant.counted));
+  counted = dotted_counts (roll-PartNode (record { name = c.in_ok-name.name; index = c.in_ok-index.index })) c.parts.rest c.args.before c.parts.count c.parts.invariant.counted;
   within = c.parts.invariant.within;
 }
 
