@@ -12,3 +12,4 @@ pub mod Answering
 pub mod Loops
 pub mod Rules
 pub mod Turns
+pub mod Operations

@@ -105,7 +105,7 @@ module _ (tokens : List Token) (at d b inner : ℕ) (deeper : inner ≡ suc d) (
 pub no_index_given : (tokens : List Token) (at d b : ℕ) → next_is (is_mark kind.LeftBracket) (next (drop at tokens)) ≡ false → SettlesFrom (index_family d b) tokens at at (Took NoIndex (drop at tokens))
 no_index_given tokens at d b absent = settles_choice tokens at kind.LeftBracket (λ m n. followed_by (index_by (expr_at m) d b) (λ i. Done (SomeIndex i))) (λ m n. Done NoIndex) at (Took NoIndex (drop at tokens)) false absent (done tokens at at NoIndex)
 
-slice_at : (ts : List Token) (n : ℕ) (t : Token) (us : List Token) (default : Token) → drop n ts ≡ t ∷ us → slice_index_or ts n default ≡ t
+pub slice_at : (ts : List Token) (n : ℕ) (t : Token) (us : List Token) (default : Token) → drop n ts ≡ t ∷ us → slice_index_or ts n default ≡ t
 slice_at [] zero t us default e = absurd cc
 slice_at [] (suc n) t us default e = absurd cc
 slice_at (x ∷ xs) zero t us default e = cc

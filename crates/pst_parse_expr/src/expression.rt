@@ -1,7 +1,7 @@
 //! Expressions. A parser stands at a place, with `depth` derivations that count open round it and
 //! `before` operators of its outermost expression in front of it; it answers the tree, the place
 //! behind it, and how many of these operators stand in front of that.
-ghost use Rattle.std.specs.Prelude.{◌≡◌, ◌≤◌, ◌<◌, ◌+◌, ◌-◌, ◌⊎◌, length, drop, true, Some, IfOk};
+ghost use Rattle.std.specs.Prelude.{◌≡◌, ◌≤◌, ◌<◌, ◌+◌, ◌-◌, ◌⊎◌, length, drop, true, is_some, Some, IfOk};
 ghost use Rattle.pst_ast.specs.ExpressionView.{view_expr, view_unary, view_primary, view_path, view_next_part, view_ranges, view_range};
 ghost use Rattle.pst_ast.specs.ExpressionOperators.{operators_expr, operators_unary, operators_primary, operators_path, operators_next_part, operators_maybe_index, operators_ranges, operators_range};
 ghost use Rattle.pst_reading.specs.Parser.{next};
@@ -55,7 +55,7 @@ pub fn level(
     Ok((left, place, count))
 }
 
-// An operator behind a left part, and the part on its right.
+// An operator of a level behind a left part, and the part on its right: such an operator stands here.
 #[cycle(expression)]
 fn operation(
     alloc: Global,
@@ -71,6 +71,7 @@ fn operation(
     requires operators { before ≤ 256 }
     requires above { above ≤ 9 }
     requires counted { operators_expr (view_expr left) ≤ before }
+    requires begun { (is_some (operator_of (9 - above) (next (drop at tokens.now))) ≡ true) ⊎ (is_in (9 - above) (next (drop at tokens.now)) ≡ true) }
     ensures { Gives view_expr operators_expr (operation_family above depth (before - operators_expr (view_expr left)) (view_expr left) (next (drop at tokens.now))) tokens.now at at (before - operators_expr (view_expr left)) 1 result }
 {
     let Some(operator) = operator_at(tokens, at, LEVELS - 1 - above) else {

@@ -7,9 +7,11 @@ use Rattle.pst_ast.specs.Limits.{counted, is_over}
 use Rattle.pst_reading.specs.Parser.{Took, run, mark_by}
 use Rattle.pst_reading.specs.Gives.{SettlesFrom, FailsFrom, Expects}
 use Rattle.pst_parse_expr.proofs.Loops.{range_low_fails, single_given}
+use Rattle.pst_parse_expr.proofs.Operations.{Begun, operator_inside, operation_deep, operation_fails, operation_given, membership_gives, level_begins, level_ends, level_fails, level_turns}
+use Rattle.pst_parse_expr.proofs.expression.+expression.Goals.{level-then-has_operator, level-else-has_operator+then-has_in}
 use Rattle.pst_parse_expr.proofs.Turns.{dotted_view, dotted_counts, ranges_view, part_more, range_more, ranges_begin, ranges_end, ranges_fail, ranges_turn, path_begins, path_ends, path_fails, path_turns}
 use Rattle.pst_parse_expr.proofs.Rules.{part_view, between_given, between_fails, index_inner_fails, index_close_fails, index_given, plain_fails, plain_given, prefix_deep, prefix_inside, prefix_fails, prefix_given, zero_fails, zero_given, next_part_fails, next_part_given, next_part_counts, next_view, path_part_fails, path_part_given, group_inner_fails, group_close_fails, group_given, in_ranges_fail, in_close_fails, in_given, item_fails, item_given, path_index_fails, left_fails, first_range_fails}
-use Rattle.std.proofs.Common.{rules, arith, ◌≡◌, ◌≤◌, ◌<◌, ◌+◌, ◌-◌, ◌⊎◌, length, drop, true, Some, IfOk, ℕ, ◌*◌, ◌/◌, ◌%◌, Bool, false, nat_eq, nat_lt, List, [], ◌∷◌, ◌++◌, slice_index_or, slice_set, bit_and, bit_or, Fits, w8, w32, w64, Bor, MutBor}
+use Rattle.std.proofs.Common.{rules, arith, inl, inr, is_some, ◌≡◌, ◌≤◌, ◌<◌, ◌+◌, ◌-◌, ◌⊎◌, length, drop, true, Some, IfOk, ℕ, ◌*◌, ◌/◌, ◌%◌, Bool, false, nat_eq, nat_lt, List, [], ◌∷◌, ◌++◌, slice_index_or, slice_set, bit_and, bit_or, Fits, w8, w32, w64, Bor, MutBor}
 use Rattle.pst_ast.specs.ExpressionView.{view_expr, view_unary, view_primary, view_path, view_next_part, view_ranges, view_range}
 use Rattle.pst_ast.specs.ExpressionOperators.{operators_expr, operators_unary, operators_primary, operators_path, operators_next_part, operators_maybe_index, operators_ranges, operators_range}
 use Rattle.pst_reading.specs.Parser.{next}
@@ -67,19 +69,38 @@ level-returns-in_err-left t c =
 
 -- src/expression.rt:46:5
 pub level-operations-init : goal.level-operations-init
-level-operations-init t c = ?
+level-operations-init t c = level_begins c.args.tokens.now c.args.at (c.args.above - 1) c.args.depth c.args.before (view_expr c.in_ok-left.left) c.in_ok-left.place c.in_ok-left.count c.in_ok-left.ensures.settles c.in_ok-left.ensures.after c.in_ok-left.ensures.inside c.in_ok-left.ensures.counted c.in_ok-left.ensures.within
 
 -- src/expression.rt:50:13
 pub level-returns-in_err-all : goal.level-returns-in_err-all
-level-returns-in_err-all t c = ?
+level-returns-in_err-all t c =
+    let e : 10 - c.args.above ≡ 9 - (c.args.above - 1) = omega arith in
+    let begun : Begun (10 - c.args.above) (next (drop c.operations.place c.args.tokens.now)) = elim c.if-has_operator.branch [ level-then-has_operator w ↦ inl (search rules) | level-else-has_operator+then-has_in w ↦ inr (search rules) ] in
+    let begun' = subst (λ (k : ℕ). Begun k (next (drop c.operations.place c.args.tokens.now))) e begun in
+    let p = err_from_is_err_and c.from_residual-in_err-all.result c.from_residual-in_err-all.ensures.1 in
+    rw (p.1, p.2) (level_fails c.args.tokens.now c.args.at (c.args.above - 1) c.args.depth c.args.before c.args.above (search (rules, arith)) (view_expr c.operations.left) c.operations.place c.operations.count c.operations.invariant begun' c.in_err-all.field-0.0 c.in_err-all.ensures)
 
 -- src/expression.rt:46:5
 pub level-operations-preserved : goal.level-operations-preserved
-level-operations-preserved t c = ?
+level-operations-preserved t c =
+    let e : 10 - c.args.above ≡ 9 - (c.args.above - 1) = omega arith in
+    let begun : Begun (10 - c.args.above) (next (drop c.operations.place c.args.tokens.now)) = elim c.if-has_operator.branch [ level-then-has_operator w ↦ inl (search rules) | level-else-has_operator+then-has_in w ↦ inr (search rules) ] in
+    let begun' = subst (λ (k : ℕ). Begun k (next (drop c.operations.place c.args.tokens.now))) e begun in
+    level_turns c.args.tokens.now c.args.at (c.args.above - 1) c.args.depth c.args.before c.args.above (search (rules, arith)) (view_expr c.operations.left) c.operations.place c.operations.count c.operations.invariant begun' (view_expr c.in_ok-all.all) c.in_ok-all.after c.in_ok-all.operators c.in_ok-all.ensures.settles c.in_ok-all.ensures.after c.in_ok-all.ensures.inside c.in_ok-all.ensures.counted c.in_ok-all.ensures.within
 
 -- src/expression.rt:26:1
 pub level-returns : goal.level-returns
-level-returns t c = ?
+level-returns t c = record {
+  settles =
+      let e : 10 - c.args.above ≡ 9 - (c.args.above - 1) = omega arith in
+      let no_binary : is_some (operator_of (10 - c.args.above) (next (drop c.operations.place c.args.tokens.now))) ≡ false = search rules in
+      let no_in : is_in (10 - c.args.above) (next (drop c.operations.place c.args.tokens.now)) ≡ false = search rules in
+      level_ends c.args.tokens.now c.args.at (c.args.above - 1) c.args.depth c.args.before c.args.above (search (rules, arith)) (view_expr c.operations.left) c.operations.place c.operations.count c.operations.invariant (subst (λ (k : ℕ). is_some (operator_of k (next (drop c.operations.place c.args.tokens.now))) ≡ false) e no_binary) (subst (λ (k : ℕ). is_in k (next (drop c.operations.place c.args.tokens.now)) ≡ false) e no_in);
+  after = omega (arith, c.operations.invariant.after, c.operations.invariant.reached);
+  inside = c.operations.invariant.inside;
+  counted = c.operations.invariant.counted;
+  within = c.operations.invariant.within;
+}
 
 -- src/expression.rt:110:38
 pub membership-returns-in_err-ranges : goal.membership-returns-in_err-ranges
@@ -130,23 +151,31 @@ next_part-returns t c = record {
 
 -- src/expression.rt:77:9
 pub operation-returns-in_default : goal.operation-returns-in_default
-operation-returns-in_default t c = ?
+operation-returns-in_default t c = membership_gives c.args.tokens.now c.args.at c.args.above c.args.depth (c.args.before - operators_expr (view_expr c.args.left)) (view_expr c.args.left) (search rules) c.requires.begun c.membership.result c.membership.ensures
 
 -- src/expression.rt:80:9
 pub operation-returns-then-is_over : goal.operation-returns-then-is_over
-operation-returns-then-is_over t c = ?
+operation-returns-then-is_over t c = operation_deep c.args.tokens.now c.args.at c.args.above c.args.depth (c.args.before - operators_expr (view_expr c.args.left)) (c.args.before + 1) (view_expr c.args.left) (omega (arith, c.requires.counted)) c.in-Some.operator (search rules) (search rules)
 
 -- src/expression.rt:82:37
 pub operation-level-requires : goal.operation-level-requires
-operation-level-requires t c = ?
+operation-level-requires t c = let w = operator_inside (9 - c.args.above) c.args.tokens.now c.args.at c.in-Some.operator (search rules) in search (rules, arith, w)
 
 -- src/expression.rt:82:37
 pub operation-returns-in_err-right : goal.operation-returns-in_err-right
-operation-returns-in_err-right t c = ?
+operation-returns-in_err-right t c =
+    let p = err_from_is_err_and c.from_residual.result c.from_residual.ensures.1 in
+    rw (p.1, p.2) (operation_fails c.args.tokens.now c.args.at c.args.above c.args.depth (c.args.before - operators_expr (view_expr c.args.left)) (c.args.before + 1) (view_expr c.args.left) (omega (arith, c.requires.counted)) c.in-Some.operator (search rules) (search rules) c.in_err-right.field-0.0 c.in_err-right.ensures)
 
 -- src/expression.rt:59:1
 pub operation-returns : goal.operation-returns
-operation-returns t c = ?
+operation-returns t c = record {
+  settles = rw (c.in_ok-boxed.ensures.ok, c.in_ok-boxed-2.ensures.ok) (operation_given c.args.tokens.now c.args.at c.args.above c.args.depth (c.args.before - operators_expr (view_expr c.args.left)) (c.args.before + 1) (view_expr c.args.left) (omega (arith, c.requires.counted)) c.in-Some.operator (search rules) (search rules) (view_expr c.in_ok-right.right) c.in_ok-right.after _ c.in_ok-right.ensures.settles);
+  after = omega (arith, c.in_ok-right.ensures.after);
+  inside = c.in_ok-right.ensures.inside;
+  counted = rw (c.in_ok-boxed.ensures.ok, c.in_ok-boxed-2.ensures.ok) (omega (arith, c.in_ok-right.ensures.counted, c.requires.counted));
+  within = c.in_ok-right.ensures.within;
+}
 
 -- src/expression.rt:297:29
 pub path-returns-in_err-path : goal.path-returns-in_err-path
