@@ -181,7 +181,7 @@ module _ (X : Parsers ExprTree) (size : ℕ) (A : (d b : ℕ) (e : ExprTree) (re
       let part = followed_by (next_range_by X d b') (λ p. Done (with_range row p)) in
       let begins : more_ranges_of X d b row (next ts) ≡ Some part = ap (λ (x : Bool). if x then Some (followed_by (next_range_by X d (b + operators_next_range_row row)) (λ p. Done (with_range row p))) else None) (mark_is_so kind.Comma comma) in
       let h = turn_becomes (more_ranges_of X d b) m row (with_range row head) part ts us (counts_next_range d b' head) begins
-          (becomes_followed (next_range_by X d b') (Done head) (λ p. Done (with_range row p)) ts us (counts_next_range d b' head) (next_range_again d b' head us proper.0 (omega (arith, short, long)) (row_ends_range tail rest s))) in
+      (becomes_followed (next_range_by X d b') (Done head) (λ p. Done (with_range row p)) ts us (counts_next_range d b' head) (next_range_again d b' head us proper.0 (omega (arith, short, long)) (row_ends_range tail rest s))) in
       let count : b + operators_next_range_row (with_range row head) ≡ b' + operators_range range = (let e = operators_with_range row head in omega (arith, e)) in
       let k = more_again d b tail (with_range row head) m rest proper.1 (omega (arith, turns, long)) (omega (arith, short, long)) s comma_free in
       let j = becomes_on (repeat_by (more_ranges_of X d b) (suc m) row) (repeat_by (more_ranges_of X d b) m (with_range row head)) (Done (ranges_behind (with_range row head) tail)) ts us rest (counts_next_range d b' head) (counts_next_range_row d (b' + operators_range range) tail) h (subst (λ (n : ℕ). Becomes (repeat_by (more_ranges_of X d b) m (with_range row head)) us (counts_next_range_row d n tail) (Done (ranges_behind (with_range row head) tail)) rest) count k) in

@@ -73,9 +73,9 @@ pub record PathLoop (tokens : List Token) (at depth before : ℕ) (part : PartTr
 module _ (tokens : List Token) (start at d b : ℕ) (lt : start < at) (le : at ≤ length tokens) where
   pub range_low_fails : (e : SyntaxFault) → FailsFrom (level_family 10 d b) tokens at at e → FailsFrom (range_family d b) tokens start at e
   range_low_fails e h = fails_first tokens start (λ m n. expr_at m d b) (λ m n low. if_mark kind.DotDot (do
-      dots ← mark_by kind.DotDot (Limits.counted d (b + operators_expr low))
-      high ← expr_at m d (b + operators_expr low)
-      Done (RangeBetween low dots high)) (Done (RangeSingle low))) at e (nested_fault e h)
+    dots ← mark_by kind.DotDot (Limits.counted d (b + operators_expr low))
+    high ← expr_at m d (b + operators_expr low)
+    Done (RangeBetween low dots high)) (Done (RangeSingle low))) at e (nested_fault e h)
     where
       nested_fault : (f : SyntaxFault) → FailsFrom (level_family 10 d b) tokens at at f → FailsFrom (λ m n. expr_at m d b) tokens start at f
       nested_fault (the_fault.At k) g = (expr_nested tokens start at d b (Refused (drop k tokens)) lt le g.0, g.1, g.2)
@@ -84,7 +84,7 @@ module _ (tokens : List Token) (start at d b : ℕ) (lt : start < at) (le : at �
 
   pub single_given : (low : ExprTree) (after : ℕ) → next_is (is_mark kind.DotDot) (next (drop after tokens)) ≡ false → SettlesFrom (level_family 10 d b) tokens at at (Took low (drop after tokens)) → SettlesFrom (range_family d b) tokens start at (Took (RangeSingle low) (drop after tokens))
   single_given low after absent h = settles_both tokens start (λ m n. expr_at m d b) (λ m n low. if_mark kind.DotDot (do
-      dots ← mark_by kind.DotDot (Limits.counted d (b + operators_expr low))
-      high ← expr_at m d (b + operators_expr low)
-      Done (RangeBetween low dots high)) (Done (RangeSingle low))) at after low (Took (RangeSingle low) (drop after tokens)) (expr_nested tokens start at d b (Took low (drop after tokens)) lt le h)
+    dots ← mark_by kind.DotDot (Limits.counted d (b + operators_expr low))
+    high ← expr_at m d (b + operators_expr low)
+    Done (RangeBetween low dots high)) (Done (RangeSingle low))) at after low (Took (RangeSingle low) (drop after tokens)) (expr_nested tokens start at d b (Took low (drop after tokens)) lt le h)
       (settles_choice tokens start kind.DotDot (λ m n. mark_by kind.DotDot (Limits.counted d (b + operators_expr low)) >>= λ dots. expr_at m d (b + operators_expr low) >>= λ high. Done (RangeBetween low dots high)) (λ m n. Done (RangeSingle low)) after (Took (RangeSingle low) (drop after tokens)) false absent (λ m n x y. refl))

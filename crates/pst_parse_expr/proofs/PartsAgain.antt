@@ -58,8 +58,8 @@ module _ (X : Parsers ExprTree) (size : ℕ) (A : (d b : ℕ) (e : ExprTree) (re
   next_part_again d b (MakeNextPart dot (MakePart name i)) rest proper short s =
       let c = counted d b in
       let h = becomes_both (mark_by kind.Dot c) _ dot _ _ (name_token name ∷ (spell_maybe_index i ++ rest)) rest (c ∷ []) _ (mark_becomes kind.Dot c dot _)
-          (becomes_both (name_by c) _ name _ _ (spell_maybe_index i ++ rest) rest (c ∷ []) _ (name_becomes c name _)
-          (becomes_both (maybe_index_by X d b) (λ j. Done (MakeNextPart dot (MakePart name j))) i (Done (MakeNextPart dot (MakePart name i))) _ rest rest (counts_maybe_index d b i) [] (maybe_index_again d b i rest proper (omega (arith, short)) s) (stays (Done (MakeNextPart dot (MakePart name i))) rest))) in
+      (becomes_both (name_by c) _ name _ _ (spell_maybe_index i ++ rest) rest (c ∷ []) _ (name_becomes c name _)
+      (becomes_both (maybe_index_by X d b) (λ j. Done (MakeNextPart dot (MakePart name j))) i (Done (MakeNextPart dot (MakePart name i))) _ rest rest (counts_maybe_index d b i) [] (maybe_index_again d b i rest proper (omega (arith, short)) s) (stays (Done (MakeNextPart dot (MakePart name i))) rest))) in
       subst (λ (cs : List Count). Becomes (next_part_by X d b) (mark kind.Dot dot ∷ name_token name ∷ (spell_maybe_index i ++ rest)) (c ∷ c ∷ cs) (Done (MakeNextPart dot (MakePart name i))) rest) (append-nil (counts_maybe_index d b i)) h
 
   -- what follows a part of a row
@@ -100,7 +100,7 @@ module _ (X : Parsers ExprTree) (size : ℕ) (A : (d b : ℕ) (e : ExprTree) (re
       let part = followed_by (next_part_by X d b') (λ p. Done (with_part row p)) in
       let begins : parts_of X d b row (next ts) ≡ Some part = ap (λ (x : Bool). if x then Some (followed_by (next_part_by X d (b + operators_next_part_row row)) (λ p. Done (with_part row p))) else None) (mark_is_so kind.Dot dot) in
       let h = turn_becomes (parts_of X d b) m row (with_part row head) part ts us (counts_next_part d b' head) begins
-          (becomes_followed (next_part_by X d b') (Done head) (λ p. Done (with_part row p)) ts us (counts_next_part d b' head) (next_part_again d b' head us proper.0 (omega (arith, short, long)) (part_stops head tail rest s))) in
+      (becomes_followed (next_part_by X d b') (Done head) (λ p. Done (with_part row p)) ts us (counts_next_part d b' head) (next_part_again d b' head us proper.0 (omega (arith, short, long)) (part_stops head tail rest s))) in
       let count : b + operators_next_part_row (with_part row head) ≡ b' + operators_part (MakePart name i) = (let e = operators_with_part row head in omega (arith, e)) in
       let k = parts_again d b tail (with_part row head) m rest proper.1 (omega (arith, turns, long)) (omega (arith, short, long)) (later_stops head tail (next rest) s) dot_free in
       let j = becomes_on (repeat_by (parts_of X d b) (suc m) row) (repeat_by (parts_of X d b) m (with_part row head)) (Done (parts_behind (with_part row head) tail)) ts us rest (counts_next_part d b' head) (counts_next_part_row d (b' + operators_part (MakePart name i)) tail) h (subst (λ (n : ℕ). Becomes (repeat_by (parts_of X d b) m (with_part row head)) us (counts_next_part_row d n tail) (Done (parts_behind (with_part row head) tail)) rest) count k) in

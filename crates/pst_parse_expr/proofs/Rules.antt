@@ -39,9 +39,9 @@ module _ (tokens : List Token) (start at d b : ℕ) (lt : start < at) (le : at �
 
   abbrev rest : ℕ → ℕ → ExprTree → Parser RangeTree
   rest m n e = if_mark kind.DotDot (do
-      p ← mark_by kind.DotDot (counted d (b + operators_expr e))
-      high ← expr_at m d (b + operators_expr e)
-      Done (RangeBetween e p high)) (Done (RangeSingle e))
+    p ← mark_by kind.DotDot (counted d (b + operators_expr e))
+    high ← expr_at m d (b + operators_expr e)
+    Done (RangeBetween e p high)) (Done (RangeSingle e))
 
   pub between_given : (high : ExprTree) (end : ℕ) → SettlesFrom (level_family 10 d (b + operators_expr low)) tokens (after + 1) (after + 1) (Took high (drop end tokens)) → SettlesFrom (range_family d b) tokens start at (Took (RangeBetween low dots high) (drop end tokens))
   between_given high end h =

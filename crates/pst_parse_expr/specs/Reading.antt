@@ -123,9 +123,9 @@ unary_by primary (suc prefixes) depth before = Look (λ next. prefix_by primary 
 
 abbrev pub range_by : Parsers ExprTree → Parsers RangeTree
 range_by expr depth before = followed_by (expr depth before) (λ low. if_mark kind.DotDot (do
-    dots ← mark_by kind.DotDot (counted depth (before + operators_expr low))
-    high ← expr depth (before + operators_expr low)
-    Done (RangeBetween low dots high)) (Done (RangeSingle low)))
+  dots ← mark_by kind.DotDot (counted depth (before + operators_expr low))
+  high ← expr depth (before + operators_expr low)
+  Done (RangeBetween low dots high)) (Done (RangeSingle low)))
 
 abbrev pub with_range : NextRangeRow → NextRangeTree → NextRangeRow
 with_range NoNextRangeRow range = MoreNextRangeRow range NoNextRangeRow

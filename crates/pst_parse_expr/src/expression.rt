@@ -46,8 +46,15 @@ pub fn level(
     'operations: while has_operator(tokens, place, LEVELS - above)
         || has_in(tokens, place, LEVELS - above)
     {
-        let (all, after, operators) =
-            operation(alloc, tokens, place, depth, count, above - 1, left)?;
+        let (all, after, operators) = operation(
+            alloc,
+            tokens,
+            place,
+            depth,
+            count,
+            above - 1,
+            left,
+        )?;
         left = all;
         place = after;
         count = operators;
@@ -229,8 +236,13 @@ fn primary(
     if is(tokens, at, Kind::LeftParenthesis) {
         let left_parenthesis = expect(tokens, at, Kind::LeftParenthesis, depth + 1, before)?;
         let (expr, after, operators) = level(alloc, tokens, at + 1, depth + 1, before, LEVELS)?;
-        let right_parenthesis =
-            expect(tokens, after, Kind::RightParenthesis, depth + 1, operators)?;
+        let right_parenthesis = expect(
+            tokens,
+            after,
+            Kind::RightParenthesis,
+            depth + 1,
+            operators,
+        )?;
         let group = PrimaryNode::Group {
             left_parenthesis,
             expr: boxed(alloc, expr)?,

@@ -58,20 +58,35 @@ fn repeated(
 }
 
 const A: Kind = Kind::Name;
+
 const N: Kind = Kind::Number;
+
 const IN: Kind = Kind::In;
+
 const LB: Kind = Kind::LeftBracket;
+
 const RB: Kind = Kind::RightBracket;
+
 const LP: Kind = Kind::LeftParenthesis;
+
 const RP: Kind = Kind::RightParenthesis;
+
 const PLUS: Kind = Kind::Plus;
+
 const MINUS: Kind = Kind::Minus;
+
 const STAR: Kind = Kind::Star;
+
 const LESS: Kind = Kind::Less;
+
 const EQUAL: Kind = Kind::EqualEqual;
+
 const DOT: Kind = Kind::Dot;
+
 const DOTS: Kind = Kind::DotDot;
+
 const COMMA: Kind = Kind::Comma;
+
 const COLONS: Kind = Kind::ColonColon;
 
 // The places are worked out by hand from the grammar.
@@ -116,48 +131,82 @@ fn wrong_tokens(rt: HostRuntime) {
     assert!(rt; outcome(alloc, &[A, LB, N], 0) == Err(SyntaxFault::At { at: 3 }));
     assert!(rt; outcome(alloc, &[A, COLONS], 0) == Err(SyntaxFault::At { at: 2 }));
     assert!(rt; outcome(alloc, &[A, COLONS, A, COLONS, N], 0) == Err(SyntaxFault::At { at: 4 }));
-    assert!(rt; outcome(alloc, &[A, DOT, A, LB, N, RB, DOT, N], 0) == Err(SyntaxFault::At { at: 7 }));
+    assert!(rt;
+        outcome(alloc, &[A, DOT, A, LB, N, RB, DOT, N], 0) == Err(SyntaxFault::At { at: 7 })
+    );
     assert!(rt; outcome(alloc, &[A, PLUS, RP], 0) == Err(SyntaxFault::At { at: 2 }));
     assert!(rt; outcome(alloc, &[A, PLUS, PLUS, A], 0) == Err(SyntaxFault::At { at: 2 }));
     assert!(rt; outcome(alloc, &[LP, A, N], 0) == Err(SyntaxFault::At { at: 2 }));
-    assert!(rt; outcome(alloc, &[LP, A, IN, LB, N, RB, PLUS, N, RP], 0) == Err(SyntaxFault::At { at: 6 }));
+    assert!(rt;
+        outcome(alloc, &[LP, A, IN, LB, N, RB, PLUS, N, RP], 0) == Err(SyntaxFault::At { at: 6 })
+    );
     assert!(rt; outcome(alloc, &[A, IN, N], 0) == Err(SyntaxFault::At { at: 2 }));
     assert!(rt; outcome(alloc, &[A, IN, LB, RB], 0) == Err(SyntaxFault::At { at: 3 }));
     assert!(rt; outcome(alloc, &[A, IN, LB, N, N], 0) == Err(SyntaxFault::At { at: 4 }));
     assert!(rt; outcome(alloc, &[A, IN, LB, N, DOTS, RB], 0) == Err(SyntaxFault::At { at: 5 }));
     assert!(rt; outcome(alloc, &[A, IN, LB, N, COMMA, RB], 0) == Err(SyntaxFault::At { at: 5 }));
-    assert!(rt; outcome(alloc, &[A, IN, LB, N, DOTS, N, DOTS, N, RB], 0) == Err(SyntaxFault::At { at: 6 }));
+    assert!(rt;
+        outcome(alloc, &[A, IN, LB, N, DOTS, N, DOTS, N, RB], 0) == Err(SyntaxFault::At { at: 6 })
+    );
 }
 
 #[test]
 fn limits(rt: HostRuntime) -> Result<(), Fail> {
     let alloc = rt.alloc();
-    let open = repeated(alloc, &[], [LP, LP], 32, &[A]).ok().ok_or("memory")?;
-    let whole = repeated(alloc, open.as_slice(), [RP, RP], 32, &[]).ok().ok_or("memory")?;
+    let open = repeated(alloc, &[], [LP, LP], 32, &[A])
+        .ok()
+        .ok_or("memory")?;
+    let whole = repeated(alloc, open.as_slice(), [RP, RP], 32, &[])
+        .ok()
+        .ok_or("memory")?;
     assert!(rt; outcome(alloc, whole.as_slice(), 0) == Ok(129));
     assert!(rt; outcome(alloc, whole.as_slice(), 1) == Err(SyntaxFault::Deep { at: 63 }));
-    let empty = repeated(alloc, &[], [LP, LP], 32, &[RP]).ok().ok_or("memory")?;
+    let empty = repeated(alloc, &[], [LP, LP], 32, &[RP])
+        .ok()
+        .ok_or("memory")?;
     assert!(rt; outcome(alloc, empty.as_slice(), 0) == Err(SyntaxFault::At { at: 64 }));
-    let deep = repeated(alloc, &[], [LP, LP], 32, &[LP, A]).ok().ok_or("memory")?;
+    let deep = repeated(alloc, &[], [LP, LP], 32, &[LP, A])
+        .ok()
+        .ok_or("memory")?;
     assert!(rt; outcome(alloc, deep.as_slice(), 0) == Err(SyntaxFault::Deep { at: 64 }));
-    let signs = repeated(alloc, &[], [MINUS, Kind::Not], 32, &[A]).ok().ok_or("memory")?;
+    let signs = repeated(alloc, &[], [MINUS, Kind::Not], 32, &[A])
+        .ok()
+        .ok_or("memory")?;
     assert!(rt; outcome(alloc, signs.as_slice(), 0) == Ok(65));
-    let more_signs = repeated(alloc, &[], [MINUS, Kind::Tilde], 32, &[MINUS, A]).ok().ok_or("memory")?;
+    let more_signs = repeated(alloc, &[], [MINUS, Kind::Tilde], 32, &[MINUS, A])
+        .ok()
+        .ok_or("memory")?;
     assert!(rt; outcome(alloc, more_signs.as_slice(), 0) == Err(SyntaxFault::Deep { at: 64 }));
     assert!(rt; outcome(alloc, &[A, STAR, A], 64) == Ok(3));
     assert!(rt; outcome(alloc, &[LP, A, RP], 64) == Err(SyntaxFault::Deep { at: 0 }));
     assert!(rt; outcome(alloc, &[A, LB, N, RB], 64) == Err(SyntaxFault::Deep { at: 1 }));
     assert!(rt; outcome(alloc, &[A, IN, LB, N, RB], 64) == Ok(5));
     assert!(rt; outcome(alloc, &[A, LB, LP, N, RP, RB], 63) == Err(SyntaxFault::Deep { at: 2 }));
-    let most = repeated(alloc, &[A], [PLUS, A], 256, &[]).ok().ok_or("memory")?;
+    let most = repeated(alloc, &[A], [PLUS, A], 256, &[])
+        .ok()
+        .ok_or("memory")?;
     assert!(rt; outcome(alloc, most.as_slice(), 0) == Ok(513));
-    let many = repeated(alloc, &[A], [PLUS, A], 256, &[STAR, A]).ok().ok_or("memory")?;
+    let many = repeated(alloc, &[A], [PLUS, A], 256, &[STAR, A])
+        .ok()
+        .ok_or("memory")?;
     assert!(rt; outcome(alloc, many.as_slice(), 0) == Err(SyntaxFault::Deep { at: 513 }));
-    let with_in = repeated(alloc, &[A], [LESS, A], 256, &[IN, LB, N, RB]).ok().ok_or("memory")?;
+    let with_in = repeated(alloc, &[A], [LESS, A], 256, &[IN, LB, N, RB])
+        .ok()
+        .ok_or("memory")?;
     assert!(rt; outcome(alloc, with_in.as_slice(), 0) == Err(SyntaxFault::Deep { at: 513 }));
-    let index = repeated(alloc, &[A, LB, A], [PLUS, A], 256, &[RB, LESS, A]).ok().ok_or("memory")?;
+    let index = repeated(alloc, &[A, LB, A], [PLUS, A], 256, &[RB, LESS, A])
+        .ok()
+        .ok_or("memory")?;
     assert!(rt; outcome(alloc, index.as_slice(), 0) == Err(SyntaxFault::Deep { at: 516 }));
-    let range = repeated(alloc, &[A, IN, LB, A], [PLUS, A], 255, &[COMMA, A, STAR, A, RB]).ok().ok_or("memory")?;
+    let range = repeated(
+        alloc,
+        &[A, IN, LB, A],
+        [PLUS, A],
+        255,
+        &[COMMA, A, STAR, A, RB],
+    )
+    .ok()
+    .ok_or("memory")?;
     assert!(rt; outcome(alloc, range.as_slice(), 0) == Err(SyntaxFault::Deep { at: 516 }));
     Ok(())
 }
@@ -191,16 +240,46 @@ fn shape_of(alloc: Global, kinds: &[Kind]) -> Result<[Option<Operator>; 3], Synt
 #[test]
 fn operators_group(rt: HostRuntime) {
     let alloc = rt.alloc();
-    assert!(rt; shape_of(alloc, &[A, MINUS, A, PLUS, A]) == Ok([Some(Operator::Subtract), Some(Operator::Add), None]));
-    assert!(rt; shape_of(alloc, &[A, PLUS, A, STAR, A]) == Ok([None, Some(Operator::Add), Some(Operator::Multiply)]));
-    assert!(rt; shape_of(alloc, &[A, STAR, A, PLUS, A]) == Ok([Some(Operator::Multiply), Some(Operator::Add), None]));
-    assert!(rt; shape_of(alloc, &[A, Kind::OrOr, A, Kind::AndAnd, A]) == Ok([None, Some(Operator::Or), Some(Operator::And)]));
-    assert!(rt; shape_of(alloc, &[A, Kind::Or, A, Kind::Caret, A]) == Ok([None, Some(Operator::BitOr), Some(Operator::BitXor)]));
-    assert!(rt; shape_of(alloc, &[A, Kind::Caret, A, Kind::And, A]) == Ok([None, Some(Operator::BitXor), Some(Operator::BitAnd)]));
-    assert!(rt; shape_of(alloc, &[A, Kind::And, A, EQUAL, A]) == Ok([None, Some(Operator::BitAnd), Some(Operator::Equal)]));
-    assert!(rt; shape_of(alloc, &[A, EQUAL, A, LESS, A]) == Ok([None, Some(Operator::Equal), Some(Operator::Less)]));
-    assert!(rt; shape_of(alloc, &[A, LESS, A, Kind::LessLess, A]) == Ok([None, Some(Operator::Less), Some(Operator::ShiftLeft)]));
-    assert!(rt; shape_of(alloc, &[A, Kind::GreaterGreater, A, MINUS, A]) == Ok([None, Some(Operator::ShiftRight), Some(Operator::Subtract)]));
+    assert!(rt;
+        shape_of(alloc, &[A, MINUS, A, PLUS, A])
+            == Ok([Some(Operator::Subtract), Some(Operator::Add), None])
+    );
+    assert!(rt;
+        shape_of(alloc, &[A, PLUS, A, STAR, A])
+            == Ok([None, Some(Operator::Add), Some(Operator::Multiply)])
+    );
+    assert!(rt;
+        shape_of(alloc, &[A, STAR, A, PLUS, A])
+            == Ok([Some(Operator::Multiply), Some(Operator::Add), None])
+    );
+    assert!(rt;
+        shape_of(alloc, &[A, Kind::OrOr, A, Kind::AndAnd, A])
+            == Ok([None, Some(Operator::Or), Some(Operator::And)])
+    );
+    assert!(rt;
+        shape_of(alloc, &[A, Kind::Or, A, Kind::Caret, A])
+            == Ok([None, Some(Operator::BitOr), Some(Operator::BitXor)])
+    );
+    assert!(rt;
+        shape_of(alloc, &[A, Kind::Caret, A, Kind::And, A])
+            == Ok([None, Some(Operator::BitXor), Some(Operator::BitAnd)])
+    );
+    assert!(rt;
+        shape_of(alloc, &[A, Kind::And, A, EQUAL, A])
+            == Ok([None, Some(Operator::BitAnd), Some(Operator::Equal)])
+    );
+    assert!(rt;
+        shape_of(alloc, &[A, EQUAL, A, LESS, A])
+            == Ok([None, Some(Operator::Equal), Some(Operator::Less)])
+    );
+    assert!(rt;
+        shape_of(alloc, &[A, LESS, A, Kind::LessLess, A])
+            == Ok([None, Some(Operator::Less), Some(Operator::ShiftLeft)])
+    );
+    assert!(rt;
+        shape_of(alloc, &[A, Kind::GreaterGreater, A, MINUS, A])
+            == Ok([None, Some(Operator::ShiftRight), Some(Operator::Subtract)])
+    );
 }
 
 #[test]
@@ -209,7 +288,12 @@ fn tokens_with_more_in_them(rt: HostRuntime) {
     let mut odd = token(Kind::Name);
     odd.number = 1;
     let odd_name = [odd, token(Kind::End)];
-    assert!(rt; matches!(parse_expr(alloc, &odd_name, 0, 0), Err(SyntaxFault::At { at: 0 })));
+    assert!(rt;
+        matches!(
+            parse_expr(alloc, &odd_name, 0, 0),
+            Err(SyntaxFault::At { at: 0 })
+        )
+    );
     let mut plus = token(Kind::Plus);
     plus.name = NameId(7);
     let odd_plus = [token(Kind::Name), plus, token(Kind::Name), token(Kind::End)];
