@@ -1,5 +1,5 @@
 -- The operator table reads what it spells again.
-use Rattle.std.proofs.Common.{◌≡◌, ℕ, zero, suc, ◌+◌, ◌-◌, ◌≤◌, ◌<◌, Bool, true, false, if◌then◌else◌, List, [], ◌∷◌, ◌++◌, length, Some, Option, None, refl, sym, ap, subst, ◌∙◌, ◌⊎◌, inl, inr, arith, append-nil, append_assoc, length-append}
+use Rattle.std.proofs.Common.{◌≡◌, ℕ, zero, suc, ◌+◌, ◌-◌, ◌≤◌, ◌<◌, Bool, true, List, [], ◌∷◌, ◌++◌, length, Some, Option, None, refl, sym, ap, subst, ◌∙◌, ◌⊎◌, inl, inr, arith, append-nil, append_assoc, length-append}
 use Rattle.std.proofs.lemmas.Bool.{cases_lt, eq-eqb}
 use Rattle.pst_base.specs.declared.position.Place.{Place}
 use Rattle.pst_token.specs.declared.kind.Kind.TheVariants as kind
@@ -13,15 +13,14 @@ use Rattle.pst_ast.specs.ExpressionSpelling.{spell_expr, spell_unary, spell_rang
 use Rattle.pst_ast.specs.ExpressionProper.{level, level_of, IsProperExpr, IsProperUnary, IsProperRanges}
 use Rattle.pst_ast.specs.ExpressionOperators.{operators_expr, operators_ranges}
 use Rattle.pst_ast.specs.ExpressionLimits.{counts_expr, counts_unary, counts_ranges}
-use Rattle.pst_reading.specs.Kinds.{is_mark}
-use Rattle.pst_reading.specs.Parser.{Parser, Done, Take, Look, turn, followed_by, next, mark_by, repeat_by}
+use Rattle.pst_reading.specs.Parser.{Parser, Done, turn, followed_by, next, mark_by, repeat_by}
 use Rattle.pst_reading.proofs.Becoming.{Becomes, stays, becomes_on, becomes_followed, becomes_both}
 use Rattle.pst_reading.proofs.Marks.{mark_becomes, look_becomes, take_becomes}
 use Rattle.pst_reading.proofs.Tokens.{mark_is_so}
 use Rattle.pst_parse_expr.specs.Operators.{operator_of, is_in}
 use Rattle.pst_parse_expr.specs.Reading.{Parsers, binary_by, in_by, operation_by, operation_of, level_by}
 use Rattle.pst_parse_expr.proofs.Tokens.{operator_is_so}
-use Rattle.pst_parse_expr.proofs.Stops.{Stops, StopsUnary, IsNoOperator, stops_above, own_stops, Separates, separated, operator_separates, in_separates, no_operator_in}
+use Rattle.pst_parse_expr.proofs.Stops.{Stops, StopsUnary, IsNoOperator, stops_above, own_stops, separated, operator_separates, in_separates, no_operator_in}
 
 pub level_under : (o : Operator) → level_of o < 10
 level_under the_operator.Multiply = omega arith

@@ -1,5 +1,5 @@
 -- What the trees of expressions spell, from the laws of their parsers.
-use Rattle.std.proofs.Common.{◌≡◌, ℕ, zero, suc, ◌+◌, ◌<◌, ◌≤◌, length, drop, length-drop, Result, Ok, Err, List, [], ◌∷◌, ◌++◌, Some, None, Option, ◌⊎◌, refl, sym, ap, arith}
+use Rattle.std.proofs.Common.{◌≡◌, ℕ, zero, suc, ◌<◌, ◌≤◌, length, drop, length-drop, Ok, List, None, arith}
 use Rattle.pst_token.specs.declared.token.Token.{Token}
 use Rattle.pst_ast.specs.ExpressionTree.{ExprTree}
 use Rattle.pst_ast.specs.ExpressionSpelling.{spell_expr}
@@ -7,7 +7,6 @@ use Rattle.pst_ast.specs.ExpressionProper.{IsProperExpr}
 use Rattle.pst_ast.specs.ExpressionLimits.{counts_expr}
 use Rattle.pst_ast.specs.Laws.{AtMostOneTree}
 use Rattle.pst_ast.specs.Rule.{TheExpr}
-use Rattle.pst_reading.specs.Parser.{Parser}
 use Rattle.pst_reading.proofs.Explaining.{Means, Explains, wider}
 use Rattle.pst_reading.proofs.Final.{one_tree}
 use Rattle.pst_parse_expr.specs.Reading.{expr_at}
@@ -25,9 +24,9 @@ use Rattle.pst_ast.specs.ExpressionView.{view_expr}
 use Rattle.pst_ast.specs.ExpressionOperators.{operators_expr}
 use Rattle.pst_ast.specs.Answers.{AnswersExpr, IsFault}
 use Rattle.pst_ast.specs.Limits.{is_over}
-use Rattle.pst_reading.specs.Parser.{Outcome, Took, Refused, TooDeep, run}
+use Rattle.pst_reading.specs.Parser.{Outcome, run}
 use Rattle.pst_reading.specs.Ended.{IsEnded}
-use Rattle.pst_reading.specs.Gives.{Given, Gives, SettlesFrom, FailsFrom}
+use Rattle.pst_reading.specs.Gives.{Given, SettlesFrom, FailsFrom}
 use Rattle.pst_reading.proofs.Whole.{read_answer, stopped_answer, deep_answer}
 
 explains : (depth n : ℕ) → Explains (Means spell_expr IsProperExpr (counts_expr depth 0)) (expr_at n depth 0)

@@ -1,7 +1,6 @@
 -- Each token stops an expression, or some expression goes on with it.
-use Rattle.std.proofs.Common.{◌≡◌, ℕ, zero, suc, ◌+◌, ◌-◌, ◌≤◌, ◌<◌, Bool, true, false, if◌then◌else◌, List, [], ◌∷◌, ◌++◌, Some, Option, None, ◌⊎◌, inl, inr, refl, sym, ap, subst, ◌∙◌, arith, append-nil, append_assoc}
+use Rattle.std.proofs.Common.{◌≡◌, ℕ, zero, suc, ◌+◌, ◌-◌, ◌≤◌, ◌<◌, Bool, true, false, List, [], ◌∷◌, ◌++◌, Some, Option, None, ◌⊎◌, inl, inr, refl, sym, ap, subst, ◌∙◌, arith, append_assoc}
 use Rattle.std.proofs.lemmas.Bool.{cases_order}
-use Rattle.pst_base.specs.declared.position.Place.{Place}
 use Rattle.pst_token.specs.declared.kind.Kind.{Kind}
 use Rattle.pst_token.specs.declared.kind.Kind.TheVariants as kind
 use Rattle.pst_token.specs.declared.token.Token.{Token}
@@ -9,16 +8,16 @@ use Rattle.pst_ast.specs.declared.leaf.Name.{Name}
 use Rattle.pst_ast.specs.declared.leaf.Operator.{Operator}
 use Rattle.pst_ast.specs.Marks.{mark, name_token, operator_kind, prefix_operator_kind}
 use Rattle.pst_ast.specs.Closing.{origin, name_here}
-use Rattle.pst_ast.specs.ExpressionTree.{ExprTree, ExprUnary, ExprBinary, ExprIn, UnaryTree, UnaryPrefix, UnaryPrimary, PrimaryTree, PrimaryNumber, PrimaryTrue, PrimaryFalse, PrimaryPath, PrimaryGroup, PathTree, PathDotted, PathItem, PathLongItem, MakePart, MakeNextPart, IndexTree, MakeIndex, RangesTree, MakeRanges, RangeSingle, NextPartRow, NoNextPartRow, MoreNextPartRow, MaybeIndex, NoIndex, SomeIndex, NoNextRangeRow}
-use Rattle.pst_ast.specs.ExpressionSpelling.{spell_expr, spell_unary, spell_path, spell_next_part_row, spell_next_part, spell_maybe_index}
+use Rattle.pst_ast.specs.ExpressionTree.{ExprTree, ExprUnary, ExprBinary, ExprIn, UnaryTree, UnaryPrefix, UnaryPrimary, PrimaryNumber, PrimaryTrue, PrimaryFalse, PrimaryPath, PrimaryGroup, PathTree, PathDotted, PathItem, PathLongItem, MakePart, MakeNextPart, MakeIndex, MakeRanges, RangeSingle, NextPartRow, NoNextPartRow, MoreNextPartRow, MaybeIndex, NoIndex, SomeIndex, NoNextRangeRow}
+use Rattle.pst_ast.specs.ExpressionSpelling.{spell_expr, spell_unary, spell_path, spell_next_part_row, spell_maybe_index}
 use Rattle.pst_ast.specs.ExpressionProper.{level, level_of, IsProperExpr, IsProperUnary, IsProperPath, IsProperMaybeIndex, AreProperNextPart}
-use Rattle.pst_reading.specs.Kinds.{is_mark, next_is}
+use Rattle.pst_reading.specs.Kinds.{is_mark}
 use Rattle.pst_reading.proofs.Tokens.{mark_is}
 use Rattle.pst_parse_expr.specs.Operators.{operator_of, is_in}
 use Rattle.pst_parse_expr.specs.Reading.{with_part}
 use Rattle.pst_parse_expr.proofs.Tokens.{operator_is, in_is}
 use Rattle.pst_parse_expr.proofs.Rows.{spell_with_part, proper_with_part}
-use Rattle.pst_parse_expr.proofs.Stops.{IsNo, StopsIndex, StopsRow, StopsColons, StopsPath, StopsPrimary, StopsUnary, IsNoOperator, AreNoOperators, Stops}
+use Rattle.pst_parse_expr.proofs.Stops.{StopsIndex, StopsRow, StopsColons, StopsPath, StopsUnary, IsNoOperator, AreNoOperators, Stops}
 use Rattle.pst_parse_expr.proofs.Again.{level_under}
 
 -- a short tree

@@ -1,26 +1,24 @@
 -- Expressions read what they spell again.
-use Rattle.std.proofs.Common.{◌≡◌, ℕ, zero, suc, ◌+◌, ◌≤◌, ◌<◌, Bool, true, false, if◌then◌else◌, List, [], ◌∷◌, ◌++◌, length, Some, Option, None, refl, sym, ap, subst, ◌∙◌, arith, append-nil, append_assoc, length-append}
+use Rattle.std.proofs.Common.{◌≡◌, ℕ, zero, suc, ◌+◌, ◌≤◌, ◌<◌, Bool, true, false, if◌then◌else◌, List, [], ◌∷◌, ◌++◌, length, Some, Option, None, refl, sym, ap, subst, arith, append-nil, append_assoc, length-append}
 use Rattle.pst_base.specs.declared.position.Place.{Place}
-use Rattle.pst_token.specs.declared.kind.Kind.{Kind}
 use Rattle.pst_token.specs.declared.kind.Kind.TheVariants as kind
 use Rattle.pst_token.specs.declared.token.Token.{Token}
 use Rattle.pst_ast.specs.declared.leaf.Name.{Name}
 use Rattle.pst_ast.specs.declared.leaf.Number.{Number}
 use Rattle.pst_ast.specs.declared.leaf.PrefixOperator.{PrefixOperator}
-use Rattle.pst_ast.specs.declared.leaf.PrefixOperator.TheVariants as the_prefix_operator
 use Rattle.pst_ast.specs.Marks.{mark, name_token, number_token, prefix_operator_kind}
 use Rattle.pst_ast.specs.Limits.{Count, counted}
-use Rattle.pst_ast.specs.ExpressionTree.{ExprTree, ExprUnary, ExprBinary, ExprIn, UnaryTree, UnaryPrefix, UnaryPrimary, PrimaryTree, PrimaryNumber, PrimaryTrue, PrimaryFalse, PrimaryPath, PrimaryGroup, PathTree, PathDotted, PathItem, PathLongItem, PartTree, MakePart, RangesTree, MakeRanges, NextRangeTree, MakeNextRange, RangeTree, RangeSingle, RangeBetween, NextRangeRow, NoNextRangeRow, MoreNextRangeRow}
+use Rattle.pst_ast.specs.ExpressionTree.{ExprTree, UnaryTree, UnaryPrefix, UnaryPrimary, PrimaryTree, PrimaryNumber, PrimaryTrue, PrimaryFalse, PrimaryPath, PrimaryGroup, PathTree, PathDotted, PathItem, PathLongItem, MakePart, RangesTree, MakeRanges, NextRangeTree, MakeNextRange, RangeTree, RangeSingle, RangeBetween, NextRangeRow, NoNextRangeRow, MoreNextRangeRow}
 use Rattle.pst_ast.specs.ExpressionSpelling.{spell_expr, spell_unary, spell_primary, spell_path, spell_ranges, spell_next_range, spell_range, spell_next_range_row}
-use Rattle.pst_ast.specs.ExpressionProper.{level, IsProperExpr, IsProperUnary, IsProperPrimary, IsProperRanges, IsProperNextRange, IsProperRange, AreProperNextRange}
+use Rattle.pst_ast.specs.ExpressionProper.{IsProperExpr, IsProperUnary, IsProperPrimary, IsProperRanges, IsProperNextRange, IsProperRange, AreProperNextRange}
 use Rattle.pst_ast.specs.ExpressionOperators.{operators_expr, operators_range, operators_next_range_row}
 use Rattle.pst_ast.specs.ExpressionLimits.{counts_expr, counts_unary, counts_primary, counts_path, counts_ranges, counts_next_range, counts_range, counts_next_range_row}
-use Rattle.pst_reading.specs.Kinds.{is_mark, is_name, is_number, next_is}
-use Rattle.pst_reading.specs.Parser.{Parser, Done, Look, Take, Spent, followed_by, next, mark_by, name_by, if_mark, repeat_by}
+use Rattle.pst_reading.specs.Kinds.{is_mark, is_number, next_is}
+use Rattle.pst_reading.specs.Parser.{Parser, Done, followed_by, next, mark_by, repeat_by}
 use Rattle.pst_reading.proofs.Becoming.{Becomes, stays, becomes_on, becomes_followed, becomes_both}
-use Rattle.pst_reading.proofs.Marks.{mark_becomes, name_becomes, look_becomes, take_becomes, test_becomes, choice_becomes, turn_becomes, row_ends}
-use Rattle.pst_reading.proofs.Tokens.{mark_is_so, name_is_so, number_is_so}
-use Rattle.pst_parse_expr.specs.Operators.{prefix_of, is_bare, prefix_of_kind}
+use Rattle.pst_reading.proofs.Marks.{mark_becomes, look_becomes, take_becomes, test_becomes, choice_becomes, turn_becomes, row_ends}
+use Rattle.pst_reading.proofs.Tokens.{mark_is_so}
+use Rattle.pst_parse_expr.specs.Operators.{prefix_of, is_bare}
 use Rattle.pst_parse_expr.specs.Reading.{Parsers, path_by, group_by, number_by, primary_by, prefix_by, unary_by, range_by, with_range, next_range_by, more_ranges_of, ranges_by, expr_at}
 use Rattle.pst_parse_expr.proofs.Tokens.{prefix_is_so}
 use Rattle.pst_parse_expr.proofs.Rows.{ranges_behind, ranges_end, ranges_go_on, all_ranges, operators_with_range}

@@ -1,17 +1,16 @@
 -- What the operator table explains.
-use Rattle.std.proofs.Common.{◌≡◌, ℕ, zero, suc, ◌+◌, ◌-◌, ◌≤◌, ◌<◌, Bool, true, false, if◌then◌else◌, List, [], ◌∷◌, ◌++◌, Some, Option, None, refl, sym, ap, subst, ◌∙◌, arith, append-nil, append_assoc}
+use Rattle.std.proofs.Common.{◌≡◌, ℕ, zero, suc, ◌+◌, ◌-◌, ◌≤◌, Bool, true, false, List, [], ◌∷◌, ◌++◌, Some, Option, None, refl, sym, ap, subst, arith, append-nil}
 use Rattle.pst_token.specs.declared.kind.Kind.TheVariants as kind
 use Rattle.pst_token.specs.declared.token.Token.{Token}
 use Rattle.pst_ast.specs.declared.leaf.Operator.{Operator}
-use Rattle.pst_ast.specs.Marks.{mark, operator_kind}
 use Rattle.pst_ast.specs.Limits.{Count, counted}
 use Rattle.pst_ast.specs.ExpressionTree.{ExprTree, ExprUnary, ExprBinary, ExprIn, UnaryTree, RangesTree}
 use Rattle.pst_ast.specs.ExpressionSpelling.{spell_expr, spell_unary, spell_ranges}
-use Rattle.pst_ast.specs.ExpressionProper.{level, level_of, IsProperExpr, IsProperUnary, IsProperRanges}
+use Rattle.pst_ast.specs.ExpressionProper.{level, IsProperExpr, IsProperUnary, IsProperRanges}
 use Rattle.pst_ast.specs.ExpressionOperators.{operators_expr, operators_ranges}
 use Rattle.pst_ast.specs.ExpressionLimits.{counts_expr, counts_unary, counts_ranges}
-use Rattle.pst_reading.specs.Parser.{Parser, Done, Take, followed_by, next, mark_by, repeat_by}
-use Rattle.pst_reading.proofs.Explaining.{Meaning, Means, Explains, ExplainedAt, Behind, LeadsBy, Leads, explains_both, explains_then, explains_done, explains_take, explains_row, wider}
+use Rattle.pst_reading.specs.Parser.{Done, followed_by, next, mark_by, repeat_by}
+use Rattle.pst_reading.proofs.Explaining.{Meaning, Means, Explains, ExplainedAt, Behind, LeadsBy, Leads, explains_both, explains_then, explains_done, explains_take, explains_row}
 use Rattle.pst_reading.proofs.Marks.{IsMark, mark_explains}
 use Rattle.pst_parse_expr.specs.Operators.{operator_of, is_in}
 use Rattle.pst_parse_expr.specs.Reading.{Parsers, binary_by, in_by, operation_by, operation_of, level_by}

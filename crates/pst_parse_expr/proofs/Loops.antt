@@ -1,21 +1,21 @@
 -- Where the loops of expressions stand.
-use Rattle.std.proofs.Common.{◌≡◌, ℕ, zero, suc, ◌+◌, ◌-◌, ◌<◌, ◌≤◌, List, length, drop, refl, ap, subst, sym, arith, false, Some, None, Option}
+use Rattle.std.proofs.Common.{◌≡◌, ℕ, zero, suc, ◌+◌, ◌-◌, ◌<◌, ◌≤◌, List, length, drop, refl, arith, false}
 use Rattle.pst_token.specs.declared.token.Token.{Token}
 use Rattle.pst_ast.specs.declared.leaf.Name.{Name}
-use Rattle.pst_ast.specs.ExpressionTree.{ExprTree, UnaryTree, MaybeIndex, PartTree, MakePart, NextPartRow, NoNextPartRow, RangeTree, RangeSingle, RangeBetween, NextRangeRow, NoNextRangeRow}
+use Rattle.pst_ast.specs.ExpressionTree.{ExprTree, MaybeIndex, PartTree, MakePart, NextPartRow, NoNextPartRow, RangeTree, RangeSingle, RangeBetween, NextRangeRow, NoNextRangeRow}
 use Rattle.pst_ast.specs.ExpressionOperators.{operators_expr, operators_part, operators_next_part_row, operators_range, operators_next_range_row}
 use Rattle.pst_token.specs.declared.kind.Kind.TheVariants as kind
 use Rattle.pst_ast.specs.Limits.{is_over}
 use Rattle.pst_ast.specs.Limits
 use Rattle.pst_reading.specs.Kinds.{is_mark, next_is}
-use Rattle.pst_reading.specs.Parser.{Parser, Done, Outcome, Took, Refused, TooDeep, run, next, name_by, mark_by, if_mark, ◌>>=◌}
-use Rattle.pst_reading.specs.Gives.{Family, SettlesFrom, FailsFrom}
+use Rattle.pst_reading.specs.Parser.{Done, Outcome, Took, Refused, TooDeep, run, next, name_by, mark_by, if_mark, ◌>>=◌}
+use Rattle.pst_reading.specs.Gives.{SettlesFrom, FailsFrom}
 use Rattle.pst_ast.specs.declared.fault.SyntaxFault.{SyntaxFault}
 use Rattle.pst_ast.specs.declared.fault.SyntaxFault.TheVariants as the_fault
-use Rattle.pst_reading.proofs.Giving.{settles_both, fails_first, fails_then, settles_choice}
+use Rattle.pst_reading.proofs.Giving.{settles_both, fails_first, settles_choice}
 use Rattle.pst_reading.proofs.Looping.{Steps, Looping}
-use Rattle.pst_parse_expr.specs.Reading.{operation_of, level_by, ranges_by, primary_by, unary_by, parts_of, more_ranges_of, expr_at}
-use Rattle.pst_parse_expr.specs.Families.{unary_within, level_family, unary_family, range_family, index_family}
+use Rattle.pst_parse_expr.specs.Reading.{operation_of, level_by, ranges_by, parts_of, more_ranges_of, expr_at}
+use Rattle.pst_parse_expr.specs.Families.{unary_within, level_family, range_family, index_family}
 
 -- a whole expression within another part, behind at least one token of it
 pub expr_nested : (tokens : List Token) (start at d b : ℕ) (o : Outcome ExprTree) → start < at → at ≤ length tokens → SettlesFrom (level_family 10 d b) tokens at at o → SettlesFrom (λ size prefixes. expr_at size d b) tokens start at o

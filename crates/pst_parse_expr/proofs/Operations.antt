@@ -1,5 +1,5 @@
 -- What an operator and the part on its right give, and the loop over operators of one level.
-use Rattle.std.proofs.Common.{slice_index_or, ◌⊎◌, inl, inr, [], ◌∷◌, Bool, if◌then◌else◌, length-drop, ◌≡◌, ℕ, zero, suc, ◌+◌, ◌-◌, ◌<◌, ◌≤◌, List, length, drop, refl, ap, subst, sym, ◌∙◌, arith, true, false, Some, None, Option, is_some, Result, Ok, Err}
+use Rattle.std.proofs.Common.{slice_index_or, ◌⊎◌, inl, inr, [], ◌∷◌, Bool, if◌then◌else◌, length-drop, ◌≡◌, ℕ, suc, ◌+◌, ◌-◌, ◌≤◌, List, length, drop, refl, ap, subst, sym, ◌∙◌, arith, true, false, Some, None, Option, is_some, Result, Ok, Err}
 use Rattle.pst_token.specs.declared.token.Token.{Token}
 use Rattle.pst_ast.specs.declared.fault.SyntaxFault.{SyntaxFault}
 use Rattle.pst_ast.specs.declared.fault.SyntaxFault.TheVariants as the_fault
@@ -10,9 +10,9 @@ use Rattle.pst_ast.specs.ExpressionTree.{ExprTree, ExprBinary, RangesTree}
 use Rattle.pst_ast.specs.ExpressionOperators.{operators_expr}
 use Rattle.pst_ast.specs.Limits.{counted, is_over}
 use Rattle.pst_reading.specs.Parser.{Parser, repeat_by, and_then, Done, Outcome, Took, Refused, TooDeep, run, next, followed_by}
-use Rattle.pst_reading.specs.Gives.{Family, SettlesFrom, FailsFrom, Gives}
+use Rattle.pst_reading.specs.Gives.{SettlesFrom, FailsFrom, Gives}
 use Rattle.pst_reading.proofs.Giving.{settles_both, fails_then, later, later_fault}
-use Rattle.pst_reading.proofs.Looping.{Steps, Looping, loop, loop_begins, loop_turns, loop_fails, loop_ends}
+use Rattle.pst_reading.proofs.Looping.{loop_begins, loop_turns, loop_fails, loop_ends}
 use Rattle.pst_reading.proofs.Becoming.{run_followed}
 use Rattle.pst_reading.proofs.Whole.{drop_more}
 use Rattle.pst_parse_expr.specs.Operators.{operator_of, is_in}

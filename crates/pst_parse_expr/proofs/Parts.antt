@@ -1,25 +1,25 @@
 -- What the rules between operators explain.
-use Rattle.std.proofs.Common.{◌≡◌, ℕ, zero, suc, ◌+◌, ◌≤◌, Bool, true, false, if◌then◌else◌, List, [], ◌∷◌, ◌++◌, Some, Option, None, refl, sym, ap, subst, ◌∙◌, arith, append-nil, append_assoc}
+use Rattle.std.proofs.Common.{◌≡◌, ℕ, zero, suc, ◌+◌, Bool, true, false, if◌then◌else◌, List, [], ◌∷◌, Some, Option, None, refl, ap, arith, append-nil}
 use Rattle.pst_token.specs.declared.kind.Kind.TheVariants as kind
 use Rattle.pst_token.specs.declared.token.Token.{Token}
 use Rattle.pst_ast.specs.declared.leaf.Name.{Name}
 use Rattle.pst_ast.specs.declared.leaf.PrefixOperator.{PrefixOperator}
-use Rattle.pst_ast.specs.Marks.{mark, name_token, number_token}
+use Rattle.pst_ast.specs.Marks.{mark}
 use Rattle.pst_ast.specs.Closing.{origin}
 use Rattle.pst_ast.specs.Limits.{Count, counted}
-use Rattle.pst_ast.specs.ExpressionTree.{ExprTree, ExprUnary, UnaryTree, UnaryPrefix, UnaryPrimary, PrimaryTree, PrimaryNumber, PrimaryTrue, PrimaryFalse, PrimaryPath, PrimaryGroup, PathTree, PathDotted, PathItem, PathLongItem, PartTree, MakePart, NextPartTree, MakeNextPart, IndexTree, MakeIndex, RangesTree, MakeRanges, NextRangeTree, MakeNextRange, RangeTree, RangeSingle, RangeBetween, NextPartRow, NoNextPartRow, MaybeIndex, NoIndex, SomeIndex, NextRangeRow, NoNextRangeRow}
-use Rattle.pst_ast.specs.ExpressionSpelling.{spell_expr, spell_unary, spell_primary, spell_path, spell_part, spell_next_part, spell_index, spell_ranges, spell_next_range, spell_range, spell_next_part_row, spell_maybe_index, spell_next_range_row}
-use Rattle.pst_ast.specs.ExpressionProper.{IsProperExpr, IsProperUnary, IsProperPrimary, IsProperPath, IsProperNextPart, IsProperIndex, IsProperRanges, IsProperNextRange, IsProperRange, AreProperNextPart, IsProperMaybeIndex, AreProperNextRange}
+use Rattle.pst_ast.specs.ExpressionTree.{ExprTree, ExprUnary, UnaryTree, UnaryPrefix, UnaryPrimary, PrimaryTree, PrimaryNumber, PrimaryTrue, PrimaryFalse, PrimaryPath, PrimaryGroup, PathDotted, PathItem, PathLongItem, MakePart, MakeNextPart, MakeIndex, MakeRanges, MakeNextRange, RangeSingle, RangeBetween, NextPartRow, NoNextPartRow, NoIndex, SomeIndex, NextRangeRow, NoNextRangeRow}
+use Rattle.pst_ast.specs.ExpressionSpelling.{spell_unary, spell_primary, spell_path, spell_next_part, spell_index, spell_next_range, spell_range, spell_next_part_row, spell_maybe_index, spell_next_range_row}
+use Rattle.pst_ast.specs.ExpressionProper.{IsProperPrimary, IsProperPath, IsProperNextPart, IsProperIndex, IsProperNextRange, IsProperRange, AreProperNextPart, IsProperMaybeIndex, AreProperNextRange}
 use Rattle.pst_ast.specs.ExpressionOperators.{operators_expr, operators_part, operators_next_part_row, operators_range, operators_next_range_row}
-use Rattle.pst_ast.specs.ExpressionLimits.{counts_expr, counts_unary, counts_primary, counts_path, counts_part, counts_next_part, counts_index, counts_ranges, counts_next_range, counts_range, counts_next_part_row, counts_maybe_index, counts_next_range_row}
+use Rattle.pst_ast.specs.ExpressionLimits.{counts_primary, counts_path, counts_next_part, counts_index, counts_next_range, counts_range, counts_next_part_row, counts_maybe_index, counts_next_range_row}
 use Rattle.pst_reading.specs.Kinds.{is_mark, is_number, next_is}
-use Rattle.pst_reading.specs.Parser.{Parser, Done, Take, Spent, followed_by, next, mark_by, name_by, if_mark, repeat_by}
-use Rattle.pst_reading.proofs.Explaining.{Meaning, Means, Begins, Explains, ExplainedAt, Behind, LeadsBy, Leads, explains_both, explains_then, explains_done, explains_take, explains_row, refused_here}
+use Rattle.pst_reading.specs.Parser.{Done, followed_by, next, mark_by, name_by, repeat_by}
+use Rattle.pst_reading.proofs.Explaining.{Meaning, Means, Begins, Explains, ExplainedAt, Behind, LeadsBy, Leads, explains_then, explains_done, explains_take, explains_row, refused_here}
 use Rattle.pst_reading.proofs.Marks.{IsMark, mark_explains, IsName, name_explains, explains_choice}
 use Rattle.pst_reading.proofs.Tokens.{number_is}
 use Rattle.pst_parse_expr.specs.Operators.{prefix_of}
 use Rattle.pst_parse_expr.specs.Reading.{Parsers, index_by, maybe_index_by, next_part_by, with_part, parts_of, dotted_by, item_by, path_by, group_by, number_by, primary_by, prefix_by, unary_by, range_by, with_range, next_range_by, more_ranges_of, ranges_by, expr_at}
-use Rattle.pst_parse_expr.proofs.Tokens.{IsPrefix, prefix_is, no_prefix}
+use Rattle.pst_parse_expr.proofs.Tokens.{prefix_is, no_prefix}
 use Rattle.pst_parse_expr.proofs.Levels.{IsLevel, IsUnary, AreRanges, level_explains}
 use Rattle.pst_parse_expr.proofs.Rows.{spell_with_part, proper_with_part, counts_with_part, spell_with_range, proper_with_range, counts_with_range}
 

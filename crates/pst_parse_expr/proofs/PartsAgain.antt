@@ -1,29 +1,25 @@
 -- The rules between operators read what they spell again.
-use Rattle.std.proofs.Common.{◌≡◌, ℕ, zero, suc, ◌+◌, ◌≤◌, ◌<◌, Bool, true, false, if◌then◌else◌, List, [], ◌∷◌, ◌++◌, length, Some, Option, None, refl, sym, ap, subst, ◌∙◌, arith, append-nil, append_assoc, length-append}
+use Rattle.std.proofs.Common.{◌≡◌, ℕ, zero, suc, ◌+◌, ◌≤◌, ◌<◌, Bool, true, false, if◌then◌else◌, List, [], ◌∷◌, ◌++◌, length, Some, Option, None, refl, sym, ap, subst, arith, append-nil, append_assoc, length-append}
 use Rattle.pst_base.specs.declared.position.Place.{Place}
 use Rattle.pst_token.specs.declared.kind.Kind.{Kind}
 use Rattle.pst_token.specs.declared.kind.Kind.TheVariants as kind
 use Rattle.pst_token.specs.declared.token.Token.{Token}
 use Rattle.pst_ast.specs.declared.leaf.Name.{Name}
-use Rattle.pst_ast.specs.declared.leaf.PrefixOperator.{PrefixOperator}
-use Rattle.pst_ast.specs.declared.leaf.PrefixOperator.TheVariants as the_prefix_operator
-use Rattle.pst_ast.specs.Marks.{mark, name_token, number_token, prefix_operator_kind}
+use Rattle.pst_ast.specs.Marks.{mark, name_token}
 use Rattle.pst_ast.specs.Limits.{Count, counted}
-use Rattle.pst_ast.specs.ExpressionTree.{ExprTree, ExprUnary, UnaryTree, UnaryPrefix, UnaryPrimary, PrimaryTree, PrimaryNumber, PrimaryTrue, PrimaryFalse, PrimaryPath, PrimaryGroup, PathTree, PathDotted, PathItem, PathLongItem, PartTree, MakePart, NextPartTree, MakeNextPart, IndexTree, MakeIndex, RangesTree, MakeRanges, NextRangeTree, MakeNextRange, RangeTree, RangeSingle, RangeBetween, NextPartRow, NoNextPartRow, MoreNextPartRow, MaybeIndex, NoIndex, SomeIndex, NextRangeRow, NoNextRangeRow, MoreNextRangeRow}
-use Rattle.pst_ast.specs.ExpressionSpelling.{spell_expr, spell_unary, spell_primary, spell_path, spell_part, spell_next_part, spell_index, spell_ranges, spell_next_range, spell_range, spell_next_part_row, spell_maybe_index, spell_next_range_row}
-use Rattle.pst_ast.specs.ExpressionProper.{IsProperExpr, IsProperUnary, IsProperPrimary, IsProperPath, IsProperNextPart, IsProperIndex, IsProperRanges, IsProperNextRange, IsProperRange, AreProperNextPart, IsProperMaybeIndex, AreProperNextRange}
-use Rattle.pst_ast.specs.ExpressionOperators.{operators_expr, operators_part, operators_next_part_row, operators_range, operators_next_range_row}
-use Rattle.pst_ast.specs.ExpressionLimits.{counts_expr, counts_unary, counts_primary, counts_path, counts_part, counts_next_part, counts_index, counts_ranges, counts_next_range, counts_range, counts_next_part_row, counts_maybe_index, counts_next_range_row}
-use Rattle.pst_reading.specs.Kinds.{is_mark, is_name, is_number, next_is}
-use Rattle.pst_reading.specs.Parser.{Parser, Done, Look, Take, Spent, followed_by, next, mark_by, name_by, if_mark, repeat_by}
+use Rattle.pst_ast.specs.ExpressionTree.{ExprTree, PrimaryGroup, PathTree, PathDotted, PathItem, PathLongItem, MakePart, NextPartTree, MakeNextPart, MakeIndex, NextPartRow, NoNextPartRow, MoreNextPartRow, MaybeIndex, NoIndex, SomeIndex}
+use Rattle.pst_ast.specs.ExpressionSpelling.{spell_expr, spell_path, spell_next_part, spell_next_part_row, spell_maybe_index}
+use Rattle.pst_ast.specs.ExpressionProper.{IsProperExpr, IsProperPath, IsProperNextPart, AreProperNextPart, IsProperMaybeIndex}
+use Rattle.pst_ast.specs.ExpressionOperators.{operators_expr, operators_part, operators_next_part_row}
+use Rattle.pst_ast.specs.ExpressionLimits.{counts_expr, counts_primary, counts_path, counts_next_part, counts_index, counts_next_part_row, counts_maybe_index}
+use Rattle.pst_reading.specs.Kinds.{is_mark}
+use Rattle.pst_reading.specs.Parser.{Done, followed_by, next, mark_by, name_by, repeat_by}
 use Rattle.pst_reading.proofs.Becoming.{Becomes, stays, becomes_on, becomes_followed, becomes_both}
-use Rattle.pst_reading.proofs.Marks.{mark_becomes, name_becomes, look_becomes, take_becomes, test_becomes, choice_becomes, turn_becomes, row_ends}
-use Rattle.pst_reading.proofs.Tokens.{mark_is_so, name_is_so, number_is_so}
-use Rattle.pst_parse_expr.specs.Operators.{prefix_of, is_bare, prefix_of_kind}
-use Rattle.pst_parse_expr.specs.Reading.{Parsers, index_by, maybe_index_by, next_part_by, with_part, parts_of, dotted_by, item_by, path_by, group_by, number_by, primary_by, prefix_by, unary_by, range_by, with_range, next_range_by, more_ranges_of, ranges_by, expr_at}
-use Rattle.pst_parse_expr.proofs.Tokens.{prefix_is_so}
-use Rattle.pst_parse_expr.proofs.Rows.{parts_behind, parts_end, parts_go_on, all_parts, operators_with_part, ranges_behind, ranges_end, ranges_go_on, all_ranges, operators_with_range}
-use Rattle.pst_parse_expr.proofs.Stops.{IsNo, StopsIndex, StopsRow, StopsColons, StopsPath, StopsPrimary, StopsUnary, Stops, Separates, separated, right_bracket_closes, right_parenthesis_closes, comma_closes, dots_close}
+use Rattle.pst_reading.proofs.Marks.{mark_becomes, name_becomes, choice_becomes, turn_becomes, row_ends}
+use Rattle.pst_reading.proofs.Tokens.{mark_is_so}
+use Rattle.pst_parse_expr.specs.Reading.{Parsers, index_by, maybe_index_by, next_part_by, with_part, parts_of, dotted_by, item_by, path_by, group_by}
+use Rattle.pst_parse_expr.proofs.Rows.{parts_behind, parts_end, parts_go_on, all_parts, operators_with_part}
+use Rattle.pst_parse_expr.proofs.Stops.{IsNo, StopsIndex, StopsRow, StopsColons, StopsPath, Stops, separated, right_bracket_closes, right_parenthesis_closes}
 
 other : (j k : Kind) (place : Place) → is_mark j (mark k place) ≡ false → IsNo j (Some (mark k place))
 other j k place e = e

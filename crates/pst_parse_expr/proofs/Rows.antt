@@ -1,7 +1,6 @@
 -- One more part at the end of a row.
-use Rattle.std.proofs.Common.{◌≡◌, ℕ, ◌+◌, List, [], ◌∷◌, ◌++◌, refl, sym, ap, ◌∙◌, arith, append-nil, append_assoc}
-use Rattle.pst_token.specs.declared.token.Token.{Token}
-use Rattle.pst_ast.specs.ExpressionTree.{PartTree, MakePart, NextPartTree, MakeNextPart, NextPartRow, NoNextPartRow, MoreNextPartRow, NextRangeTree, MakeNextRange, NextRangeRow, NoNextRangeRow, MoreNextRangeRow}
+use Rattle.std.proofs.Common.{◌≡◌, ℕ, ◌+◌, List, ◌∷◌, ◌++◌, refl, sym, ap, ◌∙◌, arith, append-nil, append_assoc}
+use Rattle.pst_ast.specs.ExpressionTree.{NextPartTree, MakeNextPart, NextPartRow, NoNextPartRow, MoreNextPartRow, NextRangeTree, MakeNextRange, NextRangeRow, NoNextRangeRow, MoreNextRangeRow}
 use Rattle.pst_ast.specs.ExpressionSpelling.{spell_next_part, spell_next_part_row, spell_next_range, spell_next_range_row}
 use Rattle.pst_ast.specs.ExpressionProper.{IsProperNextPart, AreProperNextPart, IsProperNextRange, AreProperNextRange}
 use Rattle.pst_ast.specs.ExpressionOperators.{operators_part, operators_next_part, operators_next_part_row, operators_range, operators_next_range, operators_next_range_row}

@@ -1,5 +1,5 @@
 -- What each rule of expressions gives, from what its parts give.
-use Rattle.std.proofs.Common.{slice_index_or, [], ◌∷◌, Bool, if◌then◌else◌, length-drop, ◌≡◌, ℕ, zero, suc, ◌+◌, ◌-◌, ◌<◌, ◌≤◌, List, length, drop, refl, ap, subst, sym, ◌∙◌, arith, true, false, Some, None, Option, Ok, Err}
+use Rattle.std.proofs.Common.{slice_index_or, [], ◌∷◌, Bool, if◌then◌else◌, length-drop, ◌≡◌, ℕ, zero, suc, ◌+◌, ◌-◌, ◌<◌, ◌≤◌, List, length, drop, refl, ap, subst, sym, ◌∙◌, arith, true, false, Some, None, Option, Err}
 use Rattle.pst_base.specs.declared.position.Place.{Place}
 use Rattle.pst_token.specs.declared.kind.Kind.TheVariants as kind
 use Rattle.pst_token.specs.declared.token.Token.{Token}
@@ -15,7 +15,7 @@ use Rattle.pst_ast.specs.ExpressionOperators.{operators_range, operators_ranges,
 use Rattle.pst_ast.specs.Limits.{counted, is_over}
 use Rattle.pst_reading.specs.Kinds.{is_mark, is_number, next_is}
 use Rattle.pst_reading.specs.Parser.{Parser, repeat_by, and_then, Done, Outcome, Took, Refused, TooDeep, run, next, mark_by, name_by, if_mark, ◌>>=◌, followed_by}
-use Rattle.pst_reading.specs.Gives.{Family, SettlesFrom, FailsFrom, Expects}
+use Rattle.pst_reading.specs.Gives.{SettlesFrom, FailsFrom, Expects}
 use Rattle.pst_reading.proofs.Giving.{settles_both, fails_first, fails_then, settles_choice, fails_choice, token_given, token_fails, done, later, later_fault}
 use Rattle.pst_ast.specs.declared.leaf.PrefixOperator.{PrefixOperator}
 use Rattle.pst_parse_expr.specs.Operators.{prefix_of}

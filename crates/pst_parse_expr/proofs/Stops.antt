@@ -1,5 +1,5 @@
 -- What may follow an expression so that it ends there.
-use Rattle.std.proofs.Common.{◌≡◌, ℕ, zero, suc, ◌+◌, ◌-◌, ◌≤◌, ◌<◌, Bool, true, false, ◌==◌, if◌then◌else◌, List, [], ◌∷◌, ◌++◌, Some, Option, None, refl, sym, ap, subst, ◌∙◌, arith}
+use Rattle.std.proofs.Common.{◌≡◌, ℕ, suc, ◌≤◌, false, ◌==◌, Some, Option, None, refl, arith}
 use Rattle.std.proofs.lemmas.Bool.{ne_eqb, and_left, and_right}
 use Rattle.pst_base.specs.declared.position.Place.{Place}
 use Rattle.pst_token.specs.declared.kind.Kind.{Kind}
@@ -8,10 +8,10 @@ use Rattle.pst_token.specs.declared.token.Token.{Token}
 use Rattle.pst_ast.specs.declared.leaf.Operator.{Operator}
 use Rattle.pst_ast.specs.declared.leaf.Operator.TheVariants as the_operator
 use Rattle.pst_ast.specs.Marks.{mark, operator_kind}
-use Rattle.pst_ast.specs.ExpressionTree.{ExprTree, ExprUnary, ExprBinary, ExprIn, UnaryTree, UnaryPrefix, UnaryPrimary, PrimaryTree, PrimaryNumber, PrimaryTrue, PrimaryFalse, PrimaryPath, PrimaryGroup, PathTree, PathDotted, PathItem, PathLongItem, PartTree, MakePart, NextPartTree, MakeNextPart, NextPartRow, NoNextPartRow, MoreNextPartRow, MaybeIndex, NoIndex, SomeIndex}
+use Rattle.pst_ast.specs.ExpressionTree.{ExprTree, ExprUnary, ExprBinary, ExprIn, UnaryTree, UnaryPrefix, UnaryPrimary, PrimaryTree, PrimaryPath, PathTree, PathDotted, PathItem, PathLongItem, MakePart, MakeNextPart, NextPartRow, NoNextPartRow, MoreNextPartRow, MaybeIndex, NoIndex, SomeIndex}
 use Rattle.pst_ast.specs.ExpressionProper.{level, level_of, IsProperExpr}
 use Rattle.pst_reading.specs.Kinds.{is_mark, next_is}
-use Rattle.pst_parse_expr.specs.Operators.{operator_of_kind, is_bare, of_level, operator_of, is_in}
+use Rattle.pst_parse_expr.specs.Operators.{operator_of_kind, is_bare, operator_of, is_in}
 use Rattle.pst_parse_expr.proofs.Tokens.{kind_is_so}
 
 abbrev pub IsNo : Kind → Option Token → Type 0

@@ -1,5 +1,5 @@
 -- What the loops of paths and ranges give, from what each turn gives.
-use Rattle.std.proofs.Common.{◌≡◌, ℕ, zero, suc, ◌+◌, ◌-◌, ◌<◌, ◌≤◌, List, [], ◌∷◌, ◌++◌, length, drop, refl, ap, subst, sym, ◌∙◌, arith, Bool, if◌then◌else◌, true, false, Some, None, Option}
+use Rattle.std.proofs.Common.{◌≡◌, ℕ, ◌+◌, ◌-◌, ◌≤◌, List, [], ◌∷◌, ◌++◌, length, drop, refl, ap, subst, sym, ◌∙◌, arith, Bool, if◌then◌else◌, true, false, Some, None}
 use Rattle.std.specs.Global.{Vec, Box}
 use Rattle.pst_base.specs.declared.position.Place.{Place}
 use Rattle.pst_token.specs.declared.kind.Kind.TheVariants as kind
@@ -14,16 +14,16 @@ use Rattle.pst_ast.specs.declared.expression.NextPart.{NextPart}
 use Rattle.pst_ast.specs.declared.expression.NextRange.{NextRange}
 use Rattle.pst_ast.specs.declared.expression.RangeNode.{RangeNode}
 use Rattle.pst_ast.specs.declared.expression.ExprNode.TheBlock.{hidden-the_row-NextPart-0, items-the_row-NextRange, hidden-the_row-NextRange-1, items_hidden-the_row-NextRange-1}
-use Rattle.pst_ast.specs.declared.expression.RangesNode.{RangesNode, RangesNode', roll-RangesNode, Row_of-NextRange, end_of-NextRange, more_of-NextRange}
+use Rattle.pst_ast.specs.declared.expression.RangesNode.{roll-RangesNode, Row_of-NextRange, end_of-NextRange, more_of-NextRange}
 use Rattle.pst_ast.specs.ExpressionView.{view_path, view_part, view_next_part, view_next_part_row, view_range, view_ranges, view_next_range, view_next_range_row}
 use Rattle.pst_ast.specs.ExpressionTree.{PathTree, PathDotted, PartTree, MakePart, NextPartTree, NextPartRow, NoNextPartRow, MoreNextPartRow, MaybeIndex, RangesTree, MakeRanges, RangeTree, NextRangeTree, MakeNextRange, NextRangeRow, NoNextRangeRow, MoreNextRangeRow}
-use Rattle.pst_ast.specs.ExpressionOperators.{operators_part, operators_maybe_index, operators_next_part, operators_next_part_row, operators_range, operators_next_range, operators_next_range_row, operators_ranges, operators_path}
+use Rattle.pst_ast.specs.ExpressionOperators.{operators_part, operators_maybe_index, operators_next_part, operators_next_part_row, operators_range, operators_next_range_row, operators_path}
 use Rattle.pst_ast.specs.Limits.{counted, is_over}
 use Rattle.pst_reading.specs.Kinds.{is_mark, next_is}
 use Rattle.pst_reading.specs.Parser.{Parser, repeat_by, Done, Outcome, Took, Refused, TooDeep, run, next, mark_by, name_by, if_mark, followed_by}
 use Rattle.pst_reading.specs.Gives.{Family, SettlesFrom, FailsFrom}
-use Rattle.pst_reading.proofs.Giving.{settles_both, fails_first, fails_then, settles_choice, fails_choice, token_given, done, later, later_fault}
-use Rattle.pst_reading.proofs.Looping.{Steps, Looping, loop, loop_begins, loop_turns, loop_fails, loop_ends}
+use Rattle.pst_reading.proofs.Giving.{settles_both, fails_first, fails_then, settles_choice, token_given, done, later, later_fault}
+use Rattle.pst_reading.proofs.Looping.{loop, loop_begins, loop_turns, loop_fails, loop_ends}
 use Rattle.pst_parse_expr.specs.Reading.{more_ranges_of, parts_of, with_part, with_range, item_by, dotted_by, next_range_by, range_by, next_part_by, expr_at}
 use Rattle.pst_parse_expr.specs.Families.{ranges_family, range_family, index_family, path_family, next_part_family, part_row, range_row}
 use Rattle.pst_parse_expr.proofs.Loops.{RangesLoop, PathLoop, range_steps, part_steps}

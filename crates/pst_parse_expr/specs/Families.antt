@@ -10,7 +10,7 @@ use Rattle.pst_ast.specs.declared.expression.NextRange.{NextRange}
 use Rattle.pst_ast.specs.ExpressionView.{view_index, view_next_part, view_next_range, view_path}
 use Rattle.pst_ast.specs.ExpressionOperators.{operators_path}
 use Rattle.pst_ast.specs.ExpressionTree.{ExprTree, UnaryTree, PrimaryTree, PathTree, NextPartTree, NextPartRow, NoNextPartRow, MoreNextPartRow, MaybeIndex, NoIndex, SomeIndex, RangesTree, RangeTree, NextRangeRow, NoNextRangeRow, MoreNextRangeRow}
-use Rattle.pst_reading.specs.Parser.{Parser, Took, Wrong, next}
+use Rattle.pst_reading.specs.Parser.{Parser, Took, Wrong}
 use Rattle.pst_reading.specs.Gives.{Family, SettlesFrom, FailsFrom}
 use Rattle.pst_parse_expr.specs.Reading.{Parsers, in_by, item_by, operation_of, level_by, unary_by, primary_by, path_by, next_part_by, maybe_index_by, ranges_by, range_by, expr_at}
 

@@ -1,6 +1,5 @@
 -- Expressions, parsed from left to right: depth derivations that count are open, and before operators of the outermost expression stand in front.
 use Rattle.std.specs.Prelude.{ℕ, zero, suc, ◌+◌, ◌-◌, if◌then◌else◌, Bool, true, false, Option, Some, None}
-use Rattle.pst_base.specs.declared.position.Place.{Place}
 use Rattle.pst_token.specs.declared.kind.Kind.TheVariants as kind
 use Rattle.pst_token.specs.declared.token.Token.{Token}
 use Rattle.pst_ast.specs.declared.leaf.Name.{Name}
@@ -10,7 +9,7 @@ use Rattle.pst_ast.specs.ExpressionTree.{ExprTree, ExprUnary, ExprBinary, ExprIn
 use Rattle.pst_ast.specs.ExpressionOperators.{operators_expr, operators_part, operators_next_part_row, operators_range, operators_ranges, operators_next_range_row}
 use Rattle.pst_ast.specs.Limits.{counted}
 use Rattle.pst_reading.specs.Kinds.{is_mark, is_number, next_is}
-use Rattle.pst_reading.specs.Parser.{Parser, Done, Wrong, Spent, Look, Take, ◌>>=◌, followed_by, mark_by, name_by, if_mark, repeat_by}
+use Rattle.pst_reading.specs.Parser.{Parser, Done, Spent, Look, Take, ◌>>=◌, followed_by, mark_by, name_by, if_mark, repeat_by}
 use Rattle.pst_parse_expr.specs.Operators.{operator_of, is_in, prefix_of}
 
 -- a parser for each number of open derivations and of operators in front

@@ -11,13 +11,12 @@ use Rattle.pst_parse_expr.proofs.Operations.{Begun, operator_inside, operation_d
 use Rattle.pst_parse_expr.proofs.expression.+expression.Goals.{level-then-has_operator, level-else-has_operator+then-has_in}
 use Rattle.pst_parse_expr.proofs.Turns.{dotted_view, dotted_counts, ranges_view, part_more, range_more, ranges_begin, ranges_end, ranges_fail, ranges_turn, path_begins, path_ends, path_fails, path_turns}
 use Rattle.pst_parse_expr.proofs.Rules.{part_view, between_given, between_fails, index_inner_fails, index_close_fails, index_given, plain_fails, plain_given, prefix_deep, prefix_inside, prefix_fails, prefix_given, zero_fails, zero_given, next_part_fails, next_part_given, next_part_counts, next_view, path_part_fails, path_part_given, group_inner_fails, group_close_fails, group_given, in_ranges_fail, in_close_fails, in_given, item_fails, item_given, path_index_fails, left_fails, first_range_fails}
-use Rattle.std.proofs.Common.{rules, arith, inl, inr, is_some, ◌≡◌, ◌≤◌, ◌<◌, ◌+◌, ◌-◌, ◌⊎◌, length, drop, true, Some, IfOk, ℕ, ◌*◌, ◌/◌, ◌%◌, Bool, false, nat_eq, nat_lt, List, [], ◌∷◌, ◌++◌, slice_index_or, slice_set, bit_and, bit_or, Fits, w8, w32, w64, Bor, MutBor}
+use Rattle.std.proofs.Common.{rules, arith, inl, inr, is_some, ◌≡◌, ◌+◌, ◌-◌, drop, ℕ, false}
 use Rattle.pst_ast.specs.ExpressionView.{view_expr, view_unary, view_primary, view_path, view_next_part, view_ranges, view_range}
-use Rattle.pst_ast.specs.ExpressionOperators.{operators_expr, operators_unary, operators_primary, operators_path, operators_next_part, operators_maybe_index, operators_ranges, operators_range}
+use Rattle.pst_ast.specs.ExpressionOperators.{operators_expr}
 use Rattle.pst_reading.specs.Parser.{next}
-use Rattle.pst_reading.specs.Gives.{Gives}
 use Rattle.pst_parse_expr.specs.Operators.{operator_of, is_in}
-use Rattle.pst_parse_expr.specs.Families.{part_row, range_row, view_index_option, GivesItem, level_family, operation_family, in_family, ranges_family, range_family, unary_family, primary_family, path_family, next_part_family, index_family}
+use Rattle.pst_parse_expr.specs.Families.{part_row, range_row, view_index_option, level_family, ranges_family, index_family}
 use Rattle.pst_parse_expr.proofs.expression.+expression.Goals as goal
 
 -- src/expression.rt:353:36

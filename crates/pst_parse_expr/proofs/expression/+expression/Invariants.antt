@@ -1,4 +1,4 @@
-use Rattle.std.proofs.Common.{◌≤◌, length, drop, ◌+◌, ◌-◌, ◌*◌, ◌<◌}
+use Rattle.std.proofs.Common.{length, ◌+◌, ◌-◌, ◌*◌}
 use Rattle.pst_ast.specs.ExpressionView.{view_expr, view_part, view_range}
 use Rattle.pst_parse_expr.specs.Families.{part_row, range_row}
 use Rattle.pst_parse_expr.proofs.Loops.{LevelLoop, RangesLoop, PathLoop}
