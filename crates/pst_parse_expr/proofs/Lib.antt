@@ -13,3 +13,4 @@ pub mod Loops
 pub mod Rules
 pub mod Turns
 pub mod Operations
+pub mod Endings

@@ -1,3 +1,6 @@
+ghost use Rattle.std.specs.Prelude.{◌≡◌, ◌≤◌, IfOk};
+ghost use Rattle.pst_reading.specs.Ended.{IsEnded};
+
 use crate::parse_expr;
 use pst_ast::{ExprNode, Operator, SyntaxFault};
 use pst_base::{NameId, NoMemory, Place};
@@ -5,7 +8,9 @@ use pst_token::{Kind, Token};
 use std::alloc::Global;
 use std::test::*;
 
-fn token(kind: Kind) -> Token {
+fn token(kind: Kind) -> Token
+    ensures { result.kind ≡ kind }
+{
     Token {
         kind,
         name: NameId(0),
@@ -19,7 +24,10 @@ fn token(kind: Kind) -> Token {
 }
 
 // Tokens of these kinds, and `End`.
-fn tokens_of(alloc: Global, kinds: &[Kind]) -> Result<Vec<Token>, NoMemory> {
+#[tactic(auto, using(crate::proofs::Endings::ended_push))]
+fn tokens_of(alloc: Global, kinds: &[Kind]) -> Result<Vec<Token>, NoMemory>
+    ensures { IfOk result (λ tokens. IsEnded tokens.items) }
+{
     let mut tokens = Vec::new(alloc);
     for kind in kinds {
         tokens.push(token(*kind))?;
@@ -29,7 +37,10 @@ fn tokens_of(alloc: Global, kinds: &[Kind]) -> Result<Vec<Token>, NoMemory> {
 }
 
 // The place behind the expression that these tokens begin with.
-fn outcome(alloc: Global, kinds: &[Kind], depth: u32) -> Result<usize, SyntaxFault> {
+#[tactic(auto, using(crate::proofs::Endings::ended_inside))]
+fn outcome(alloc: Global, kinds: &[Kind], depth: u32) -> Result<usize, SyntaxFault>
+    requires { depth ≤ 64 }
+{
     let tokens = tokens_of(alloc, kinds)?;
     let (_expr, after) = parse_expr(alloc, tokens.as_slice(), 0, depth)?;
     Ok(after)
@@ -231,6 +242,7 @@ fn root(tree: &ExprNode) -> Option<Operator> {
     }
 }
 
+#[tactic(auto, using(crate::proofs::Endings::ended_inside))]
 fn shape_of(alloc: Global, kinds: &[Kind]) -> Result<[Option<Operator>; 3], SyntaxFault> {
     let tokens = tokens_of(alloc, kinds)?;
     let (expr, _after) = parse_expr(alloc, tokens.as_slice(), 0, 0)?;
@@ -283,6 +295,7 @@ fn operators_group(rt: HostRuntime) {
 }
 
 #[test]
+#[tactic(auto, using(crate::proofs::Endings::ended_last, crate::proofs::Endings::ended_more))]
 fn tokens_with_more_in_them(rt: HostRuntime) {
     let alloc = rt.alloc();
     let mut odd = token(Kind::Name);
