@@ -4,3 +4,11 @@ pub mod Order
 pub mod Conflicts
 pub mod Trace
 pub mod Laws
+pub mod Types
+pub mod Growing
+pub mod Pieces
+pub mod Fits
+pub mod Scenarios
+pub mod Standing
+pub mod Slots
+pub mod Constraints
