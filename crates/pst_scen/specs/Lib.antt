@@ -4,3 +4,5 @@ pub mod Order
 pub mod Conflicts
 pub mod Trace
 pub mod Laws
+pub mod Rows
+pub mod Plan
