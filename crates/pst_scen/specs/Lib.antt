@@ -6,3 +6,6 @@ pub mod Trace
 pub mod Laws
 pub mod Rows
 pub mod Plan
+pub mod Plans
+pub mod Core
+pub mod Refusals
