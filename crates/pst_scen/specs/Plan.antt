@@ -1,5 +1,5 @@
 -- What a plan holds.
-use Rattle.std.specs.Prelude.{◌≡◌, ◌≤◌, ◌<◌, ℕ, List, [], ◌∷◌, length, get_or, count_by, nat_eq, max}
+use Rattle.std.specs.Prelude.{◌≡◌, ◌≤◌, ◌<◌, ℕ, List, [], ◌∷◌, length, get_or, count_by, nat_eq, max, suc, if◌then◌else◌}
 use Rattle.pst_scen.specs.declared.rows.Rows.{Rows}
 use Rattle.pst_scen.specs.Rows.{IsSquare}
 
@@ -13,6 +13,15 @@ pub record Entries : Type 0 where
 pub record AreNumbered (groups : List ℕ) : Type 0 where
   pub least : (a : ℕ) → a < length groups → get_or groups a 0 ≤ a
   pub member : (a : ℕ) → a < length groups → get_or groups (get_or groups a 0) 0 ≡ get_or groups a 0
+
+-- the places at which the number stands in the list, counted from the first number
+abbrev pub places_from : List ℕ → ℕ → ℕ → List ℕ
+places_from [] first group = []
+places_from (other ∷ more) first group = if nat_eq group other then first ∷ places_from more (suc first) group else places_from more (suc first) group
+
+-- the members of a group, ascending
+abbrev pub members : List ℕ → ℕ → List ℕ
+members groups group = places_from groups 0 group
 
 -- the number of members of a group
 abbrev pub member_count : List ℕ → ℕ → ℕ

@@ -1,0 +1,15 @@
+mod Elements
+mod Events
+mod Counts
+mod Lists
+mod Groups
+mod Fair
+mod Last
+mod Cuts
+mod Needed
+mod Running
+mod FromWhole
+mod Sound
+mod Members
+mod Chains
+mod Agrees

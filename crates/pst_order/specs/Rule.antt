@@ -1,0 +1,26 @@
+-- Histories in which each block follows the rule of the core.
+use Rattle.std.specs.Prelude.{ℕ, List, [], ◌∷◌, ◌++◌}
+use Rattle.pst_scen.specs.declared.scenario.Scenario.{Scenario}
+use Rattle.pst_scen.specs.declared.event.Event.{Event}
+use Rattle.pst_scen.specs.Trace.{Runs, AreFree, Block, Starts, Ends, events}
+use Rattle.pst_scen.specs.Core.{IsReady, Opens}
+
+-- a group starts that is ready, on as many idle lanes, or a running action ends
+abbrev pub FollowsRule : Scenario → ℕ → List Event → Block → Type 0
+FollowsRule s lanes trace (Starts members used) = IsReady s trace members × AreFree lanes trace members used
+FollowsRule s lanes trace (Ends a) = Runs trace a
+
+-- each block follows the rule, the latest first
+abbrev pub AreByRule : Scenario → ℕ → List Block → Type 0
+AreByRule s lanes [] = Unit {0}
+AreByRule s lanes (block ∷ older) = AreByRule s lanes older × FollowsRule s lanes (events older) block
+
+-- the least startable group starts on the least idle lanes, or a running action ends
+abbrev pub FollowsCore : Scenario → ℕ → List Event → Block → Type 0
+FollowsCore s lanes trace (Starts members used) = Opens s lanes trace members used
+FollowsCore s lanes trace (Ends a) = Runs trace a
+
+-- each block is one that the core makes, the latest first
+abbrev pub AreByCore : Scenario → ℕ → List Block → Type 0
+AreByCore s lanes [] = Unit {0}
+AreByCore s lanes (block ∷ older) = AreByCore s lanes older × FollowsCore s lanes (events older) block
