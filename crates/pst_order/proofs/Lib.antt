@@ -13,3 +13,6 @@ mod Sound
 mod Members
 mod Chains
 mod Agrees
+mod Completes
+mod Unique
+mod Cores

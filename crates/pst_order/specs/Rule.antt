@@ -1,9 +1,9 @@
 -- Histories in which each block follows the rule of the core.
-use Rattle.std.specs.Prelude.{ℕ, List, [], ◌∷◌, ◌++◌}
+use Rattle.std.specs.Prelude.{ℕ, ◌+◌, List, [], ◌∷◌, ◌++◌}
 use Rattle.pst_scen.specs.declared.scenario.Scenario.{Scenario}
 use Rattle.pst_scen.specs.declared.event.Event.{Event}
 use Rattle.pst_scen.specs.Trace.{Runs, AreFree, Block, Starts, Ends, events}
-use Rattle.pst_scen.specs.Core.{IsReady, Opens}
+use Rattle.pst_scen.specs.Core.{IsReady, Opens, Command, Open, Close}
 
 -- a group starts that is ready, on as many idle lanes, or a running action ends
 abbrev pub FollowsRule : Scenario → ℕ → List Event → Block → Type 0
@@ -24,3 +24,15 @@ FollowsCore s lanes trace (Ends a) = Runs trace a
 abbrev pub AreByCore : Scenario → ℕ → List Block → Type 0
 AreByCore s lanes [] = Unit {0}
 AreByCore s lanes (block ∷ older) = AreByCore s lanes older × FollowsCore s lanes (events older) block
+
+-- how many commands open
+abbrev pub open_count : List Command → ℕ
+open_count [] = 0
+open_count (Open ∷ more) = open_count more + 1
+open_count (Close a ∷ more) = open_count more
+
+-- how many commands end an action
+abbrev pub close_count : List Command → ℕ
+close_count [] = 0
+close_count (Open ∷ more) = close_count more
+close_count (Close a ∷ more) = close_count more + 1
