@@ -1,6 +1,5 @@
 -- The core's rule agrees with what may come next.
-use Rattle.std.proofs.Common.{◌≡◌, ◌≢◌, ℕ, zero, suc, ◌<◌, ◌≤◌, List, [], ◌∷◌, length, Option, Some, None, refl, sym, ap, ◌∙◌, subst, ⊎_elim, arith}
-use Rattle.std.specs.Prelude.{Contains}
+use Rattle.std.proofs.Common.{◌≡◌, ◌≢◌, ℕ, zero, suc, ◌<◌, ◌≤◌, List, [], ◌∷◌, length, Some, refl, sym, ap, ◌∙◌, subst, ⊎_elim, arith}
 use Rattle.std.proofs.lemmas.Bool.{cases_lt, cases_eq}
 use Rattle.pst_scen.specs.declared.act.Link.{Link}
 use Rattle.pst_scen.specs.declared.scenario.Scenario.{Scenario}
@@ -9,7 +8,7 @@ use Rattle.pst_scen.specs.Order.{Before, Sequence, Buffer, Source, Previous, Rep
 use Rattle.pst_scen.specs.Trace.{Ended, Started, Names, last_writer, AreFree, MayStart, AreLegal, Block, Starts, Ends, events}
 use Rattle.pst_scen.specs.Core.{IsReady}
 use Rattle.pst_order.specs.Rule.{AreByRule}
-use Rattle.pst_order.proofs.Groups.{names_one, names_leads}
+use Rattle.pst_order.proofs.Groups.{names_leads}
 use Rattle.pst_order.proofs.Fair.{must_ended, rule_fair, ended_started}
 use Rattle.pst_order.proofs.FromWhole.{Chain, previous}
 use Rattle.pst_order.proofs.Sound.{Sound, at}

@@ -1,17 +1,14 @@
 -- What the rule has begun can be completed.
-use Rattle.std.proofs.Common.{◌≡◌, ◌⊎◌, ℕ, zero, suc, ◌+◌, ◌*◌, ◌<◌, ◌≤◌, List, [], ◌∷◌, ◌++◌, length, get_or, refl, sym, ap, ◌∙◌, subst, inl, inr, ⊎_elim, arith, append_assoc, length-append}
-use Rattle.std.specs.Prelude.{Contains}
-use Rattle.std.proofs.lemmas.List.Elements.{Contains-get_or}
+use Rattle.std.proofs.Common.{◌≡◌, ◌⊎◌, ℕ, zero, suc, ◌+◌, ◌*◌, ◌<◌, ◌≤◌, List, [], ◌∷◌, ◌++◌, length, get_or, refl, sym, subst, inl, inr, ⊎_elim, arith, append_assoc, length-append}
 use Rattle.pst_scen.specs.declared.scenario.Scenario.{Scenario}
-use Rattle.pst_scen.specs.declared.event.Event.{Event}
 use Rattle.pst_scen.specs.declared.event.Event.TheVariants.{End}
 use Rattle.pst_scen.specs.Order.{Through}
 use Rattle.pst_scen.specs.Trace.{Started, Ended, Runs, IsWhole, AreFree, Prefix, Block, Starts, Ends, starts_of, events_of, events}
 use Rattle.pst_scen.specs.Plan.{Entries, members, widest}
 use Rattle.pst_scen.specs.Plans.{AreEntriesOf}
-use Rattle.pst_scen.specs.Core.{IsReady, IsStartable}
+use Rattle.pst_scen.specs.Core.{IsReady}
 use Rattle.pst_order.specs.Rule.{AreByRule}
-use Rattle.pst_order.proofs.Elements.{none_in, cons_first}
+use Rattle.pst_order.proofs.Elements.{cons_first}
 use Rattle.pst_order.proofs.Events.{ended_or, started_or, runs_or, ended_more, ended_new, started_more, started_new, member_starts, length_starts}
 use Rattle.pst_order.proofs.Groups.{must_along}
 use Rattle.pst_order.proofs.Fair.{AreFair, rule_fair, group_started, started_inside}

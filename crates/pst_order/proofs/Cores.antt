@@ -1,12 +1,12 @@
 -- The core makes one trace of its commands, and makes its trace again of the trace's commands.
-use Rattle.std.proofs.Common.{◌≡◌, ◌≢◌, ℕ, zero, suc, ◌+◌, ◌<◌, ◌≤◌, List, [], ◌∷◌, ◌++◌, length, get_or, true, false, refl, sym, ap, ap₂, ◌∙◌, subst, ⊎_elim, arith, append_assoc}
+use Rattle.std.proofs.Common.{◌≡◌, ◌≢◌, ℕ, zero, suc, ◌+◌, ◌<◌, ◌≤◌, List, [], ◌∷◌, ◌++◌, length, get_or, true, false, refl, sym, ap, ap₂, ◌∙◌, subst, ⊎_elim, arith}
 use Rattle.std.specs.Prelude.{Contains}
 use Rattle.std.proofs.lemmas.List.Elements.{Contains-get_or}
 use Rattle.std.proofs.lemmas.Bool.{cases_order}
 use Rattle.pst_scen.specs.declared.scenario.Scenario.{Scenario}
 use Rattle.pst_scen.specs.declared.event.Event.{Event}
 use Rattle.pst_scen.specs.declared.event.Event.TheVariants.{Start, End}
-use Rattle.pst_scen.specs.Trace.{IsHeld, IsWholeGroup, Block, Starts, Ends, starts_of, events_of, events}
+use Rattle.pst_scen.specs.Trace.{IsHeld, IsWholeGroup, Block, Starts, Ends, starts_of, events}
 use Rattle.pst_scen.specs.Core.{IsStartable, Opens, Command, Open, Close, Step, Opened, Shut, Closed, Idle, Makes, Done, Then, Core, commands_of}
 use Rattle.pst_order.specs.Rule.{AreByRule, AreByCore, open_count, close_count}
 use Rattle.pst_order.proofs.Elements.{cons_cases, contains_or}

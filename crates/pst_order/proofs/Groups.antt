@@ -1,12 +1,11 @@
 -- Groups, conflicts and links.
-use Rattle.std.proofs.Common.{◌≡◌, ◌⊎◌, ℕ, ◌<◌, length, Option, Some, None, refl, sym, ap, ◌∙◌, subst, inl, inr, ⊎_elim}
-use Rattle.std.specs.Prelude.{slice_get}
+use Rattle.std.proofs.Common.{◌≡◌, ℕ, ◌<◌, length, Option, Some, sym, ap, ◌∙◌, subst, inl, inr, ⊎_elim}
 use Rattle.std.proofs.lemmas.Option.{slice_get_within}
 use Rattle.pst_scen.specs.declared.act.Flow.{Flow}
 use Rattle.pst_scen.specs.declared.act.Link.{Link}
 use Rattle.pst_scen.specs.declared.act.Link.TheVariants as link
 use Rattle.pst_scen.specs.declared.scenario.Scenario.{Scenario}
-use Rattle.pst_scen.specs.Flows.{Refers, Streams, FromFirst, FromSecond, Writes, LeadsTo}
+use Rattle.pst_scen.specs.Flows.{Refers, Streams, FromFirst, FromSecond, LeadsTo}
 use Rattle.pst_scen.specs.Order.{Together, Itself, Linked, Must, Directly, Through}
 use Rattle.pst_scen.specs.Conflicts.{Clash, Resource, FirstWrites, SecondWrites, Conflict, Uses}
 use Rattle.pst_scen.specs.Trace.{Names}

@@ -16,3 +16,4 @@ mod Agrees
 mod Completes
 mod Unique
 mod Cores
+mod Laws

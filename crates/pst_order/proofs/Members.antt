@@ -1,16 +1,16 @@
 -- The members of a plan's groups are whole groups.
-use Rattle.std.proofs.Common.{◌≡◌, ◌⊎◌, ◌↔◌, ℕ, zero, suc, ◌+◌, ◌<◌, ◌≤◌, List, [], ◌∷◌, length, get_or, max, Bool, true, false, refl, sym, ap, ◌∙◌, subst, inl, inr, ⊎_elim, arith}
+use Rattle.std.proofs.Common.{◌≡◌, ◌⊎◌, ℕ, zero, suc, ◌+◌, ◌<◌, ◌≤◌, List, [], ◌∷◌, length, get_or, max, Bool, true, false, refl, sym, ap, ◌∙◌, subst, inl, inr, ⊎_elim, arith}
 use Rattle.std.specs.Prelude.{Contains, nat_eq, count_by, cond, if◌then◌else◌}
 use Rattle.std.proofs.lemmas.List.Recursion.{is_count_by}
-use Rattle.std.proofs.lemmas.Bool.{cases_Bool, eqb-true, eq-eqb, cases_lt, cases_eq}
+use Rattle.std.proofs.lemmas.Bool.{eqb-true, eq-eqb, cases_lt, cases_eq}
 use Rattle.std.proofs.lemmas.List.Elements.{Contains-get_or}
 use Rattle.pst_scen.specs.declared.rows.Rows.{Rows}
 use Rattle.pst_scen.specs.declared.scenario.Scenario.{Scenario}
-use Rattle.pst_scen.specs.Order.{Together, Itself, Must}
+use Rattle.pst_scen.specs.Order.{Together, Must}
 use Rattle.pst_scen.specs.Trace.{IsWholeGroup}
 use Rattle.pst_scen.specs.Rows.{Has}
 use Rattle.pst_scen.specs.Plan.{Entries, places_from, members, member_count, widest_among, widest}
-use Rattle.pst_scen.specs.Plans.{IsGroupNumber, AreEntriesOf}
+use Rattle.pst_scen.specs.Plans.{AreEntriesOf}
 use Rattle.pst_order.proofs.Elements.{none_in, cons_cases, cons_first, cons_rest, place_of}
 use Rattle.pst_order.proofs.Lists.{Ascending}
 use Rattle.pst_order.proofs.Groups.{group_along, group_back}

@@ -1,5 +1,5 @@
 -- What the proofs on the core use of a scenario, and that it follows from a whole legal trace.
-use Rattle.std.proofs.Common.{◌≡◌, ◌≢◌, ℕ, zero, suc, ◌<◌, ◌≤◌, List, length, get_or, Option, Some, None, refl, sym, ap, ◌∙◌, subst, ⊎_elim, arith}
+use Rattle.std.proofs.Common.{◌≡◌, ℕ, zero, suc, ◌<◌, ◌≤◌, length, get_or, Option, Some, None, refl, sym, ap, ◌∙◌, subst, ⊎_elim, arith}
 use Rattle.std.proofs.lemmas.Bool.{cases_order, cases_lt}
 use Rattle.pst_scen.specs.declared.act.Link.{Link}
 use Rattle.pst_scen.specs.declared.act.Link.TheVariants as link
@@ -7,7 +7,7 @@ use Rattle.pst_scen.specs.declared.scenario.Scenario.{Scenario}
 use Rattle.pst_scen.specs.Flows.{Feeds, Reads, Writes, LeadsTo}
 use Rattle.pst_scen.specs.Order.{Before, Together, Itself, Must, Directly, Through, Previous}
 use Rattle.pst_scen.specs.Conflicts.{Conflict}
-use Rattle.pst_scen.specs.Trace.{Names, last_writer, AreLegal, IsWhole, events}
+use Rattle.pst_scen.specs.Trace.{Names, last_writer, IsWhole, events}
 use Rattle.pst_scen.specs.Plans.{CanRun}
 use Rattle.pst_order.specs.Facts.{IsOutput, LinksStates}
 use Rattle.pst_order.proofs.Groups.{refers_in, names_leads}

@@ -1,9 +1,9 @@
 -- A trace has one cutting into blocks.
-use Rattle.std.proofs.Common.{◌≡◌, ℕ, ◌<◌, List, [], ◌∷◌, ◌++◌, length, true, false, refl, sym, ap, ap₂, ◌∙◌, subst, arith, append_assoc, append-nil}
+use Rattle.std.proofs.Common.{◌≡◌, ℕ, ◌<◌, List, [], ◌∷◌, ◌++◌, length, true, false, refl, sym, ap, ap₂, ◌∙◌, arith, append_assoc, append-nil}
 use Rattle.pst_scen.specs.declared.scenario.Scenario.{Scenario}
 use Rattle.pst_scen.specs.declared.event.Event.{Event}
 use Rattle.pst_scen.specs.declared.event.Event.TheVariants.{Start, End}
-use Rattle.pst_scen.specs.Trace.{Block, Starts, Ends, starts_of, events_of, events}
+use Rattle.pst_scen.specs.Trace.{Block, Starts, Ends, starts_of, events}
 use Rattle.pst_order.proofs.Fair.{AreFair}
 
 -- the blocks of events behind some blocks, where a block has begun with some members on some lanes

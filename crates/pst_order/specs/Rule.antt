@@ -1,8 +1,10 @@
 -- Histories in which each block follows the rule of the core.
-use Rattle.std.specs.Prelude.{ℕ, ◌+◌, List, [], ◌∷◌, ◌++◌}
+use Rattle.std.specs.Prelude.{◌≡◌, ◌≢◌, ℕ, ◌+◌, List, [], ◌∷◌, Contains}
+use Rattle.pst_scen.specs.declared.act.Link.{Link}
 use Rattle.pst_scen.specs.declared.scenario.Scenario.{Scenario}
 use Rattle.pst_scen.specs.declared.event.Event.{Event}
-use Rattle.pst_scen.specs.Trace.{Runs, AreFree, Block, Starts, Ends, events}
+use Rattle.pst_scen.specs.Flows.{Reads, Writes}
+use Rattle.pst_scen.specs.Trace.{Runs, Ended, AreFree, Block, Starts, Ends, events}
 use Rattle.pst_scen.specs.Core.{IsReady, Opens, Command, Open, Close}
 
 -- a group starts that is ready, on as many idle lanes, or a running action ends
@@ -36,3 +38,25 @@ abbrev pub close_count : List Command → ℕ
 close_count [] = 0
 close_count (Open ∷ more) = close_count more
 close_count (Close a ∷ more) = close_count more + 1
+
+-- a trace of blocks by the rule
+pub record IsByRule (s : Scenario) (lanes : ℕ) (trace : List Event) : Type 0 where
+  pub blocks : List Block
+  pub are : events blocks ≡ trace
+  pub rule : AreByRule s lanes blocks
+
+-- a trace of blocks that the core makes
+pub record IsByCore (s : Scenario) (lanes : ℕ) (trace : List Event) : Type 0 where
+  pub blocks : List Block
+  pub are : events blocks ≡ trace
+  pub core : AreByCore s lanes blocks
+
+-- Whoever reads an object that a member replaces has ended.
+abbrev pub KeepsReaders : Scenario → List Event → Block → Type 0
+KeepsReaders s trace (Starts members used) = (a b pool : ℕ) (link : Link) → Contains members b → a ≢ b → Reads s a pool link → Writes s b pool link → Ended trace a
+KeepsReaders s trace (Ends a) = Unit {0}
+
+-- each block keeps the readers, the latest first
+abbrev pub AllKeepReaders : Scenario → List Block → Type 0
+AllKeepReaders s [] = Unit {0}
+AllKeepReaders s (block ∷ older) = AllKeepReaders s older × KeepsReaders s (events older) block
