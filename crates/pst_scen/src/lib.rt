@@ -7,6 +7,8 @@
 mod act;
 mod event;
 mod laws;
+mod plan;
+mod rows;
 mod scenario;
 mod tree;
 
@@ -15,5 +17,7 @@ pub use event::Event;
 pub use laws::{
     before_is_never_itself, prefixes_are_legal, whole_traces_are_prefixes, wider_traces_are_legal,
 };
+pub use plan::Plan;
+pub use rows::Rows;
 pub use scenario::{First, Scenario};
 pub use tree::{Fill, Node};

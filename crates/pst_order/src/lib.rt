@@ -1,0 +1,15 @@
+//! The laws of order, of legal traces and of the core.
+//!
+//! Each law is the contract of a function that does nothing. A caller that needs a law in a proof
+//! calls its function.
+#![tactic(auto)]
+
+mod commands;
+mod order;
+mod rule;
+
+pub use commands::{core_is_by_rule, core_is_one};
+pub use order::{blocks_are_one, must_is_kept, running_meet, whole_is_sound};
+pub use rule::{
+    prefix_is_by_rule, readers_are_kept, rule_fits, rule_goes_on, rule_is_legal, rule_is_prefix,
+};
