@@ -1,7 +1,7 @@
 -- A filled-in activity as it grows in preorder, and the limits on its size.
 use Rattle.std.specs.Prelude.{ℕ, ◌≤◌, List, [], ◌∷◌, ◌++◌, map, length, Bool, ◌&&◌, nat_le, Option, Some, None}
 use Rattle.std.specs.List.{enumerate_from}
-use Rattle.std.specs.Option.{option_or}
+use Rattle.std.specs.Option.{unwrap_or}
 use Rattle.pst_model.specs.declared.action.Reference.{Reference}
 use Rattle.pst_model.specs.ModelTree.{ModelTree, ActionTree}
 use Rattle.pst_scen.specs.declared.tree.Node.{Node}
@@ -27,8 +27,8 @@ pub data Look : Type 0 where
 -- action that isn't abstract, in each instance of its component, so the numbers for want of these never stand.)
 abbrev pub open_reference : ModelTree → ℕ → ℕ → ℕ × Reference → Filled
 open_reference m action instance numbered = record {
-  pool = option_or (served m action instance numbered.0) 0;
-  flow = option_or (reference_flow m numbered.1) BufferIn;
+  pool = unwrap_or (served m action instance numbered.0) 0;
+  flow = unwrap_or (reference_flow m numbered.1) BufferIn;
   values = [];
   link = Nothing;
 }

@@ -1,6 +1,6 @@
 -- What a scenario is: nodes in preorder, actions, links and first objects that belong together.
-use Rattle.std.specs.Prelude.{◌≡◌, ◌↔◌, ℕ, suc, ◌+◌, ◌<◌, ◌^◌, List, [], ◌∷◌, ◌++◌, ◌⊎◌, map, length, AllPairs, Contains, Option, Some, None, slice_get, flat_map}
-use Rattle.std.specs.List.{enumerate_from, range_with_len, replicate}
+use Rattle.std.specs.Prelude.{◌≡◌, ◌↔◌, ℕ, suc, ◌+◌, ◌<◌, ◌^◌, List, [], ◌∷◌, ◌++◌, ◌⊎◌, map, length, AllPairs, Contains, Option, Some, None, slice_get, flat_map, replicate}
+use Rattle.std.specs.List.{enumerate_from, range_with_len}
 use Rattle.std.specs.Option.{option_and_then}
 use Rattle.pst_scen.specs.declared.tree.Node.{Node}
 use Rattle.pst_scen.specs.declared.tree.Fill.{Fill}

@@ -1,6 +1,6 @@
 -- Which statement of an activity a node fills, and where the node of a handle stands.
-use Rattle.std.specs.Prelude.{◌≡◌, ℕ, suc, ◌+◌, List, [], ◌∷◌, ◌++◌, ◌&&◌, nat_eq, if◌then◌else◌, Bool, true, false, Option, Some, None, slice_get}
-use Rattle.std.specs.List.{enumerate_from, find}
+use Rattle.std.specs.Prelude.{◌≡◌, ℕ, suc, ◌+◌, List, [], ◌∷◌, ◌++◌, map, nat_eq, if◌then◌else◌, Bool, true, false, Option, Some, None, slice_get}
+use Rattle.std.specs.List.{enumerate_from, filter}
 use Rattle.std.specs.Option.{option_map, option_and_then}
 use Rattle.pst_model.specs.declared.activity.Join.{Join}
 use Rattle.pst_model.specs.ConstraintTree.{ConstraintTree}
@@ -9,13 +9,16 @@ use Rattle.pst_model.specs.ModelTree.{ModelTree}
 use Rattle.pst_scen.specs.declared.tree.Node.{Node}
 use Rattle.pst_scen.specs.declared.tree.Fill.{Fill}
 use Rattle.pst_scen.specs.declared.tree.Fill.TheVariants as fill
-use Rattle.pst_scen.specs.Tree.{IsNode, IsChild, is_parent, branch_of}
+use Rattle.pst_scen.specs.Tree.{IsNode, IsChild, is_parent}
 use Rattle.pst_scen.specs.Types.{activity_of}
 
--- one node stands directly in another, with so many before it there
-pub record IsBranch (nodes : List Node) (parent index child : ℕ) : Type 0 where
-  pub child : IsChild nodes child parent
-  pub place : branch_of nodes parent child ≡ index
+-- the nodes that stand directly in one, in order
+abbrev pub children_of : List Node → ℕ → List ℕ
+children_of nodes parent = map (λ e. e.0) (filter (λ e. is_parent parent e.1.parent) (enumerate_from 0 nodes))
+
+-- the child of that place
+abbrev pub IsBranch : List Node → ℕ → ℕ → ℕ → Type 0
+IsBranch nodes parent index child = slice_get (children_of nodes parent) index ≡ Some child
 
 -- The statement that the child of that place fills, where a node fills a statement. (The children of a repetition are its turns.)
 abbrev pub step_below : Fill → StepTree → ℕ → Option StepTree
@@ -48,10 +51,15 @@ pub data StandsFor (m : ModelTree) (nodes : List Node) (top : ℕ) : ℕ → Ste
 
 -- ---- handles
 
-mutual
+-- a way that leads on from there, or else the others
+abbrev pub first_way : ℕ → Option (List ℕ) → Option (List ℕ) → Option (List ℕ)
+first_way index None others = others
+first_way index (Some way) others = Some (index ∷ way)
+
+abbrev mutual
   -- The places on the way from an activity down to the traversal by a handle. A handle that is named anywhere is traversed
   -- once, and not inside select, repeat, if or match, so the way leads through blocks alone.
-  abbrev pub way_in_step : ℕ → StepTree → Option (List ℕ)
+  pub way_in_step : ℕ → StepTree → Option (List ℕ)
   way_in_step handle (Traverse action None inline) = None
   way_in_step handle (Traverse action (Some h) inline) = if nat_eq h handle then Some [] else None
   way_in_step handle (Sequence steps) = way_in_row handle 0 steps
@@ -63,29 +71,18 @@ mutual
   way_in_step handle (If condition holds fails) = None
   way_in_step handle (Match matched arms other) = None
 
-  abbrev pub way_in_row : ℕ → ℕ → StepRow → Option (List ℕ)
+  pub way_in_row : ℕ → ℕ → StepRow → Option (List ℕ)
   way_in_row handle index NoSteps = None
   way_in_row handle index (MoreSteps step steps) = first_way index (way_in_step handle step) (way_in_row handle (index + 1) steps)
-
-  abbrev pub first_way : ℕ → Option (List ℕ) → Option (List ℕ) → Option (List ℕ)
-  first_way index None others = others
-  first_way index (Some way) others = Some (index ∷ way)
 
 abbrev pub way_in : ℕ → ℕ → List StepTree → Option (List ℕ)
 way_in handle index [] = None
 way_in handle index (step ∷ steps) = first_way index (way_in_step handle step) (way_in handle (index + 1) steps)
 
--- whether the numbered node stands directly in the parent, with so many before it there
-abbrev pub is_child_at : List Node → ℕ → ℕ → ℕ × Node → Bool
-is_child_at nodes parent index numbered = is_parent parent numbered.1.parent && nat_eq (branch_of nodes parent numbered.0) index
-
--- the child of that place, if the tree has it
-abbrev pub child_at : List Node → ℕ → ℕ → Option ℕ
-child_at nodes parent index = option_map (λ e. e.0) (find (is_child_at nodes parent index) (enumerate_from 0 nodes))
-
+-- the node at the end of a way down from a node, if the tree has it
 abbrev pub node_on : List Node → ℕ → List ℕ → Option ℕ
 node_on nodes top [] = Some top
-node_on nodes top (index ∷ way) = option_and_then (λ child. node_on nodes child way) (child_at nodes top index)
+node_on nodes top (index ∷ way) = option_and_then (λ child. node_on nodes child way) (slice_get (children_of nodes top) index)
 
 -- The node of the traversal by a handle, in the activity of the compound action of node `top`; none where it isn't in the
 -- tree yet.

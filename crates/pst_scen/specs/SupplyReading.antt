@@ -168,8 +168,11 @@ alter f n xs = map (λ e. if nat_eq e.0 n then f e.1 else e.1) (enumerate_from 0
 abbrev pub with_link : Link → Filled → Filled
 with_link to filled = record filled { link = to }
 
+abbrev pub act_with_link : ℕ → Link → Act → Act
+act_with_link r to act = record act { references = alter (with_link to) r act.references }
+
 abbrev pub put_link : ℕ → ℕ → Link → List Act → List Act
-put_link a r to acts = alter (λ act. record act { references = alter (with_link to) r act.references }) a acts
+put_link a r to acts = alter (act_with_link r to) a acts
 
 -- the need is linked to the reference, and with a stream the reference to the need
 abbrev pub linked_to : Spot → ℕ → ℕ → List Act → List Act

@@ -1,5 +1,5 @@
 -- What a model says of its types, instances and pools.
-use Rattle.std.specs.Prelude.{ℕ, ◌+◌, List, map, length, Bool, true, false, ◌&&◌, nat_eq, nat_le, Option, None, Some, slice_get}
+use Rattle.std.specs.Prelude.{ℕ, ◌+◌, List, [], map, length, Bool, true, false, ◌&&◌, nat_eq, nat_le, Option, None, Some, slice_get}
 use Rattle.std.specs.List.{enumerate_from, filter, find}
 use Rattle.std.specs.Option.{option_map, option_and_then}
 use Rattle.pst_base.specs.declared.table.NameId.{NameId}

@@ -1,7 +1,7 @@
 -- How claimed instances and values are read: the last three parts of a list of choices, and the whole of it.
 use Rattle.std.specs.Prelude.{ℕ, ◌+◌, ℤ, List, [], ◌∷◌, ◌++◌, length, map, Bool, true, false, ◌&&◌, nat_eq, if◌then◌else◌, Option, Some, None, slice_get, flat_map}
 use Rattle.std.specs.List.{enumerate_from, filter, list_any, range_with_len}
-use Rattle.std.specs.Option.{option_map, option_and_then, option_or}
+use Rattle.std.specs.Option.{option_map, option_and_then, unwrap_or}
 use Rattle.pst_expr.specs.Spans.{size_of}
 use Rattle.pst_model.specs.declared.action.Field.{Field}
 use Rattle.pst_model.specs.declared.action.Claim.{Claim}
@@ -40,7 +40,7 @@ act_fields None = []
 act_fields (Some type) = type.fields
 
 abbrev pub instance_blank : ModelTree → ℕ × Act → ℕ × Claim → Blank
-instance_blank m act claim = Instance act.0 claim.1 (option_or (served_claim m act.1.action act.1.instance claim.0) 0)
+instance_blank m act claim = Instance act.0 claim.1 (unwrap_or (served_claim m act.1.action act.1.instance claim.0) 0)
 
 abbrev pub instance_blanks : ModelTree → ℕ × Act → List Blank
 instance_blanks m act = map (instance_blank m act) (enumerate_from 0 (claims_of (type_of m act.1.action)))
@@ -93,20 +93,29 @@ more_values v values = values ++ v ∷ []
 abbrev pub with_claim : Claim → ℕ → ℕ → Act → Act
 with_claim claim pool instance act = record act { claims = act.claims ++ record { pool = pool; lock = claim.lock; instance = instance; values = [] } ∷ [] }
 
+abbrev pub act_with_value : ℤ → Act → Act
+act_with_value v act = record act { fields = more_values v act.fields }
+
+abbrev pub filled_with_value : ℤ → Filled → Filled
+filled_with_value v filled = record filled { values = more_values v filled.values }
+
+abbrev pub claimed_with_value : ℤ → Claimed → Claimed
+claimed_with_value v claimed = record claimed { values = more_values v claimed.values }
+
 abbrev pub with_output_value : ℕ → ℤ → Act → Act
-with_output_value reference v act = record act { references = alter (λ filled. record filled { values = more_values v filled.values }) reference act.references }
+with_output_value reference v act = record act { references = alter (filled_with_value v) reference act.references }
 
 abbrev pub with_claim_value : ℕ → ℤ → Act → Act
-with_claim_value claim v act = record act { claims = alter (λ claimed. record claimed { values = more_values v claimed.values }) claim act.claims }
+with_claim_value claim v act = record act { claims = alter (claimed_with_value v) claim act.claims }
 
-abbrev pub with_first_value : ℕ → ℤ → List First → List First
-with_first_value pool v firsts = map (λ first. if nat_eq first.pool pool then record first { values = more_values v first.values } else first) firsts
+abbrev pub first_with_value : ℕ → ℤ → First → First
+first_with_value pool v first = if nat_eq first.pool pool then record first { values = more_values v first.values } else first
 
 -- the option of that number stands in the blank
 abbrev pub written : Scenario → ℕ → Blank → Scenario
 written s k (Instance act claim pool) = record s { actions = alter (with_claim claim pool k) act s.actions }
-written s k (OfFirst pool field) = record s { firsts = with_first_value pool (value_number field k) s.firsts }
-written s k (OfAct act field) = record s { actions = alter (λ x. record x { fields = more_values (value_number field k) x.fields }) act s.actions }
+written s k (OfFirst pool field) = record s { firsts = map (first_with_value pool (value_number field k)) s.firsts }
+written s k (OfAct act field) = record s { actions = alter (act_with_value (value_number field k)) act s.actions }
 written s k (OfOutput act reference field) = record s { actions = alter (with_output_value reference (value_number field k)) act s.actions }
 written s k (OfClaim act claim field) = record s { actions = alter (with_claim_value claim (value_number field k)) act s.actions }
 
@@ -115,9 +124,12 @@ read_blanks m seed [] s place left = Reads s place left
 read_blanks m seed (blank ∷ more) s place left =
     read_seeded seed (options m blank) (λ k read. read_blanks m seed more (written read k blank)) s place left
 
+abbrev pub empty_first : ℕ → First
+empty_first pool = record { pool = pool; values = [] }
+
 -- a first object without values yet for each state pool that is used
 abbrev pub with_firsts : ModelTree → Scenario → Scenario
-with_firsts m s = record s { firsts = map (λ pool. record { pool = pool; values = [] }) (used_state_pools m s.actions) }
+with_firsts m s = record s { firsts = map empty_first (used_state_pools m s.actions) }
 
 abbrev pub read_values : ModelTree → ℕ → Reader
 read_values m seed s place left = read_blanks m seed (blanks m s.actions) (with_firsts m s) place left
