@@ -25,3 +25,5 @@ pub mod Reading
 pub mod SupplyReading
 pub mod ValueReading
 pub mod First
+pub mod Body
+pub mod Shape
