@@ -3,6 +3,7 @@ use Rattle.std.specs.Prelude.{ℕ, ◌<◌, length}
 use Rattle.pst_model.specs.ModelTree.{ModelTree}
 use Rattle.pst_scen.specs.declared.scenario.Scenario.{Scenario}
 use Rattle.pst_scen.specs.Scenarios.{IsScenario}
+use Rattle.pst_scen.specs.Shape.{HasShape}
 use Rattle.pst_scen.specs.Fits.{Fits}
 use Rattle.pst_scen.specs.Supplied.{Supplied}
 use Rattle.pst_scen.specs.Constraints.{Holds}
@@ -12,6 +13,7 @@ use Rattle.pst_scen.specs.Plans.{KeepsParallel, ClashesAlone, CanRun}
 -- nor in dispute, no action is in dispute with itself, and on some number of lanes the scenario can run to its end.
 pub record Legal (m : ModelTree) (root : ℕ) (s : Scenario) : Type 0 where
   pub scenario : IsScenario s
+  pub shape : HasShape m s
   pub fits : Fits m root s
   pub supplied : Supplied m s
   pub holds : Holds m s

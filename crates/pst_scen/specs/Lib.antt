@@ -13,6 +13,7 @@ pub mod Types
 pub mod Growing
 pub mod Pieces
 pub mod Scenarios
+pub mod Shape
 pub mod Fits
 pub mod Standing
 pub mod Slots
@@ -26,4 +27,3 @@ pub mod SupplyReading
 pub mod ValueReading
 pub mod First
 pub mod Body
-pub mod Shape
