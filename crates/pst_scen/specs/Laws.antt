@@ -1,13 +1,11 @@
--- Laws of the order, of legal traces and of the first legal scenario.
+-- Laws of the order and of legal traces.
 use Rattle.std.specs.Prelude.{◌≡◌, ℕ, ◌<◌, ◌≤◌, List}
 use Rattle.std.specs.Prelude.{slice_get, Some}
 use Rattle.pst_scen.specs.declared.tree.Node.{Node}
 use Rattle.pst_scen.specs.declared.tree.Fill.TheVariants.{Leaf}
 use Rattle.pst_scen.specs.declared.scenario.Scenario.{Scenario}
 use Rattle.pst_scen.specs.declared.event.Event.{Event}
-use Rattle.pst_model.specs.ModelTree.{ModelTree}
 use Rattle.pst_scen.specs.Order.{Before}
-use Rattle.pst_scen.specs.First.{IsFirst}
 use Rattle.pst_scen.specs.Trace.{IsLegalTrace, IsWhole, Prefix}
 
 -- each node but the first stands in an earlier one
@@ -33,7 +31,3 @@ PrefixesAreLegal = (s : Scenario) (lanes : ℕ) (trace : List Event) → Prefix 
 -- A whole legal trace begins itself.
 abbrev pub WholeTracesArePrefixes : Type 0
 WholeTracesArePrefixes = (s : Scenario) (lanes : ℕ) (trace : List Event) → IsLegalTrace s lanes trace → IsWhole s trace → Prefix s lanes trace
-
--- A model, a root and a seed have at most one first legal scenario.
-abbrev pub FirstIsOne : Type 0
-FirstIsOne = (m : ModelTree) (root seed infer : ℕ) (s t : Scenario) → IsFirst m root seed infer s → IsFirst m root seed infer t → s ≡ t

@@ -1,6 +1,6 @@
 //! Laws of the order of actions and of legal traces, each the contract of a function that does
 //! nothing.
-ghost use Rattle.pst_scen.specs.Laws.{BeforeIsNeverItself, WiderTracesAreLegal, PrefixesAreLegal, WholeTracesArePrefixes, FirstIsOne};
+ghost use Rattle.pst_scen.specs.Laws.{BeforeIsNeverItself, WiderTracesAreLegal, PrefixesAreLegal, WholeTracesArePrefixes};
 
 /// No action stands in an earlier statement than itself.
 pub fn before_is_never_itself()
@@ -20,9 +20,4 @@ pub fn prefixes_are_legal()
 /// A whole legal trace begins itself.
 pub fn whole_traces_are_prefixes()
     ensures { WholeTracesArePrefixes }
-{}
-
-/// A model, a root and a seed have at most one first legal scenario.
-pub fn first_is_one()
-    ensures { FirstIsOne }
 {}

@@ -16,8 +16,7 @@ mod tree;
 pub use act::{Act, Claimed, Filled, Flow, Link};
 pub use event::Event;
 pub use laws::{
-    before_is_never_itself, first_is_one, prefixes_are_legal, whole_traces_are_prefixes,
-    wider_traces_are_legal,
+    before_is_never_itself, prefixes_are_legal, whole_traces_are_prefixes, wider_traces_are_legal,
 };
 pub use next::Next;
 pub use plan::Plan;

@@ -5,7 +5,7 @@ use Rattle.rand_core.specs.Steps.{u32_at, word_bytes}
 use Rattle.rand_core.specs.Pcg32Seed.{pcg32_seed}
 use Rattle.pst_rng.specs.Words.{generator_at}
 use Rattle.pst_model.specs.ActivityTree.{Parallel}
-use Rattle.pst_scen.specs.ValueReading.{Whole, read}
+use Rattle.pst_legal.specs.ValueReading.{Whole, read}
 use Rattle.pst_trials.specs.Locks.{LocksAreTried, model, twice, scenario}
 
 pub reads : read (model true (Parallel twice)) 1 1 0 (0 ∷ 0 ∷ 0 ∷ 0 ∷ 0 ∷ []) ≡ Whole (scenario true fill.Parallel)

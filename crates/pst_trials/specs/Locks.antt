@@ -14,7 +14,7 @@ use Rattle.pst_scen.specs.declared.tree.Fill.TheVariants as fill
 use Rattle.pst_scen.specs.declared.act.Act.{Act}
 use Rattle.pst_scen.specs.declared.scenario.Scenario.{Scenario}
 use Rattle.pst_scen.specs.Conflicts.{Conflict}
-use Rattle.pst_scen.specs.ValueReading.{Answer, Options, Whole, read}
+use Rattle.pst_legal.specs.ValueReading.{Answer, Options, Whole, read}
 
 abbrev pub name : ℕ → NameId
 name n = record { 0 = n }

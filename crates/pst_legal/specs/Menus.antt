@@ -11,9 +11,9 @@ use Rattle.pst_model.specs.ActivityTree.{StepTree, Traverse, Sequence, Parallel,
 use Rattle.pst_model.specs.ModelTree.{ModelTree, ActionTree, ContentTree, Atomic, Compound}
 use Rattle.pst_scen.specs.declared.tree.Fill.{Fill}
 use Rattle.pst_scen.specs.declared.tree.Fill.TheVariants as fill
-use Rattle.pst_scen.specs.Types.{type_of, action_instances}
-use Rattle.pst_scen.specs.Growing.{Look, Inner, Leaf}
-use Rattle.pst_scen.specs.Pieces.{Context, Piece, Action, Statement, Turning, in_turn, value_in, holds_in, statements, optional, turns, mask}
+use Rattle.pst_legal.specs.Types.{type_of, action_instances}
+use Rattle.pst_legal.specs.Growing.{Look, Inner, Leaf}
+use Rattle.pst_legal.specs.Pieces.{Context, Piece, Action, Statement, Turning, in_turn, value_in, holds_in, statements, optional, turns, mask}
 
 -- A piece's places and its way. A way gives the node, the fields whose values are read once the node stands, and what
 -- stands below it then. A place has so many options, or options with these weights, each with what comes after it.

@@ -3,9 +3,9 @@ use Rattle.std.proofs.Common.{◌≡◌, ◌⊎◌, ℕ, ◌<◌, ◌≤◌, Lis
 use Rattle.std.proofs.lemmas.Bool.{cases_order}
 use Rattle.pst_model.specs.ModelTree.{ModelTree}
 use Rattle.pst_scen.specs.declared.scenario.Scenario.{Scenario}
-use Rattle.pst_scen.specs.ValueReading.{Answer, Options, Dead, Whole, read}
-use Rattle.pst_scen.specs.First.{IsBefore, ReadsLegal, IsFirst}
-use Rattle.pst_scen.specs.Laws.{FirstIsOne}
+use Rattle.pst_legal.specs.ValueReading.{Answer, Options, Dead, Whole, read}
+use Rattle.pst_legal.specs.First.{IsBefore, ReadsLegal, IsFirst}
+use Rattle.pst_legal.specs.Laws.{FirstIsOne}
 
 -- ---- lists of choices
 

@@ -15,11 +15,11 @@ use Rattle.pst_scen.specs.declared.tree.Fill.TheVariants as fill
 use Rattle.pst_scen.specs.declared.act.Act.{Act}
 use Rattle.pst_scen.specs.declared.act.Filled.{Filled}
 use Rattle.pst_scen.specs.declared.scenario.Scenario.{Scenario}
-use Rattle.pst_scen.specs.Types.{type_of, pool_object, is_state_pool, is_output}
-use Rattle.pst_scen.specs.Pieces.{is_true}
+use Rattle.pst_legal.specs.Types.{type_of, pool_object, is_state_pool, is_output}
+use Rattle.pst_legal.specs.Pieces.{is_true}
 use Rattle.pst_scen.specs.Scenarios.{reference_at}
-use Rattle.pst_scen.specs.Standing.{StandsFor}
-use Rattle.pst_scen.specs.Slots.{Standing, value_of, bound_of, node_slot, act_slot, inline_slot, output_slot, resource_slot, first_object_slot}
+use Rattle.pst_legal.specs.Standing.{StandsFor}
+use Rattle.pst_legal.specs.Slots.{Standing, value_of, bound_of, node_slot, act_slot, inline_slot, output_slot, resource_slot, first_object_slot}
 
 -- an action of the scenario, with its type
 pub record IsActOfType (m : ModelTree) (s : Scenario) (a : ℕ) (act : Act) (type : ActionTree) : Type 0 where

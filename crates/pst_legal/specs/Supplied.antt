@@ -10,9 +10,9 @@ use Rattle.pst_scen.specs.declared.act.Flow.TheVariants.{BufferIn, BufferOut, St
 use Rattle.pst_scen.specs.declared.act.Link.{Link}
 use Rattle.pst_scen.specs.declared.act.Link.TheVariants as link
 use Rattle.pst_scen.specs.declared.scenario.Scenario.{Scenario}
-use Rattle.pst_scen.specs.Types.{type_of, activity_in, action_instances}
+use Rattle.pst_legal.specs.Types.{type_of, activity_in, action_instances}
 use Rattle.pst_scen.specs.Scenarios.{reference_at, leaves_of}
-use Rattle.pst_scen.specs.Binds.{Bound, bounds_of, fixed_source}
+use Rattle.pst_legal.specs.Binds.{Bound, bounds_of, fixed_source}
 
 -- a reference that wants a source: each input, each state output (its previous writer) and each stream output (its consumer)
 abbrev pub is_need : Flow → Bool

@@ -10,7 +10,7 @@ use Rattle.pst_scen.specs.declared.tree.Node.{Node}
 use Rattle.pst_scen.specs.declared.tree.Fill.{Fill}
 use Rattle.pst_scen.specs.declared.tree.Fill.TheVariants as fill
 use Rattle.pst_scen.specs.Tree.{IsNode, IsChild, is_parent}
-use Rattle.pst_scen.specs.Types.{activity_of}
+use Rattle.pst_legal.specs.Types.{activity_of}
 
 -- the nodes that stand directly in one, in order
 abbrev pub children_of : List Node → ℕ → List ℕ

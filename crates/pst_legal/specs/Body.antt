@@ -14,8 +14,8 @@ use Rattle.pst_model.specs.BodyTree.{SourceTree, Value, Answer, BodyStepTree, De
 use Rattle.pst_model.specs.ModelTree.{ModelTree, FunctionTree, ContentTree, Atomic, Compound}
 use Rattle.pst_scen.specs.declared.act.Act.{Act}
 use Rattle.pst_scen.specs.declared.scenario.Scenario.{Scenario}
-use Rattle.pst_scen.specs.Types.{type_of}
-use Rattle.pst_scen.specs.Slots.{value_of, act_slot}
+use Rattle.pst_legal.specs.Types.{type_of}
+use Rattle.pst_legal.specs.Slots.{value_of, act_slot}
 
 -- a local, with the range of its type
 pub record Variable : Type 0 where

@@ -11,7 +11,7 @@ use Rattle.pst_scen.specs.declared.act.Filled.{Filled}
 use Rattle.pst_scen.specs.declared.act.Claimed.{Claimed}
 use Rattle.pst_scen.specs.declared.scenario.First.{First}
 use Rattle.pst_scen.specs.declared.scenario.Scenario.{Scenario}
-use Rattle.pst_scen.specs.Types.{type_of, activity_in, pool_object}
+use Rattle.pst_legal.specs.Types.{type_of, activity_in, pool_object}
 
 -- a value for each field of an object of the type
 pub record HasObjectShape (object : Option ObjectTree) (values : List ℤ) : Type 0 where

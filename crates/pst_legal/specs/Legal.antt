@@ -3,10 +3,10 @@ use Rattle.std.specs.Prelude.{ℕ, ◌<◌, length}
 use Rattle.pst_model.specs.ModelTree.{ModelTree}
 use Rattle.pst_scen.specs.declared.scenario.Scenario.{Scenario}
 use Rattle.pst_scen.specs.Scenarios.{IsScenario}
-use Rattle.pst_scen.specs.Shape.{HasShape}
-use Rattle.pst_scen.specs.Fits.{Fits}
-use Rattle.pst_scen.specs.Supplied.{Supplied}
-use Rattle.pst_scen.specs.Constraints.{Holds}
+use Rattle.pst_legal.specs.Shape.{HasShape}
+use Rattle.pst_legal.specs.Fits.{Fits}
+use Rattle.pst_legal.specs.Supplied.{Supplied}
+use Rattle.pst_legal.specs.Constraints.{Holds}
 use Rattle.pst_scen.specs.Plans.{KeepsParallel, ClashesAlone, CanRun}
 
 -- The scenario fills the root, every need has its source, every constraint holds, parallel branches are neither ordered

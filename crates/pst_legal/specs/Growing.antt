@@ -12,7 +12,7 @@ use Rattle.pst_scen.specs.declared.act.Filled.{Filled}
 use Rattle.pst_scen.specs.declared.act.Flow.TheVariants.{BufferIn}
 use Rattle.pst_scen.specs.declared.act.Link.TheVariants.{Nothing}
 use Rattle.pst_scen.specs.declared.scenario.Scenario.{Scenario}
-use Rattle.pst_scen.specs.Types.{type_of, served, reference_flow}
+use Rattle.pst_legal.specs.Types.{type_of, served, reference_flow}
 
 -- a scenario of which nothing is there yet
 abbrev pub nothing_yet : ℕ → Scenario

@@ -10,9 +10,9 @@ use Rattle.pst_scen.specs.declared.tree.Node.{Node}
 use Rattle.pst_scen.specs.declared.tree.Fill.{Fill}
 use Rattle.pst_scen.specs.declared.tree.Fill.TheVariants as fill
 use Rattle.pst_scen.specs.declared.scenario.Scenario.{Scenario}
-use Rattle.pst_scen.specs.Growing.{nothing_yet, Look, with_look, is_within, most_levels}
-use Rattle.pst_scen.specs.Pieces.{Piece, Action}
-use Rattle.pst_scen.specs.Menus.{Menu, Way, Place, Weighted, Closed, menu}
+use Rattle.pst_legal.specs.Growing.{nothing_yet, Look, with_look, is_within, most_levels}
+use Rattle.pst_legal.specs.Pieces.{Piece, Action}
+use Rattle.pst_legal.specs.Menus.{Menu, Way, Place, Weighted, Closed, menu}
 
 -- What reading has come to: a place with so many options and no choice left for it, a dead end, or a scenario so far, the
 -- number of the next place and the choices that are left.

@@ -13,8 +13,8 @@ use Rattle.pst_model.specs.ConstraintTree.{SlotTree, Own, Object, First, ClaimId
 use Rattle.pst_model.specs.ActivityTree.{StepTree, Traverse, Sequence, Parallel, Schedule, Joined, Select, Repeat, If, Match, BranchTree, ArmTree, steps_of, branches_of, arms_of, step_of, guard_of, branch_step, spans_of, arm_step}
 use Rattle.pst_model.specs.ModelTree.{ModelTree, ActionTree, ContentTree, Atomic, Compound}
 use Rattle.pst_scen.specs.declared.tree.Fill.TheVariants as fill
-use Rattle.pst_scen.specs.Types.{type_of, action_instances}
-use Rattle.pst_scen.specs.Growing.{Look, Inner, Leaf}
+use Rattle.pst_legal.specs.Types.{type_of, action_instances}
+use Rattle.pst_legal.specs.Growing.{Look, Inner, Leaf}
 
 -- What conditions, guards, counts and matched values of an activity may name: the component instance of the action that
 -- has it, the values of its fields, and the numbers of the turns round a statement, the outermost first.

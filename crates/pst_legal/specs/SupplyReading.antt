@@ -10,12 +10,12 @@ use Rattle.pst_scen.specs.declared.act.Flow.TheVariants.{BufferIn, BufferOut, St
 use Rattle.pst_scen.specs.declared.act.Link.{Link}
 use Rattle.pst_scen.specs.declared.act.Link.TheVariants as link
 use Rattle.pst_scen.specs.declared.scenario.Scenario.{Scenario}
-use Rattle.pst_scen.specs.Types.{action_instances}
+use Rattle.pst_legal.specs.Types.{action_instances}
 use Rattle.pst_scen.specs.Scenarios.{leaves_of}
-use Rattle.pst_scen.specs.Growing.{open_act, most_acts}
-use Rattle.pst_scen.specs.Supplied.{is_need, is_source_for}
-use Rattle.pst_scen.specs.Binds.{bounds_of, fixed_source}
-use Rattle.pst_scen.specs.Reading.{Reading, Wants, Stops, Reads, Reader, read_seeded}
+use Rattle.pst_legal.specs.Growing.{open_act, most_acts}
+use Rattle.pst_legal.specs.Supplied.{is_need, is_source_for}
+use Rattle.pst_legal.specs.Binds.{bounds_of, fixed_source}
+use Rattle.pst_legal.specs.Reading.{Reading, Wants, Stops, Reads, Reader, read_seeded}
 
 -- a reference of an action
 pub record Spot : Type 0 where

@@ -21,9 +21,9 @@ use Rattle.pst_scen.specs.declared.act.Link.{Link}
 use Rattle.pst_scen.specs.declared.act.Link.TheVariants as link
 use Rattle.pst_scen.specs.declared.scenario.First.{First}
 use Rattle.pst_scen.specs.declared.scenario.Scenario.{Scenario}
-use Rattle.pst_scen.specs.Types.{activity_of, action_field, object_field, reference_of, claim_of, served_claim, is_output}
+use Rattle.pst_legal.specs.Types.{activity_of, action_field, object_field, reference_of, claim_of, served_claim, is_output}
 use Rattle.pst_scen.specs.Scenarios.{reference_at}
-use Rattle.pst_scen.specs.Standing.{handle_node}
+use Rattle.pst_legal.specs.Standing.{handle_node}
 
 -- What a slot stands for: a value, nothing that ever has a value, or one of the values of a span, as long as it isn't known
 -- which. In a scenario that is read whole every slot is known or lacking.

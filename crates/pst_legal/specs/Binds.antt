@@ -10,8 +10,8 @@ use Rattle.pst_scen.specs.declared.tree.Fill.{Fill}
 use Rattle.pst_scen.specs.declared.tree.Fill.TheVariants as fill
 use Rattle.pst_scen.specs.declared.act.Flow.{Flow}
 use Rattle.pst_scen.specs.declared.act.Flow.TheVariants.{BufferIn, BufferOut, StreamIn, StreamOut, StateIn, StateOut}
-use Rattle.pst_scen.specs.Types.{activity_of}
-use Rattle.pst_scen.specs.Slots.{compound_at, node_behind}
+use Rattle.pst_legal.specs.Types.{activity_of}
+use Rattle.pst_legal.specs.Slots.{compound_at, node_behind}
 
 -- an output of one action that is bound to an input of another
 pub record Bound : Type 0 where

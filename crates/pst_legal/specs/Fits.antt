@@ -11,9 +11,9 @@ use Rattle.pst_scen.specs.declared.act.Filled.{Filled}
 use Rattle.pst_scen.specs.declared.act.Claimed.{Claimed}
 use Rattle.pst_scen.specs.declared.scenario.First.{First}
 use Rattle.pst_scen.specs.declared.scenario.Scenario.{Scenario}
-use Rattle.pst_scen.specs.Types.{type_of, served, served_claim, reference_flow, reference_of, pool_object, is_output}
-use Rattle.pst_scen.specs.Growing.{nothing_yet, Look, with_look, most_levels, IsWithin}
-use Rattle.pst_scen.specs.Pieces.{Piece, Action, IsWay, IsValueOf}
+use Rattle.pst_legal.specs.Types.{type_of, served, served_claim, reference_flow, reference_of, pool_object, is_output}
+use Rattle.pst_legal.specs.Growing.{nothing_yet, Look, with_look, most_levels, IsWithin}
+use Rattle.pst_legal.specs.Pieces.{Piece, Action, IsWay, IsValueOf}
 
 -- ---- the tree
 

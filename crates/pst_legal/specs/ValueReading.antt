@@ -12,10 +12,10 @@ use Rattle.pst_scen.specs.declared.act.Filled.{Filled}
 use Rattle.pst_scen.specs.declared.act.Claimed.{Claimed}
 use Rattle.pst_scen.specs.declared.scenario.First.{First}
 use Rattle.pst_scen.specs.declared.scenario.Scenario.{Scenario}
-use Rattle.pst_scen.specs.Types.{type_of, served_claim, pool_object, is_state_pool, is_output}
-use Rattle.pst_scen.specs.Growing.{nothing_yet}
-use Rattle.pst_scen.specs.Reading.{Reading, Wants, Stops, Reads, Reader, then_read, read_seeded, read_tree, value_number}
-use Rattle.pst_scen.specs.SupplyReading.{alter, read_supply}
+use Rattle.pst_legal.specs.Types.{type_of, served_claim, pool_object, is_state_pool, is_output}
+use Rattle.pst_legal.specs.Growing.{nothing_yet}
+use Rattle.pst_legal.specs.Reading.{Reading, Wants, Stops, Reads, Reader, then_read, read_seeded, read_tree, value_number}
+use Rattle.pst_legal.specs.SupplyReading.{alter, read_supply}
 
 -- What is still to be read: the instance of a claim, or the next value of an object or an action.
 pub data Blank : Type 0 where

@@ -1,5 +1,0 @@
-use Rattle.pst_scen.proofs.Firsts.{first_is_one}
-use Rattle.pst_scen.proofs.laws.first_is_one.Goals as goal
-
-pub returns : goal.returns
-returns c = first_is_one
