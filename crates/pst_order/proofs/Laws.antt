@@ -5,9 +5,10 @@ use Rattle.pst_scen.specs.declared.scenario.Scenario.{Scenario}
 use Rattle.pst_scen.specs.declared.event.Event.{Event}
 use Rattle.pst_scen.specs.Order.{Cause, Sequence, Buffer, Source, Previous, Replaced, Itself, Must, Directly, Through}
 use Rattle.pst_scen.specs.Trace.{Started, Ended, Runs, last_writer, MayStart, AreLegal, IsWhole, Prefix, Block, Starts, Ends, events}
+use Rattle.pst_scen.specs.Refusals.{GroupClashes, Two, One}
 use Rattle.pst_scen.specs.Core.{IsStartable, Core, commands_of}
 use Rattle.pst_order.specs.Rule.{AreByRule, KeepsReaders, AllKeepReaders, open_count, close_count}
-use Rattle.pst_order.specs.Laws.{RunningMeet, MustEndsBefore, WholeHasNoCycle, WholeHasNoClash, MustIsInside, PrefixIsByRule, RuleIsLegal, RuleIsPrefix, KeptIsPrefix, RuleKeepsReaders, BlocksAreOne, CoreIsByRule, RuleGoesOn, RuleFits, RuleIsFew, CoreIsOne, CoreGrows, CoreMakesAgain, MembersAreThose, PlanGroupsAreWhole, WholeGroupsAreOne}
+use Rattle.pst_order.specs.Laws.{RunningMeet, MustEndsBefore, WholeHasNoCycle, WholeHasNoClash, MustIsInside, PrefixIsByRule, RuleIsLegal, RuleIsPrefix, KeptIsPrefix, RuleKeepsReaders, BlocksAreOne, CoreIsByRule, RuleGoesOn, RuleFits, RuleIsFew, CoreIsOne, CoreGrows, CoreMakesAgain, PlannedIsUnrefused, MembersAreThose, PlanGroupsAreWhole, WholeGroupsAreOne}
 use Rattle.std.proofs.lemmas.List.Elements.{Contains-get_or}
 use Rattle.pst_scen.specs.Plan.{members}
 use Rattle.pst_order.proofs.Elements.{place_of}
@@ -21,6 +22,7 @@ use Rattle.pst_order.proofs.Sound.{runs_sound}
 use Rattle.pst_order.proofs.Agrees.{rule_legal}
 use Rattle.pst_order.proofs.Completes.{can_open, rule_prefix, all_fit}
 use Rattle.pst_order.proofs.Unique.{one_cut}
+use Rattle.pst_order.proofs.Unrefused.{other_way}
 use Rattle.pst_order.proofs.Cores.{one_group, makes_one, makes_more, core_again, few_commands}
 
 pub running : RunningMeet
@@ -113,6 +115,21 @@ core_grows s lanes cs c before after x y = makes_more s lanes [] before after cs
 
 pub again : CoreMakesAgain
 again s lanes trace c = subst (λ t. Core s lanes (commands_of t) t) c.are (core_again s lanes c.blocks c.core)
+
+-- REFUSALS
+
+pub planned_unrefused : PlannedIsUnrefused
+planned_unrefused s p plan =
+    record {
+      no_cycle = λ a q. no_cycle s a plan.runs q.below q.must;
+      no_group_clash = λ a b q. no_group_clash a b q;
+      no_parallel_order = λ a b q. ⊎_elim (λ m. plan.parallel.unordered a b q.parallel m) (λ m. plan.parallel.unordered b a (other_way q.parallel) m) q.must;
+      no_parallel_clash = λ a b q. let l = q.order in plan.parallel.undisputed a b q.parallel (λ e. omega (arith, l, e)) q.contend;
+    }
+  where
+    no_group_clash : (a b : ℕ) → GroupClashes s a b → ⊥
+    no_group_clash _ _ (Two a b l g c) = no_clash s a b plan.runs g c
+    no_group_clash _ _ (One a l c) = plan.alone a l c
 
 -- GROUPS
 

@@ -17,3 +17,5 @@ mod Completes
 mod Unique
 mod Cores
 mod Laws
+mod FromLinks
+mod Unrefused

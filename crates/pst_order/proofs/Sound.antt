@@ -67,7 +67,7 @@ module _ (s : Scenario) (no_cycle : IsAcyclic s) (not_own : IsNotOwnPrevious s) 
 
   -- ONE OUTPUT OF AN ACTION TO THE POOL
 
-  writes_of : {a reference : ℕ} {to : Link} → IsOutput s a reference pool to → Writes s a pool to
+  pub writes_of : {a reference : ℕ} {to : Link} → IsOutput s a reference pool to → Writes s a pool to
   writes_of {reference = reference} o =
       record { act = o.act; reference = reference; filled = o.filled; is_act = o.is_act; is = o.is; of_flow = o.of_flow; of_pool = o.of_pool; linked = o.linked }
 

@@ -6,9 +6,10 @@ use Rattle.pst_scen.specs.Order.{Together, Must}
 use Rattle.pst_scen.specs.Conflicts.{Conflict}
 use Rattle.pst_scen.specs.Trace.{Ended, Runs, Block, Starts, events, AreLegal, IsLegalTrace, IsWhole, IsWholeGroup, Prefix}
 use Rattle.pst_scen.specs.Plan.{Entries, members, widest}
-use Rattle.pst_scen.specs.Plans.{CanRun, IsPlanOf}
+use Rattle.pst_scen.specs.Plans.{CanRun, AreEntriesOf, IsPlanOf}
+use Rattle.pst_scen.specs.Refusals.{IsUnrefused}
 use Rattle.pst_scen.specs.Core.{IsStartable, Command, Step, Core, commands_of}
-use Rattle.pst_order.specs.Facts.{LinksStates}
+use Rattle.pst_order.specs.Facts.{LinksStates, IsLinked}
 use Rattle.pst_order.specs.Rule.{AreByRule, IsByRule, IsByCore, AllKeepReaders, open_count, close_count}
 
 -- Two actions that run at one moment of a whole legal trace have no order and no conflict.
@@ -97,6 +98,14 @@ CoreGrows =
 -- Of the commands of its trace the core makes the trace again.
 abbrev pub CoreMakesAgain : Type 0
 CoreMakesAgain = (s : Scenario) (lanes : ℕ) (trace : List Event) → IsByCore s lanes trace → Core s lanes (commands_of trace) trace
+
+-- A linked scenario that isn't refused has a whole legal trace, so its entries are its plan.
+abbrev pub UnrefusedIsPlanned : Type 0
+UnrefusedIsPlanned = (s : Scenario) (p : Entries) → IsLinked s → AreEntriesOf s p → IsUnrefused s → IsPlanOf s p
+
+-- A scenario that has a plan isn't refused.
+abbrev pub PlannedIsUnrefused : Type 0
+PlannedIsUnrefused = (s : Scenario) (p : Entries) → IsPlanOf s p → IsUnrefused s
 
 -- The members of a group are the actions of its number.
 abbrev pub MembersAreThose : Type 0
