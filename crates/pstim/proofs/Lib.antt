@@ -1,7 +1,7 @@
-mod Bytes
+mod Shapes
 mod Grammar
 mod Lines
-pub mod Pieces
+mod Fed
 mod Turns
 mod Named
 mod Printed

@@ -3,12 +3,11 @@
 #![tactic(auto)]
 
 mod answer;
+mod cursor;
 mod laws;
-mod lexing;
 mod loading;
 mod parsing;
 mod printing;
-mod reading;
 mod replying;
 mod running;
 mod scenario;
@@ -18,7 +17,7 @@ mod text;
 mod top;
 mod words;
 
-pub use answer::Answer;
+pub use answer::{Answer, What};
 pub use laws::scenarios_are_one;
 use pst_base::NoMemory;
 use pst_io::{FileShelf, OutSink};
