@@ -11,3 +11,4 @@ mod Opened
 mod Plain
 mod Owed
 mod OneScenario
+mod OneAnswer

@@ -18,7 +18,7 @@ mod top;
 mod words;
 
 pub use answer::{Answer, What};
-pub use laws::scenarios_are_one;
+pub use laws::{answers_are_one, scenarios_are_one};
 use pst_base::NoMemory;
 use pst_io::{FileShelf, OutSink};
 use pst_target::{OpenGate, ScriptTarget};
