@@ -10,7 +10,7 @@ use Rattle.pstim.specs.declared.loading.Loaded.{Loaded}
 use Rattle.pstim.specs.declared.loading.Loaded.TheVariants.{Lexed, TooMany, Faulty}
 use Rattle.pstim.specs.Outcome.{lexical_fault, most_bytes, most_tokens}
 
--- the lexer has taken the text, or a fault that every text has that begins with it
+-- the lexer has taken the text, or it has met a fault that every text has that begins so
 abbrev pub HasMet : ℕ → ℕ → List ℕ → List ℕ → Option LexFault → Type 0
 HasMet file room text taken None = taken ≡ text
 HasMet file room text taken (Some f) = (f ≢ fault.NoMemory) × AlwaysHasFault file room text f

@@ -67,7 +67,7 @@ pub record HasLexicalFault (files : Files) (file : List ℕ) (f : LexFault) : Ty
   pub file_is : IsSmall files file bytes
   pub has : HasFault 0 most_tokens bytes f
 
--- a count of the file exceeds its limit, by one when it is counted
+-- a count of the file exceeds its limit, and the number is the limit plus 1
 abbrev pub Exceeds : Option Files → List ℕ → What → ℕ → Type 0
 Exceeds files file Bytes number = (number ≡ most_bytes + 1) × ForSome files (λ f. IsTooLarge f file)
 Exceeds files file Tokens number = (number ≡ most_tokens + 1) × ForSome files (λ f. HasLexicalFault f file fault.Many)

@@ -72,7 +72,7 @@ pub fn unbuilt(alloc: Global) -> Result<Reply, NoMemory>
     })
 }
 
-/// The reply where a count exceeds its limit, by one when it is counted.
+/// The reply where a count exceeds its limit; the number is the limit plus 1.
 fn large(alloc: Global, what: What, number: u64) -> Result<Reply, NoMemory>
     ensures { IfOk result (λ reply. Says (Answer.Large what number) (large_text_of what number) reply) }
 {
