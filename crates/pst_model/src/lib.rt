@@ -9,8 +9,10 @@ mod action;
 mod activity;
 mod body;
 mod constraint;
+mod expression;
 mod model;
 mod object;
+mod slots;
 #[cfg(test)]
 mod tests;
 
