@@ -12,3 +12,4 @@ pub mod SoundBody
 pub mod Preorder
 pub mod Served
 pub mod Sound
+pub mod Seen

@@ -12,7 +12,9 @@ mod constraint;
 mod expression;
 mod model;
 mod object;
+mod site;
 mod slots;
+mod traversals;
 #[cfg(test)]
 mod tests;
 

@@ -1,0 +1,99 @@
+// Where an expression stands, and so which slots its variables may stand for.
+ghost use Rattle.std.specs.Prelude.{◌≡◌, IsTrue, ◌↔◌, All, map};
+ghost use Rattle.pst_model.specs.ConstraintTree.{view_slot, view_constraint};
+ghost use Rattle.pst_model.specs.SoundConstraint.{IsSoundConstraint};
+
+use crate::action::ActionType;
+use crate::constraint::{Constraint, Slot};
+use crate::expression::is_below;
+use crate::object::ObjectType;
+use crate::slots::{is_body_slot, is_condition_slot, is_object_slot};
+
+// Where an expression stands.
+pub trait Site {
+    ghost use Rattle.pst_model.specs.ConstraintTree.{SlotTree};
+
+    // The slots that have a meaning there.
+    ghost means: { Self → SlotTree → Type 0 };
+
+    // Whether a slot has a meaning there.
+    fn has(&self, slot: &Slot) -> bool
+        ensures { IsTrue result ↔ means self.now (view_slot slot.now) };
+}
+
+// A constraint of an object.
+pub struct ObjectSite<'a> {
+    pub object: &'a ObjectType,
+}
+
+impl Site for ObjectSite<'_> {
+    ghost use Rattle.pst_model.specs.ModelView.{view_object};
+    ghost use Rattle.pst_model.specs.SoundSlots.{IsObjectSlot};
+
+    ghost means = { λ s. IsObjectSlot (view_object s.object.now) };
+
+    fn has(&self, slot: &Slot) -> bool {
+        is_object_slot(self.object, slot)
+    }
+}
+
+// A condition, guard, count or matched value of an action's activity, with repetitions round it.
+pub struct ConditionSite<'a> {
+    pub action: &'a ActionType,
+    pub levels: u32,
+}
+
+impl Site for ConditionSite<'_> {
+    ghost use Rattle.pst_model.specs.ModelView.{view_action};
+    ghost use Rattle.pst_model.specs.SoundSlots.{IsConditionSlot};
+
+    ghost means = { λ s. IsConditionSlot (view_action s.action.now) s.levels };
+
+    fn has(&self, slot: &Slot) -> bool {
+        is_condition_slot(self.action, self.levels, slot)
+    }
+}
+
+// An expression of an action's body that has that many locals, with repetitions round it.
+pub struct BodySite<'a> {
+    pub objects: &'a [ObjectType],
+    pub action: &'a ActionType,
+    pub locals: u32,
+    pub levels: u32,
+}
+
+impl Site for BodySite<'_> {
+    ghost use Rattle.std.specs.Prelude.{map};
+    ghost use Rattle.pst_model.specs.ModelView.{view_action, view_object};
+    ghost use Rattle.pst_model.specs.SoundSlots.{IsBodySlot};
+
+    ghost means = { λ s. IsBodySlot (map view_object s.objects.now) (view_action s.action.now) s.locals s.levels };
+
+    fn has(&self, slot: &Slot) -> bool {
+        is_body_slot(self.objects, self.action, self.locals, self.levels, slot)
+    }
+}
+
+// Whether each slot has a meaning there.
+fn are_slots<S: Site>(site: &S, slots: &[Slot]) -> bool
+    ensures { IsTrue result ↔ All (S.means site.now) (map view_slot slots.now) }
+{
+    slots.iter().all(|slot| site.has(slot))
+}
+
+// Whether an expression is sound there.
+pub fn is_sound_there<S: Site>(site: &S, constraint: &Constraint) -> bool
+    ensures { IsTrue result ↔ IsSoundConstraint (S.means site.now) (view_constraint constraint.now) }
+{
+    is_below(constraint.slots.len(), &constraint.expr)
+        && are_slots(site, constraint.slots.as_slice())
+}
+
+// Whether each expression is sound there.
+pub fn are_sound_there<S: Site>(site: &S, constraints: &[Constraint]) -> bool
+    ensures { IsTrue result ↔ All (IsSoundConstraint (S.means site.now)) (map view_constraint constraints.now) }
+{
+    constraints
+        .iter()
+        .all(|constraint| is_sound_there(site, constraint))
+}
