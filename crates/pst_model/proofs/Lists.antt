@@ -1,5 +1,5 @@
 -- What holds of each item of a list that is seen through a view.
-use Rattle.std.proofs.Common.{◌≡◌, ◌<◌, ◌↔◌, List, map, length, All, Bool, IsTrue, subst, sym}
+use Rattle.std.proofs.Common.{◌<◌, ◌↔◌, List, map, All, Bool, IsTrue, subst, sym}
 use Rattle.std.proofs.lemmas.List.{get_or-map, length-map}
 use Rattle.std.proofs.lemmas.List.Elements.{All-map}
 

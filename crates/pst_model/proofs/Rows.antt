@@ -1,8 +1,7 @@
 -- The rows of a step's tree are those of its lists.
-use Rattle.std.proofs.Common.{◌≡◌, ◌++◌, List, [], ◌∷◌, map, Bool, Option, Some, None, refl, ap, sym, ◌∙◌}
-use Rattle.std.specs.Option.{option_map}
+use Rattle.std.proofs.Common.{◌≡◌, List, [], ◌∷◌, map, Bool, Option, Some, None, refl, ap, ◌∙◌}
 use Rattle.std.specs.Global.{Vec, Box}
-use Rattle.pst_model.specs.declared.activity.Step.{Step, Row_of-Step, end_of-Step, more_of-Step, Row_of-Branch, end_of-Branch, more_of-Branch, Row_of-Arm, end_of-Arm, more_of-Arm, Held-Step-If-2, None', Some'}
+use Rattle.pst_model.specs.declared.activity.Step.{Step, Row_of-Step, end_of-Step, more_of-Step, Row_of-Branch, end_of-Branch, more_of-Branch, Row_of-Arm, end_of-Arm, more_of-Arm}
 use Rattle.pst_model.specs.declared.activity.Step.TheBlock.{items-the_row-Step, items-the_row-Branch, items-the_row-Arm, hidden-the_row-Step-0, items_hidden-the_row-Step-0, hidden-the_row-Branch-1, items_hidden-the_row-Branch-1, hidden-the_row-Arm-2, items_hidden-the_row-Arm-2}
 use Rattle.pst_model.specs.declared.activity.Step.TheVariants as the_step
 use Rattle.pst_model.specs.declared.activity.Join.{Join}
@@ -11,7 +10,7 @@ use Rattle.pst_model.specs.declared.activity.Arm.{Arm}
 use Rattle.pst_model.specs.declared.constraint.Constraint.{Constraint}
 use Rattle.pst_model.specs.ConstraintTree.{view_constraint}
 use Rattle.pst_model.specs.ModelView.{view_step, view_steps, view_branches, view_arms, view_branch, view_arm, maybe_step}
-use Rattle.pst_model.specs.ActivityTree.{StepTree, BranchTree, ArmTree, StepRow, NoSteps, MoreSteps, BranchRow, NoBranches, MoreBranches, ArmRow, NoArms, MoreArms, Sequence, Parallel, Schedule, Joined, Select, Repeat, If, Match, steps_of, branches_of, arms_of}
+use Rattle.pst_model.specs.ActivityTree.{StepTree, BranchTree, ArmTree, StepRow, NoSteps, MoreSteps, BranchRow, NoBranches, MoreBranches, ArmRow, NoArms, MoreArms, Sequence, Parallel, Schedule, Joined, Select, If, Match, steps_of, branches_of, arms_of}
 
 abbrev pub step_row : List StepTree → StepRow
 step_row [] = NoSteps

@@ -13,3 +13,4 @@ pub mod Preorder
 pub mod Served
 pub mod Sound
 pub mod Seen
+pub mod Depth

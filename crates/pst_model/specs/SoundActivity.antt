@@ -14,7 +14,7 @@ use Rattle.pst_model.specs.ConstraintTree.{ConstraintTree}
 use Rattle.pst_model.specs.ActivityTree.{StepTree, Traverse, Sequence, Parallel, Schedule, Joined, Select, Repeat, If, Match, BranchTree, MakeBranch, ArmTree, MakeArm, StepRow, NoSteps, MoreSteps, BranchRow, NoBranches, MoreBranches, ArmRow, NoArms, MoreArms, MaybeStep, NoStep, SomeStep, ActivityTree, steps_of, branches_of, arms_of, guard_of, weight_of, spans_of}
 use Rattle.pst_model.specs.ModelTree.{ActionTree, ModelTree}
 use Rattle.pst_model.specs.SoundConstraint.{IsSoundConstraint}
-use Rattle.pst_model.specs.SoundSlots.{IsConditionSlot, IsInlineSlot, IsOfKind}
+use Rattle.pst_model.specs.SoundSlots.{IsConditionSlot, IsInlineSlot, IsOfKind, handle_type}
 use Rattle.pst_model.specs.Traversals.{IsSteady}
 
 -- P holds of each step in a step, itself included, with the number of repetitions round it
@@ -100,10 +100,8 @@ IsSoundStep model action handles levels (Match value arms other) = IsCondition a
 -- the handle traverses one action in each fill, and its type has this reference
 pub record IsEnd (model : ModelTree) (activity : ActivityTree) (handle number : ℕ) (reference : Reference) : Type 0 where
   pub steady : IsSteady handle activity.steps
-  pub type : ℕ
   pub action : ActionTree
-  pub of_handle : slice_get activity.handles handle ≡ Some type
-  pub of_type : slice_get model.actions type ≡ Some action
+  pub of_handle : handle_type model activity.handles handle ≡ Some action
   pub is : slice_get action.references number ≡ Some reference
 
 -- from an output of one handle to an input of another, of one object type

@@ -1,5 +1,5 @@
 -- Which slots have a meaning where they stand: the numbers in them name entries of the right sort.
-use Rattle.std.specs.Prelude.{◌≡◌, ℕ, ◌<◌, List, [], length, slice_get}
+use Rattle.std.specs.Prelude.{◌≡◌, ℕ, ◌<◌, List, [], length, slice_get, Option, option_and_then}
 use Rattle.std.specs.Option.{IsSomeAnd}
 use Rattle.pst_model.specs.declared.object.ObjectKind.{ObjectKind}
 use Rattle.pst_model.specs.declared.object.ObjectKind.TheVariants.{State, Resource}
@@ -41,13 +41,13 @@ abbrev pub activity_of : ContentTree → List StepTree
 activity_of (Atomic body) = []
 activity_of (Compound activity) = activity.steps
 
--- the action type of a handle is there and has the property
-abbrev pub OfHandle : ModelTree → ActionTree → ℕ → (ActionTree → Type 0) → Type 0
-OfHandle model action handle P = IsSomeAnd (slice_get (handles_of action.content) handle) (λ type. IsSomeAnd (slice_get model.actions type) P)
+-- the action type of a handle
+abbrev pub handle_type : ModelTree → List ℕ → ℕ → Option ActionTree
+handle_type model handles handle = option_and_then (slice_get model.actions) (slice_get handles handle)
 
 -- a slot of a constraint of an action: of the action itself, or of what a handle traverses, if it traverses one action in each fill
 abbrev pub IsConstraintSlot : ModelTree → ActionTree → SlotTree → Type 0
-IsConstraintSlot model action (Through handle slot) = IsSteady handle (activity_of action.content) × OfHandle model action handle (λ traversed. IsActionSlot model.objects traversed slot)
+IsConstraintSlot model action (Through handle slot) = IsSteady handle (activity_of action.content) × IsSomeAnd (handle_type model (handles_of action.content) handle) (λ traversed. IsActionSlot model.objects traversed slot)
 IsConstraintSlot model action (Own field) = IsActionSlot model.objects action (Own field)
 IsConstraintSlot model action (Object reference field) = IsActionSlot model.objects action (Object reference field)
 IsConstraintSlot model action (First reference) = IsActionSlot model.objects action (First reference)

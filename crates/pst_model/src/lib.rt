@@ -12,6 +12,7 @@ mod constraint;
 mod expression;
 mod model;
 mod object;
+mod repeats;
 mod site;
 mod slots;
 mod traversals;

@@ -6,8 +6,10 @@ ghost use Rattle.pst_model.specs.SoundConstraint.{IsSoundConstraint};
 use crate::action::ActionType;
 use crate::constraint::{Constraint, Slot};
 use crate::expression::is_below;
+use crate::model::Model;
 use crate::object::ObjectType;
-use crate::slots::{is_body_slot, is_condition_slot, is_object_slot};
+use crate::repeats::Repeats;
+use crate::slots::{is_body_slot, is_condition_slot, is_constraint_slot, is_inline_slot, is_object_slot};
 
 // Where an expression stands.
 pub trait Site {
@@ -40,17 +42,18 @@ impl Site for ObjectSite<'_> {
 // A condition, guard, count or matched value of an action's activity, with repetitions round it.
 pub struct ConditionSite<'a> {
     pub action: &'a ActionType,
-    pub levels: u32,
+    pub repeats: &'a Repeats<'a>,
 }
 
 impl Site for ConditionSite<'_> {
     ghost use Rattle.pst_model.specs.ModelView.{view_action};
+    ghost use Rattle.pst_model.specs.Depth.{depth};
     ghost use Rattle.pst_model.specs.SoundSlots.{IsConditionSlot};
 
-    ghost means = { λ s. IsConditionSlot (view_action s.action.now) s.levels };
+    ghost means = { λ s. IsConditionSlot (view_action s.action.now) (depth s.repeats.now) };
 
     fn has(&self, slot: &Slot) -> bool {
-        is_condition_slot(self.action, self.levels, slot)
+        is_condition_slot(self.action, self.repeats, slot)
     }
 }
 
@@ -59,18 +62,56 @@ pub struct BodySite<'a> {
     pub objects: &'a [ObjectType],
     pub action: &'a ActionType,
     pub locals: u32,
-    pub levels: u32,
+    pub repeats: &'a Repeats<'a>,
 }
 
 impl Site for BodySite<'_> {
     ghost use Rattle.std.specs.Prelude.{map};
     ghost use Rattle.pst_model.specs.ModelView.{view_action, view_object};
+    ghost use Rattle.pst_model.specs.Depth.{depth};
     ghost use Rattle.pst_model.specs.SoundSlots.{IsBodySlot};
 
-    ghost means = { λ s. IsBodySlot (map view_object s.objects.now) (view_action s.action.now) s.locals s.levels };
+    ghost means = { λ s. IsBodySlot (map view_object s.objects.now) (view_action s.action.now) s.locals (depth s.repeats.now) };
 
     fn has(&self, slot: &Slot) -> bool {
-        is_body_slot(self.objects, self.action, self.locals, self.levels, slot)
+        is_body_slot(self.objects, self.action, self.locals, self.repeats, slot)
+    }
+}
+
+// A constraint of an action.
+pub struct ActionSite<'a> {
+    pub model: &'a Model,
+    pub action: &'a ActionType,
+}
+
+impl Site for ActionSite<'_> {
+    ghost use Rattle.pst_model.specs.ModelView.{view_action, view_model};
+    ghost use Rattle.pst_model.specs.SoundSlots.{IsConstraintSlot};
+
+    ghost means = { λ s. IsConstraintSlot (view_model s.model.now) (view_action s.action.now) };
+
+    fn has(&self, slot: &Slot) -> bool {
+        is_constraint_slot(self.model, self.action, slot)
+    }
+}
+
+// An inline constraint on an action that another one traverses, with repetitions round it.
+pub struct InlineSite<'a> {
+    pub model: &'a Model,
+    pub action: &'a ActionType,
+    pub traversed: &'a ActionType,
+    pub repeats: &'a Repeats<'a>,
+}
+
+impl Site for InlineSite<'_> {
+    ghost use Rattle.pst_model.specs.ModelView.{view_action, view_model};
+    ghost use Rattle.pst_model.specs.Depth.{depth};
+    ghost use Rattle.pst_model.specs.SoundSlots.{IsInlineSlot};
+
+    ghost means = { λ s. IsInlineSlot (view_model s.model.now) (view_action s.action.now) (view_action s.traversed.now) (depth s.repeats.now) };
+
+    fn has(&self, slot: &Slot) -> bool {
+        is_inline_slot(self.model, self.action, self.traversed, self.repeats, slot)
     }
 }
 

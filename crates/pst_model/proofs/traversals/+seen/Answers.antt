@@ -1,11 +1,11 @@
-use Rattle.std.proofs.Common.{◌≡◌, map, List, Bool, ap, sym, ◌∙◌}
+use Rattle.std.proofs.Common.{map, List, ap, sym, ◌∙◌}
 use Rattle.std.specs.List.{flat_map}
 use Rattle.pst_model.specs.declared.activity.Step.{Step}
 use Rattle.pst_model.specs.declared.activity.Branch.{Branch}
 use Rattle.pst_model.specs.declared.activity.Arm.{Arm}
 use Rattle.pst_model.specs.declared.traversals.Seen.{Seen}
-use Rattle.pst_model.specs.ModelView.{view_step, view_branch, view_arm, maybe_step}
-use Rattle.pst_model.specs.Traversals.{traversals, traversals_of_branch, traversals_of_arm, traversals_of_maybe}
+use Rattle.pst_model.specs.ModelView.{view_step, view_branch, view_arm}
+use Rattle.pst_model.specs.Traversals.{traversals, traversals_of_branch, traversals_of_arm}
 use Rattle.pst_model.specs.Seen.{seen_of, joined}
 use Rattle.pst_model.proofs.SeenLemmas.{in_sequence, in_parallel, in_schedule, in_joined, in_select, in_match}
 use Rattle.pst_model.proofs.traversals.+seen.Goals as goal
