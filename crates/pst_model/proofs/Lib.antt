@@ -1,3 +1,6 @@
 mod Lists
 mod Rows
 mod SeenLemmas
+mod Pairs
+mod Apart
+mod StepLemmas

@@ -52,6 +52,18 @@ abbrev mutual
   EachOfMaybe P levels NoStep = Unit {0}
   EachOfMaybe P levels (SomeStep step) = EachStep P levels step
 
+-- P holds of each step in the parts of a step, with the number of repetitions round it
+abbrev pub EachPart : (ℕ → StepTree → Type 0) → ℕ → StepTree → Type 0
+EachPart P levels (Traverse action handle inline) = Unit {0}
+EachPart P levels (Sequence steps) = EachOfSteps P levels steps
+EachPart P levels (Parallel steps) = EachOfSteps P levels steps
+EachPart P levels (Schedule steps) = EachOfSteps P levels steps
+EachPart P levels (Joined parallel join steps) = EachOfSteps P levels steps
+EachPart P levels (Select branches) = EachOfBranches P levels branches
+EachPart P levels (Repeat count body) = EachStep P (levels + 1) body
+EachPart P levels (If condition holds fails) = EachStep P levels holds × EachOfMaybe P levels fails
+EachPart P levels (Match value arms other) = EachOfArms P levels arms × EachOfMaybe P levels other
+
 -- a condition, guard, count or matched value
 abbrev pub IsCondition : ActionTree → ℕ → ConstraintTree → Type 0
 IsCondition action levels c = IsSoundConstraint (IsConditionSlot action levels) c

@@ -12,9 +12,11 @@ mod constraint;
 mod expression;
 mod model;
 mod object;
+mod ranges;
 mod repeats;
 mod site;
 mod slots;
+mod steps;
 mod traversals;
 #[cfg(test)]
 mod tests;

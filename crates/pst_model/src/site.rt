@@ -24,6 +24,7 @@ pub trait Site {
 }
 
 // A constraint of an object.
+#[derive(Clone, Copy)]
 pub struct ObjectSite<'a> {
     pub object: &'a ObjectType,
 }
@@ -40,6 +41,7 @@ impl Site for ObjectSite<'_> {
 }
 
 // A condition, guard, count or matched value of an action's activity, with repetitions round it.
+#[derive(Clone, Copy)]
 pub struct ConditionSite<'a> {
     pub action: &'a ActionType,
     pub repeats: &'a Repeats<'a>,
@@ -58,6 +60,7 @@ impl Site for ConditionSite<'_> {
 }
 
 // An expression of an action's body that has that many locals, with repetitions round it.
+#[derive(Clone, Copy)]
 pub struct BodySite<'a> {
     pub objects: &'a [ObjectType],
     pub action: &'a ActionType,
@@ -79,6 +82,7 @@ impl Site for BodySite<'_> {
 }
 
 // A constraint of an action.
+#[derive(Clone, Copy)]
 pub struct ActionSite<'a> {
     pub model: &'a Model,
     pub action: &'a ActionType,
@@ -96,6 +100,7 @@ impl Site for ActionSite<'_> {
 }
 
 // An inline constraint on an action that another one traverses, with repetitions round it.
+#[derive(Clone, Copy)]
 pub struct InlineSite<'a> {
     pub model: &'a Model,
     pub action: &'a ActionType,
