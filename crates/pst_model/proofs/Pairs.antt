@@ -73,3 +73,6 @@ all_drop {X = X} P view f xs i x within is = subst (λ (ys : List X). All P (fla
 
 pub flat_pairs_drop : {X Y Z : Type 0} (R : Z → Z → Type 0) (view : X → Y) (f : Y → List Z) (xs : List X) (i : ℕ) (x : X) → i < length xs → x ≡ get_or xs i x → (AllPairs R (flat_map f (map view (drop i xs))) ↔ AllPairs R (f (view x)) × All (λ y. All (R y) (flat_map f (map view (drop (i + 1) xs)))) (f (view x)) × AllPairs R (flat_map f (map view (drop (i + 1) xs))))
 flat_pairs_drop {X = X} R view f xs i x within is = subst (λ (ys : List X). AllPairs R (flat_map f (map view ys)) ↔ AllPairs R (f (view x)) × All (λ y. All (R y) (flat_map f (map view (drop (i + 1) xs)))) (f (view x)) × AllPairs R (flat_map f (map view (drop (i + 1) xs)))) (sym (drop_read xs i x within is)) (pairs_append R (f (view x)) (flat_map f (map view (drop (i + 1) xs))))
+
+pub viewed_drop : {X Y : Type 0} (P : Y → Type 0) (view : X → Y) (xs : List X) (i : ℕ) (x : X) → i < length xs → x ≡ get_or xs i x → (All P (map view (drop i xs)) ↔ P (view x) × All P (map view (drop (i + 1) xs)))
+viewed_drop {X = X} P view xs i x within is = subst (λ (ys : List X). All P (map view ys) ↔ P (view x) × All P (map view (drop (i + 1) xs))) (sym (drop_read xs i x within is)) (λ h. (All-head P (view x) (map view (drop (i + 1) xs)) h, All-tail P (view x) (map view (drop (i + 1) xs)) h), λ h. All-cons P (view x) (map view (drop (i + 1) xs)) h.0 h.1)

@@ -1,5 +1,5 @@
 -- When an activity is sound.
-use Rattle.std.specs.Prelude.{◌≡◌, ◌≢◌, ℕ, ◌+◌, ◌<◌, ◌≤◌, ℤ, List, length, slice_get, All, AllPairs, true, false, Option, IfSome, Some, IsBitSet}
+use Rattle.std.specs.Prelude.{◌≡◌, ◌≢◌, ℕ, ◌+◌, ◌<◌, ◌≤◌, ℤ, List, length, slice_get, All, AllPairs, true, false, Option, option_and_then, IfSome, Some, IsBitSet}
 use Rattle.std.specs.List.{flat_map}
 use Rattle.std.specs.Option.{IsSomeAnd}
 use Rattle.pst_expr.specs.declared.ranges.Span.{Span}
@@ -109,37 +109,34 @@ IsSoundStep model action handles levels (Match value arms other) = IsCondition a
 
 -- ---- binds
 
--- the handle traverses one action in each fill, and its type has this reference
-pub record IsEnd (model : ModelTree) (activity : ActivityTree) (handle number : ℕ) (reference : Reference) : Type 0 where
-  pub steady : IsSteady handle activity.steps
-  pub action : ActionTree
-  pub of_handle : handle_type model activity.handles handle ≡ Some action
-  pub is : slice_get action.references number ≡ Some reference
+-- the reference of a handle's action
+abbrev pub reference_of : ModelTree → List ℕ → ℕ → ℕ → Option Reference
+reference_of model handles handle number = option_and_then (λ action. slice_get action.references number) (handle_type model handles handle)
 
--- from an output of one handle to an input of another, of one object type
+-- an output and an input of one object type
+pub record AreEnds (output input : Reference) : Type 0 where
+  pub gives : output.output ≡ true
+  pub takes : input.output ≡ false
+  pub same : output.object ≡ input.object
+
+-- a bind goes from an output of one handle's action to an input of another's, each traversed once in each fill
 pub record IsSoundTie (model : ModelTree) (activity : ActivityTree) (tie : Tie) : Type 0 where
-  pub «from» : Reference
-  pub to : Reference
-  pub is_from : IsEnd model activity tie.from_handle tie.from_reference «from»
-  pub is_to : IsEnd model activity tie.to_handle tie.to_reference to
   pub different : tie.from_handle ≢ tie.to_handle
-  pub output : «from».output ≡ true
-  pub input : to.output ≡ false
-  pub same : «from».object ≡ to.object
+  pub producer : IsSteady tie.from_handle activity.steps
+  pub consumer : IsSteady tie.to_handle activity.steps
+  pub ends : IsSomeAnd (reference_of model activity.handles tie.from_handle tie.from_reference) (λ output. IsSomeAnd (reference_of model activity.handles tie.to_handle tie.to_reference) (AreEnds output))
 
 -- the output of a bind is a stream's
-pub record IsStreamTie (model : ModelTree) (activity : ActivityTree) (tie : Tie) : Type 0 where
-  pub «from» : Reference
-  pub is_from : IsEnd model activity tie.from_handle tie.from_reference «from»
-  pub stream : IsOfKind model.objects Stream «from».object
+abbrev pub IsStreamTie : ModelTree → ActivityTree → Tie → Type 0
+IsStreamTie model activity tie = IsSomeAnd (reference_of model activity.handles tie.from_handle tie.from_reference) (λ output. IsOfKind model.objects Stream output.object)
 
 -- two binds have no input in common, and no stream output
-pub record BindApart (model : ModelTree) (activity : ActivityTree) (first second : Tie) : Type 0 where
+pub record AreTiesApart (model : ModelTree) (activity : ActivityTree) (first second : Tie) : Type 0 where
   pub inputs : (first.to_handle ≡ second.to_handle) → (first.to_reference ≡ second.to_reference) → ⊥
-  pub outputs : IsStreamTie model activity first → (first.from_handle ≡ second.from_handle) → (first.from_reference ≡ second.from_reference) → ⊥
+  pub outputs : (first.from_handle ≡ second.from_handle) → (first.from_reference ≡ second.from_reference) → IsStreamTie model activity first → ⊥
 
 pub record IsSoundActivity (model : ModelTree) (action : ActionTree) (activity : ActivityTree) : Type 0 where
   pub handles : All (λ type. type < length model.actions) activity.handles
   pub steps : All (EachStep (IsSoundStep model action activity.handles) 0) activity.steps
   pub ties : All (IsSoundTie model activity) activity.binds
-  pub apart : AllPairs (BindApart model activity) activity.binds
+  pub apart : AllPairs (AreTiesApart model activity) activity.binds

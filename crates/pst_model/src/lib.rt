@@ -17,6 +17,7 @@ mod repeats;
 mod site;
 mod slots;
 mod steps;
+mod ties;
 mod traversals;
 #[cfg(test)]
 mod tests;
