@@ -4,3 +4,5 @@ mod SeenLemmas
 mod Pairs
 mod Apart
 mod StepLemmas
+mod BodyRows
+mod Locals

@@ -14,3 +14,4 @@ pub mod Served
 pub mod Sound
 pub mod Seen
 pub mod Depth
+pub mod Numbered

@@ -39,6 +39,14 @@ abbrev mutual
   EachInRow P levels NoBody = Unit {0}
   EachInRow P levels (MoreBody head tail) = EachBodyStep P levels head × EachInRow P levels tail
 
+-- P holds of each step in the parts of a step, with the number of repetitions round it
+abbrev pub EachBodyPart : (ℕ → BodyStepTree → Type 0) → ℕ → BodyStepTree → Type 0
+EachBodyPart P levels (Declare local range value) = Unit {0}
+EachBodyPart P levels (Assign local value) = Unit {0}
+EachBodyPart P levels (Call function arguments) = Unit {0}
+EachBodyPart P levels (If condition holds fails) = EachInRow P levels holds × EachInRow P levels fails
+EachBodyPart P levels (Repeat count body) = EachInRow P (levels + 1) body
+
 -- an expression of a body
 abbrev pub IsBodyExpression : ModelTree → ActionTree → ℕ → ℕ → ConstraintTree → Type 0
 IsBodyExpression model action locals levels c = IsSoundConstraint (IsBodySlot model.objects action locals levels) c

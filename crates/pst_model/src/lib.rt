@@ -7,6 +7,7 @@
 
 mod action;
 mod activity;
+mod bodies;
 mod body;
 mod constraint;
 mod expression;
@@ -19,6 +20,7 @@ mod slots;
 mod steps;
 mod ties;
 mod traversals;
+mod types;
 #[cfg(test)]
 mod tests;
 
