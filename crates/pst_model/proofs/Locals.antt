@@ -1,5 +1,8 @@
 -- What the next number behind locals tells.
-use Rattle.std.proofs.Common.{◌≡◌, ◌≤◌, ◌<◌, ◌+◌, ◌↔◌, ℕ, zero, suc, List, [], ◌∷◌, length, Option, Some, None, IsTrue, Bool, true, false, ◌&&◌, nat_eq, nat_lt, slice_get, refl, subst, ap, sym, ◌∙◌, arith, cond}
+use Rattle.std.proofs.Common.{◌≡◌, ◌≤◌, ◌<◌, ◌+◌, ◌↔◌, ℕ, zero, suc, List, [], ◌∷◌, length, Option, Some, None, IsTrue, Bool, true, false, ◌&&◌, nat_eq, nat_lt, slice_get, refl, subst, ap, sym, ◌∙◌, arith, cond, All}
+use Rattle.pst_model.specs.BodyTree.{BodyStepTree}
+use Rattle.pst_model.specs.ModelTree.{ActionTree, ModelTree}
+use Rattle.pst_model.specs.SoundBody.{locals_of, EachBodyStep, IsSoundBodyStep, IsSoundBody}
 use Rattle.pst_model.specs.Limits.{most_locals}
 use Rattle.pst_model.specs.Numbered.{behind_local, behind_locals}
 
@@ -47,3 +50,16 @@ uncounted n (l ∷ ls) e are = go (nat_eq l n && nat_lt n most_locals) refl (unc
     go : (b : Bool) → (nat_eq l n && nat_lt n most_locals) ≡ b → (behind_locals (Some (n + 1)) ls ≡ None → AreNumbered (n + 1) ls → ⊥) → ⊥
     go true t rec = let few = are.few in rec (first true t) record { few = omega (arith, few); numbered = λ k local g. let later = are.numbered (suc k) local g in omega (arith, later) }
     go false t rec = let few = are.few in let same = are.numbered zero l refl in failed l n t (omega (arith, same)) (omega (arith, few))
+
+-- ---- a body
+
+pub sound_body : (model : ModelTree) (action : ActionTree) (body : List BodyStepTree) (R : Type 0) (locals : ℕ) → behind_locals (Some 0) (locals_of body) ≡ Some locals → (R ↔ All (EachBodyStep (IsSoundBodyStep model action locals) 0) body) → (R ↔ IsSoundBody model action body)
+sound_body model action body R locals e h =
+    let all = counted 0 (locals_of body) locals e (omega arith) in
+    let count : locals ≡ length (locals_of body) = let c = all.0 in omega (arith, c) in
+    let few = all.1.few in
+    let steps = subst (λ (n : ℕ). R ↔ All (EachBodyStep (IsSoundBodyStep model action n) 0) body) count h in
+    (λ r. record { few = omega (arith, few); numbered = λ k local g. let n = all.1.numbered k local g in omega (arith, n); steps = steps.0 r }, λ s. steps.1 s.steps)
+
+pub unsound_body : (model : ModelTree) (action : ActionTree) (body : List BodyStepTree) → behind_locals (Some 0) (locals_of body) ≡ None → IsSoundBody model action body → ⊥
+unsound_body model action body e s = let few = s.few in uncounted 0 (locals_of body) e record { few = omega (arith, few); numbered = λ k local g. let n = s.numbered k local g in omega (arith, n) }

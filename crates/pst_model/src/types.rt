@@ -1,7 +1,8 @@
 // Which types, pools and functions are sound.
-ghost use Rattle.std.specs.Prelude.{◌<◌, ◌≤◌, IsTrue, ◌↔◌, All, map, length};
+ghost use Rattle.std.specs.Prelude.{◌<◌, ◌≤◌, IsTrue, ◌↔◌, All, IfSome, map, length};
+ghost use Rattle.pst_expr.specs.Spans.{IsDomain};
 ghost use Rattle.pst_model.specs.ConstraintTree.{view_constraint};
-ghost use Rattle.pst_model.specs.Limits.{most_fields, most_references, most_claims};
+ghost use Rattle.pst_model.specs.Limits.{most_fields, most_elements, most_references, most_claims};
 ghost use Rattle.pst_model.specs.SoundConstraint.{IsSoundConstraint};
 ghost use Rattle.pst_model.specs.SoundSlots.{IsConstraintSlot};
 ghost use Rattle.pst_model.specs.ModelView.{view_model, view_action, view_object, view_content, view_function, view_body_step, view_activity};
@@ -20,6 +21,7 @@ use crate::site::{ActionSite, ObjectSite, are_sound_there};
 use crate::slots::is_of_kind;
 use crate::steps;
 use crate::ties::are_sound_ties;
+use pst_expr::Domain;
 
 // The most fields of a type.
 const MOST_FIELDS: usize = 64;
@@ -39,14 +41,28 @@ const MOST_PARAMETERS: usize = 64;
 // The greatest size of a pool.
 const MOST_SIZE: u32 = 1024;
 
-// Whether a field is sound. Its domain always is.
-fn is_sound_field(field: &Field) -> bool
-    ensures { IsTrue result ↔ IsSoundField field.now }
+// Whether a domain has a value, as each one has.
+fn is_domain(domain: &Domain) -> bool
+    ensures { IsTrue result ↔ IsDomain domain.now }
 {
-    match field.element {
+    !domain.spans().is_empty()
+}
+
+// Whether the index of an element, if there is one, is one of an array.
+fn is_element(element: Option<u32>) -> bool
+    ensures { IsTrue result ↔ IfSome element (λ index. index < most_elements) }
+{
+    match element {
         Some(index) => index < MOST_ELEMENTS,
         None => true,
     }
+}
+
+// Whether a field is sound.
+fn is_sound_field(field: &Field) -> bool
+    ensures { IsTrue result ↔ IsSoundField field.now }
+{
+    is_domain(&field.domain) && is_element(field.element)
 }
 
 // Whether fields are sound.
