@@ -6,3 +6,5 @@ mod Apart
 mod StepLemmas
 mod BodyRows
 mod Locals
+mod Searches
+mod Under
