@@ -1,5 +1,5 @@
 -- What a search finds among entries in order.
-use Rattle.std.proofs.Common.{◌≡◌, ◌<◌, ◌≤◌, ◌⊎◌, inl, inr, ℕ, zero, suc, List, [], ◌∷◌, length, get_or, All, AllPairs, Bool, true, false, ◌&&◌, nat_eq, IsTrue, Result, Ok, Err, IfOk, IfErr, Ordering, Less, Equal, Greater, Option, Some, None, cond, refl, ap, subst, sym, ◌∙◌, arith}
+use Rattle.std.proofs.Common.{◌≡◌, ◌<◌, ◌≤◌, ◌+◌, ◌↔◌, ◌⊎◌, inl, inr, ℕ, zero, suc, List, [], ◌∷◌, length, drop, get_or, All, AllPairs, Bool, true, false, ◌&&◌, nat_eq, IsTrue, Result, Ok, Err, IfOk, IfErr, Ordering, Less, Equal, Greater, Option, Some, None, cond, refl, ap, subst, sym, ◌∙◌, arith}
 use Rattle.std.specs.List.{HoldsAt}
 use Rattle.std.specs.List.Sorted.{IsSearchInRange, IsBinarySearchResult, IsNonDecreasingBy}
 use Rattle.std.specs.Ordering.{nat_cmp, ordering_index, ordering_then}
@@ -7,9 +7,10 @@ use Rattle.std.specs.Cmp.{nat_cmp_is}
 use Rattle.std.proofs.lemmas.Map.Lookups.{exact_unsigned}
 use Rattle.std.proofs.lemmas.Bool.{cases_lt}
 use Rattle.std.proofs.lemmas.Bool.Decides.{nat_tests}
-use Rattle.std.proofs.lemmas.List.Elements.{All-cons, All-head, All-tail, All-nil}
+use Rattle.std.proofs.lemmas.List.{drop_more}
+use Rattle.std.proofs.lemmas.List.Elements.{All-cons, All-head, All-tail, All-nil, All-weaker}
 use Rattle.pst_model.specs.declared.model.Serve.{Serve}
-use Rattle.pst_model.specs.Served.{is_entry, pool_in, ComesBefore, IsInOrder}
+use Rattle.pst_model.specs.Served.{is_entry, pool_in, ComesBefore, ComesBeforeFirst, IsInOrder}
 use Rattle.pst_model.proofs.Pairs.{pairs_cons}
 
 -- how an entry stands to an action type, instance and reference
@@ -124,3 +125,29 @@ pool_absent a i r [] none = refl
 pool_absent a i r (x ∷ xs) none =
     ap (λ (b : Bool). cond b (Some x.pool) (pool_in xs a i r)) (All-head (λ s. is_entry a i r s ≡ false) x xs none)
     ∙ pool_absent a i r xs (All-tail (λ s. is_entry a i r s ≡ false) x xs none)
+
+-- ---- order
+
+before_all : (s t u : Serve) → ComesBefore s t → ComesBefore t u → ComesBefore s u
+before_all s t u (inl below) (inl further) = inl (omega (arith, below, further))
+before_all s t u (inl below) (inr (same, more)) = inl (omega (arith, below, same))
+before_all s t u (inr (same, more)) (inl further) = inl (omega (arith, same, further))
+before_all s t u (inr (same, inl below)) (inr (also, inl further)) = inr (omega (arith, same, also), inl (omega (arith, below, further)))
+before_all s t u (inr (same, inl below)) (inr (also, inr (equal, last))) = inr (omega (arith, same, also), inl (omega (arith, below, equal)))
+before_all s t u (inr (same, inr (equal, last))) (inr (also, inl further)) = inr (omega (arith, same, also), inl (omega (arith, equal, further)))
+before_all s t u (inr (same, inr (equal, last))) (inr (also, inr (level, end))) = inr (omega (arith, same, also), inr (omega (arith, equal, level), omega (arith, last, end)))
+
+first_is_all : (s : Serve) (xs : List Serve) → IsInOrder xs → ComesBeforeFirst s xs → All (ComesBefore s) xs
+first_is_all s [] order before = All-nil (ComesBefore s)
+first_is_all s (t ∷ xs) order before = All-cons (ComesBefore s) t xs before (All-weaker (ComesBefore t) (ComesBefore s) (λ u after. before_all s t u before after) xs ((pairs_cons ComesBefore t xs).0 order).0)
+
+all_is_first : (s : Serve) (xs : List Serve) → All (ComesBefore s) xs → ComesBeforeFirst s xs
+all_is_first s [] all = tt
+all_is_first s (t ∷ xs) all = All-head (ComesBefore s) t xs all
+
+order_cons : (s : Serve) (xs : List Serve) → IsInOrder (s ∷ xs) ↔ ComesBeforeFirst s xs × IsInOrder xs
+order_cons s xs = (λ h. let parts = (pairs_cons ComesBefore s xs).0 h in (all_is_first s xs parts.0, parts.1), λ h. (pairs_cons ComesBefore s xs).1 (first_is_all s xs h.1 h.0, h.1))
+
+-- the entry at i and those behind it
+pub order_drop : (xs : List Serve) (i : ℕ) (d : Serve) → i < length xs → (IsInOrder (drop i xs) ↔ ComesBeforeFirst (get_or xs i d) (drop (i + 1) xs) × IsInOrder (drop (i + 1) xs))
+order_drop xs i d within = subst (λ (ys : List Serve). IsInOrder ys ↔ ComesBeforeFirst (get_or xs i d) (drop (i + 1) xs) × IsInOrder (drop (i + 1) xs)) (sym (drop_more xs i d within)) (order_cons (get_or xs i d) (drop (i + 1) xs))

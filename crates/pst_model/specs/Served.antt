@@ -22,6 +22,11 @@ pool_in (s ∷ more) action instance reference = if is_entry action instance ref
 abbrev pub ComesBefore : Serve → Serve → Type 0
 ComesBefore s t = (s.action < t.action) ⊎ ((s.action ≡ t.action) × ((s.instance < t.instance) ⊎ ((s.instance ≡ t.instance) × (s.reference < t.reference))))
 
+-- an entry stands before the first of these, if there is one
+abbrev pub ComesBeforeFirst : Serve → List Serve → Type 0
+ComesBeforeFirst s [] = Unit {0}
+ComesBeforeFirst s (t ∷ more) = ComesBefore s t
+
 -- the entries stand in order, at most one for each action, instance and reference
 abbrev pub IsInOrder : List Serve → Type 0
 IsInOrder served = AllPairs ComesBefore served

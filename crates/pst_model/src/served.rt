@@ -1,9 +1,10 @@
 // The pools that serve references and claims.
-ghost use Rattle.std.specs.Prelude.{◌≡◌, ℕ, ◌<◌, length, slice_get, IsTrue, ◌↔◌, All, IfOk, IfErr, IsSome, false};
+ghost use Rattle.std.specs.Prelude.{◌≡◌, ℕ, ◌<◌, length, slice_get, map, Some, IsTrue, ◌↔◌, All, IfOk, IfErr, IsSome, false};
 ghost use Rattle.std.specs.List.{HoldsAt};
 ghost use Rattle.std.specs.Option.{IsSomeAnd};
 ghost use Rattle.pst_model.specs.ModelView.{view_model, view_action};
-ghost use Rattle.pst_model.specs.Served.{ComesBefore, IsInOrder, IsSoundServe, IsServed, IsServedIn, IsServedWhole, is_entry, pool_in, objects_of};
+ghost use Rattle.pst_model.specs.Served.{ComesBefore, ComesBeforeFirst, IsInOrder, IsSoundServe, IsServed, IsServedIn, IsServedWhole, is_entry, pool_in, objects_of};
+ghost use Rattle.pst_model.specs.ModelTree.{ActionTree};
 ghost use Rattle.pst_model.specs.declared.model.Part.{Part};
 
 use crate::action::{ActionType, Content};
@@ -22,12 +23,22 @@ fn comes_before(one: Serve, other: Serve) -> bool
     one.reference < other.reference
 }
 
+// Whether an entry stands before the first of these, if there is one.
+fn comes_before_first(one: Serve, later: &[Serve]) -> bool
+    ensures { IsTrue result ↔ ComesBeforeFirst one later.now }
+{
+    match later.first() {
+        Some(next) => comes_before(one, *next),
+        None => true,
+    }
+}
+
 // Whether the entries stand in order.
 pub fn is_in_order(served: &[Serve]) -> bool
     ensures { IsTrue result ↔ IsInOrder served.now }
 {
-    for next in 1..served.len() {
-        if !comes_before(served[next - 1], served[next]) {
+    for (index, one) in served.iter().enumerate() {
+        if !comes_before_first(*one, &served[index + 1..]) {
             return false;
         }
     }
@@ -146,15 +157,23 @@ fn is_served(model: &Model, number: usize, action: &ActionType) -> bool
     }
 }
 
-// Whether each action type is served.
-pub fn is_served_whole(model: &Model) -> bool
+// Whether each of the action types is served.
+fn are_all_served(model: &Model, actions: &[ActionType]) -> bool
     requires { IsInOrder model.now.served.items }
-    ensures { IsTrue result ↔ IsServedWhole (view_model model.now) }
+    ensures { IsTrue result ↔ ((number : ℕ) (action : ActionTree) → slice_get (map view_action actions.now) number ≡ Some action → IsServed (view_model model.now) number action) }
 {
-    for number in 0..model.actions.len() {
-        if !is_served(model, number, &model.actions[number]) {
+    for (number, action) in actions.iter().enumerate() {
+        if !is_served(model, number, action) {
             return false;
         }
     }
     true
+}
+
+// Whether each action type of the model is served.
+pub fn is_served_whole(model: &Model) -> bool
+    requires { IsInOrder model.now.served.items }
+    ensures { IsTrue result ↔ IsServedWhole (view_model model.now) }
+{
+    are_all_served(model, model.actions.as_slice())
 }

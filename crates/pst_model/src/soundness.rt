@@ -6,7 +6,9 @@ ghost use Rattle.pst_model.specs.Preorder.{IsPreorder};
 ghost use Rattle.pst_model.specs.Served.{IsInOrder, IsSoundServe, IsServedWhole, pool_in};
 ghost use Rattle.pst_model.specs.Sound.{IsSound, IsSoundAction, IsSoundObject, IsSoundPool, IsSoundFunction};
 
-use crate::model::Model;
+use crate::action::ActionType;
+use crate::model::{Function, Model};
+use crate::object::ObjectType;
 use crate::preorder::is_preorder;
 use crate::served;
 use crate::types::{is_sound_action, is_sound_function, is_sound_object, is_sound_pool};
@@ -14,11 +16,11 @@ use crate::types::{is_sound_action, is_sound_function, is_sound_object, is_sound
 // The most component instances.
 const MOST_INSTANCES: usize = 256;
 
-// Whether all action types are sound.
-fn are_actions(model: &Model) -> bool
-    ensures { IsTrue result ↔ All (IsSoundAction (view_model model.now)) (map view_action model.now.actions.items) }
+// Whether action types are sound.
+fn are_actions(model: &Model, actions: &[ActionType]) -> bool
+    ensures { IsTrue result ↔ All (IsSoundAction (view_model model.now)) (map view_action actions.now) }
 {
-    for action in model.actions.as_slice() {
+    for action in actions {
         if !is_sound_action(model, action) {
             return false;
         }
@@ -26,11 +28,11 @@ fn are_actions(model: &Model) -> bool
     true
 }
 
-// Whether all object types are sound.
-fn are_objects(model: &Model) -> bool
-    ensures { IsTrue result ↔ All IsSoundObject (map view_object model.now.objects.items) }
+// Whether object types are sound.
+fn are_objects(objects: &[ObjectType]) -> bool
+    ensures { IsTrue result ↔ All IsSoundObject (map view_object objects.now) }
 {
-    for object in model.objects.as_slice() {
+    for object in objects {
         if !is_sound_object(object) {
             return false;
         }
@@ -52,11 +54,11 @@ fn are_pools(model: &Model) -> bool
     model.pools.iter().all(|pool| is_sound_pool(model, *pool))
 }
 
-// Whether all functions are sound.
-fn are_functions(model: &Model) -> bool
-    ensures { IsTrue result ↔ All IsSoundFunction (map view_function model.now.functions.items) }
+// Whether functions are sound.
+fn are_functions(functions: &[Function]) -> bool
+    ensures { IsTrue result ↔ All IsSoundFunction (map view_function functions.now) }
 {
-    for function in model.functions.as_slice() {
+    for function in functions {
         if !is_sound_function(function) {
             return false;
         }
@@ -92,10 +94,10 @@ fn is_served(model: &Model) -> bool
 pub fn sound(model: &Model) -> bool
     ensures { IsTrue result ↔ IsSound (view_model model.now) }
 {
-    if !are_actions(model) {
+    if !are_actions(model, model.actions.as_slice()) {
         return false;
     }
-    if !are_objects(model) {
+    if !are_objects(model.objects.as_slice()) {
         return false;
     }
     if !are_instances(model) {
@@ -104,7 +106,7 @@ pub fn sound(model: &Model) -> bool
     if !are_pools(model) {
         return false;
     }
-    if !are_functions(model) {
+    if !are_functions(model.functions.as_slice()) {
         return false;
     }
     is_served(model)

@@ -5,4 +5,4 @@ use Rattle.pst_model.proofs.soundness.are_actions.Given as goal
 
 -- all are sound where those left are
 abbrev pub invariant-loop-action : goal.invariant-loop-action
-invariant-loop-action l = All (IsSoundAction (view_model l.model)) (map view_action (drop l.action-index l.model.actions.items)) ↔ All (IsSoundAction (view_model l.model)) (map view_action l.model.actions.items)
+invariant-loop-action l = All (IsSoundAction (view_model l.model)) (map view_action (drop l.action-index l.actions)) ↔ All (IsSoundAction (view_model l.model)) (map view_action l.actions)

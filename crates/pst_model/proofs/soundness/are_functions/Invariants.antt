@@ -5,4 +5,4 @@ use Rattle.pst_model.proofs.soundness.are_functions.Given as goal
 
 -- all are sound where those left are
 abbrev pub invariant-loop-function : goal.invariant-loop-function
-invariant-loop-function l = All IsSoundFunction (map view_function (drop l.function-index l.model.functions.items)) ↔ All IsSoundFunction (map view_function l.model.functions.items)
+invariant-loop-function l = All IsSoundFunction (map view_function (drop l.function-index l.functions)) ↔ All IsSoundFunction (map view_function l.functions)

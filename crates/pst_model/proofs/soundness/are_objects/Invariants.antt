@@ -5,4 +5,4 @@ use Rattle.pst_model.proofs.soundness.are_objects.Given as goal
 
 -- all are sound where those left are
 abbrev pub invariant-loop-object : goal.invariant-loop-object
-invariant-loop-object l = All IsSoundObject (map view_object (drop l.object-index l.model.objects.items)) ↔ All IsSoundObject (map view_object l.model.objects.items)
+invariant-loop-object l = All IsSoundObject (map view_object (drop l.object-index l.objects)) ↔ All IsSoundObject (map view_object l.objects)
