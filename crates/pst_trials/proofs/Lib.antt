@@ -1,1 +1,9 @@
 mod LocksTried
+mod InferenceTried
+mod StreamsTried
+mod BindsTried
+mod StatesTried
+mod SelectsTried
+mod OwnClaimsTried
+mod JoinsTried
+mod ArraysTried

@@ -1,1 +1,11 @@
+pub mod Parts
 pub mod Locks
+pub mod Inference
+pub mod Streams
+pub mod Binds
+pub mod States
+pub mod Selects
+pub mod OwnClaims
+pub mod Joins
+pub mod Arrays
+pub mod Bodies
