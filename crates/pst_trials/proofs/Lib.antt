@@ -1,3 +1,8 @@
+pub mod Cases
+pub mod Branches
+pub mod Orders
+pub mod Traces
+pub mod Legality
 mod LocksTried
 mod InferenceTried
 mod StreamsTried
