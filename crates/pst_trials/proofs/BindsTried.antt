@@ -18,7 +18,7 @@ use Rattle.pst_scen.specs.Legal.{Legal}
 use Rattle.pst_scen.specs.ValueReading.{Whole, read}
 use Rattle.pst_trials.specs.Parts.{compound, traverse_by, row, act_of, filled, root_node, node, scenario_of, start, places}
 use Rattle.pst_trials.specs.Inference.{flow_model}
-use Rattle.std.proofs.Common.{◌≡◌, false, refl, lit<, lit≤, true≢false, length}
+use Rattle.std.proofs.Common.{inl, ◌≡◌, false, refl, lit<, lit≤, true≢false, length}
 use Rattle.pst_scen.specs.declared.act.Filled.{Filled}
 use Rattle.pst_scen.specs.declared.act.Act.{Act as Acting}
 use Rattle.pst_scen.specs.declared.event.Event.{Event}
@@ -111,7 +111,7 @@ trace = record {
   legal = ((((tt
     , starts_next s 1 [] 0 0 tt (lit< tt) (lit< tt) tt (awaits s [] 0 (in_order fill.Schedule) tt) (tt, tt) (tt, (tt, tt)))
     , runs_by (start 0 0 ∷ []) 0 0 false (0, lit< tt, refl) (tt, tt))
-    , starts_next s 1 after_first 1 0 tt (lit< tt) (lit< tt) ((tt, (1, lit< tt, refl)), (tt, tt)) (awaits s after_first 1 (in_order fill.Schedule) tt) ((1, lit< tt, refl), tt) (tt, (tt, tt)))
+    , starts_next s 1 after_first 1 0 tt (lit< tt) (lit< tt) ((tt, inl (1, lit< tt, refl)), (tt, tt)) (awaits s after_first 1 (in_order fill.Schedule) tt) ((1, lit< tt, refl), tt) (tt, (tt, tt)))
     , runs_by (start 0 0 ∷ End 0 ∷ start 1 0 ∷ []) 1 0 false (2, lit< tt, refl) (tt, (tt, (tt, tt))));
 }
 

@@ -32,6 +32,18 @@ each_reference P [] facts a r filled is = absurd (none_some filled is)
 each_reference P (act ∷ acts) facts zero r filled is = each (P 0) act.references facts.0 r filled is
 each_reference P (act ∷ acts) facts (suc a) r filled is = each_reference (λ a. P (suc a)) acts facts.1 a r filled is
 
+-- each pair of elements with one number
+abbrev pub EachBoth : {A B : Type 0} → (ℕ → A → B → Type 0) → List A → List B → Type 0
+EachBoth P [] ys = Unit {0}
+EachBoth P (x ∷ xs) [] = Unit {0}
+EachBoth P (x ∷ xs) (y ∷ ys) = P 0 x y × EachBoth (λ k. P (suc k)) xs ys
+
+pub each_both : {A B : Type 0} (P : ℕ → A → B → Type 0) (xs : List A) (ys : List B) → EachBoth P xs ys → (k : ℕ) (x : A) (y : B) → slice_get xs k ≡ Some x → slice_get ys k ≡ Some y → P k x y
+each_both P [] ys facts k x y is_x is_y = absurd (none_some x is_x)
+each_both P (z ∷ xs) [] facts k x y is_x is_y = absurd (none_some y is_y)
+each_both P (z ∷ xs) (w ∷ ys) facts zero x y is_x is_y = subst (λ x. P 0 x y) (some_same z x is_x) (subst (P 0 z) (some_same w y is_y) facts.0)
+each_both P (z ∷ xs) (w ∷ ys) facts (suc k) x y is_x is_y = each_both (λ k. P (suc k)) xs ys facts.1 k x y is_x is_y
+
 -- ---- each element that a list contains
 
 abbrev pub EachOf : {A : Type 0} → (A → Type 0) → List A → Type 0

@@ -97,40 +97,51 @@ alone_group s a below alone = record {
 
 -- ---- starts
 
--- An action starts alone where nothing runs.
-pub starts_alone : (s : Scenario) (lanes : ℕ) (trace : List Event) (a lane : ℕ) → IsWholeGroup s (a ∷ []) → lane < lanes
-    → EachOf (on_start (λ b l. When (nat_eq b a) ⊥ × Ended trace b)) trace
+-- An action that is its own group starts, where what runs is on other lanes and in no conflict with it.
+pub starts_beside : (s : Scenario) (lanes : ℕ) (trace : List Event) (a lane : ℕ) → IsWholeGroup s (a ∷ []) → lane < lanes
+    → EachOf (on_start (λ b l. When (nat_eq b a) ⊥ × (Ended trace b ⊎ When (nat_eq l lane) ⊥ × (Conflict s b a → ⊥)))) trace
     → ((x : ℕ) → Before s x a → Ended trace x)
     → ((x : ℕ) → Feeds s x a → Ended trace x)
     → ((flow : Flow) (pool : ℕ) (to : Link) → is_state flow ≡ true → Refers s a flow pool to → Names to (last_writer s pool trace))
     → MayStart s lanes trace (a ∷ []) (lane ∷ [])
-starts_alone s lanes trace a lane group below events sequence feeds state = record {
+starts_beside s lanes trace a lane group below events sequence feeds state = record {
   group = group;
-  fresh = λ b in_b. each_contained (λ b. Started trace b → ⊥) (a ∷ []) ((λ started. due (nat_eq a a) ⊥ (eq-eqb a a refl) (each_start (λ b l. When (nat_eq b a) ⊥ × Ended trace b) trace events a started.0 started.1).0), tt) b in_b;
+  fresh = λ b in_b. each_contained (λ b. Started trace b → ⊥) (a ∷ []) ((λ started. due (nat_eq a a) ⊥ (eq-eqb a a refl) (fact a started.0 started.1).0), tt) b in_b;
   free = record {
     many = refl;
     different = λ i j less under. absurd (omega arith);
     below = each_contained (λ l. l < lanes) (lane ∷ []) (below, tt);
-    idle = λ l in_l held. held.2 (each_start (λ b l. When (nat_eq b a) ⊥ × Ended trace b) trace events held.0 l held.1).1;
+    idle = λ l in_l held. each_contained (λ l. StartsOn trace held.0 l → ⊥) (lane ∷ []) ((λ starts. busy held.0 held.2 (fact held.0 lane starts).1), tt) l in_l held.1;
   };
   sequence = λ x b in_b. each_contained (λ b. Before s x b → Ended trace x) (a ∷ []) (sequence x, tt) b in_b;
   buffer = λ x b in_b. each_contained (λ b. Feeds s x b → Ended trace x) (a ∷ []) (feeds x, tt) b in_b;
   source = λ b pool to in_b. each_contained (λ b. Reads s b pool to → Names to (last_writer s pool trace)) (a ∷ []) (state StateIn pool to refl, tt) b in_b;
   previous = λ b pool to in_b. each_contained (λ b. Writes s b pool to → Names to (last_writer s pool trace)) (a ∷ []) (state StateOut pool to refl, tt) b in_b;
-  clear = λ x b runs in_b conflict. runs.1 (each_start (λ b l. When (nat_eq b a) ⊥ × Ended trace b) trace events x runs.0.0 runs.0.1).1;
+  clear = λ x b runs in_b conflict. each_contained (λ b. Conflict s x b → ⊥) (a ∷ []) ((λ conflict. clash x runs.0.0 runs.1 conflict (fact x runs.0.0 runs.0.1).1), tt) b in_b conflict;
   apart = λ b c in_b in_c conflict. each_contained (λ b. Conflict s b c → ⊥) (a ∷ []) (each_contained (λ c. Conflict s a c → ⊥) (a ∷ []) ((λ conflict. conflict.0 refl), tt) c in_c, tt) b in_b conflict;
 }
+  where
+    fact : (b l : ℕ) → StartsOn trace b l → When (nat_eq b a) ⊥ × (Ended trace b ⊎ When (nat_eq l lane) ⊥ × (Conflict s b a → ⊥))
+    fact = each_start (λ b l. When (nat_eq b a) ⊥ × (Ended trace b ⊎ When (nat_eq l lane) ⊥ × (Conflict s b a → ⊥))) trace events
+
+    busy : (b : ℕ) → (Ended trace b → ⊥) → Ended trace b ⊎ When (nat_eq lane lane) ⊥ × (Conflict s b a → ⊥) → ⊥
+    busy b runs (inl ended) = runs ended
+    busy b runs (inr other) = due (nat_eq lane lane) ⊥ (eq-eqb lane lane refl) other.0
+
+    clash : (b l : ℕ) → (Ended trace b → ⊥) → Conflict s b a → Ended trace b ⊎ When (nat_eq l lane) ⊥ × (Conflict s b a → ⊥) → ⊥
+    clash b l runs conflict (inl ended) = runs ended
+    clash b l runs conflict (inr other) = other.1 conflict
 
 -- The same in a scenario without streams, where each fact computes.
 pub starts_next : (s : Scenario) (lanes : ℕ) (trace : List Event) (a lane : ℕ)
     → EachPair (λ b c. ⊥) (streams s) → a < length s.actions → lane < lanes
-    → EachOf (on_start (λ b l. When (nat_eq b a) ⊥ × Ended trace b)) trace
+    → EachOf (on_start (λ b l. When (nat_eq b a) ⊥ × (Ended trace b ⊎ When (nat_eq l lane) ⊥ × (Conflict s b a → ⊥)))) trace
     → ((x : ℕ) → Before s x a → Ended trace x)
     → EachPair (λ x b. When (nat_eq b a) (Ended trace x)) (suppliers (referrals s.actions))
     → EachOf (λ x. When (nat_eq x.act a && is_state x.flow) (Names x.to (last_writer s x.pool trace))) (referrals s.actions)
     → MayStart s lanes trace (a ∷ []) (lane ∷ [])
 starts_next s lanes trace a lane none in_s below events sequence feeds state =
-    starts_alone s lanes trace a lane (alone_group s a in_s (itself_alone s none a)) below events sequence
+    starts_beside s lanes trace a lane (alone_group s a in_s (itself_alone s none a)) below events sequence
         (λ x feed. due (nat_eq a a) (Ended trace x) (eq-eqb a a refl) (each_feeds (λ x b. When (nat_eq b a) (Ended trace x)) s feeds x a feed))
         (λ flow pool to is refers. due (nat_eq a a && is_state flow) (Names to (last_writer s pool trace)) (both (eq-eqb a a refl) is) (each_refers (λ b flow pool to. When (nat_eq b a && is_state flow) (Names to (last_writer s pool trace))) s state a flow pool to refers))
   where

@@ -1,5 +1,5 @@
 -- Two actions that lock, or share, one resource instance, in parallel and in any order.
-use Rattle.std.specs.Prelude.{◌≡◌, ℕ, List, [], ◌∷◌, Bool, true, false, if◌then◌else◌, Option, Some, None}
+use Rattle.std.specs.Prelude.{◌≡◌, ℕ, List, [], ◌∷◌, Bool, true, false, Option, Some, None}
 use Rattle.pst_model.specs.declared.object.ObjectKind.TheVariants.{Resource}
 use Rattle.pst_model.specs.ActivityTree.{StepTree, StepRow, Parallel, Schedule}
 use Rattle.pst_model.specs.ModelTree.{ModelTree}
@@ -14,13 +14,13 @@ use Rattle.pst_scen.specs.Trace.{MayCome, Starts, IsLegalTrace, IsWhole}
 use Rattle.pst_scen.specs.Plans.{KeepsParallel}
 use Rattle.pst_scen.specs.Legal.{Legal}
 use Rattle.pst_scen.specs.ValueReading.{Whole, read}
-use Rattle.pst_trials.specs.Parts.{bare, atomic, compound, top, pool_of, serve, traverse, row, lock, share, act_claims, claimed, root_node, node, scenario_of, start, places}
+use Rattle.pst_trials.specs.Parts.{bare, atomic, compound, top, pool_of, serve, traverse, row, claim, act_claims, claimed, root_node, node, scenario_of, start, places}
 
 -- resource r_t { }
 -- component pss_top { pool r_t r; bind r *; action A { lock r_t k; } action entry { activity { .. } } }, or share for lock
 abbrev pub model : Bool → StepTree → ModelTree
 model locks step = record {
-  actions = atomic [] (if locks then lock 0 ∷ [] else share 0 ∷ []) ∷ compound [] (step ∷ []) [] ∷ [];
+  actions = atomic [] (claim locks 0 ∷ []) ∷ compound [] (step ∷ []) [] ∷ [];
   objects = bare Resource ∷ [];
   instances = top;
   pools = pool_of 1 ∷ [];

@@ -1,5 +1,5 @@
 -- One action with two claims of one resource instance.
-use Rattle.std.specs.Prelude.{◌≡◌, ℕ, List, [], ◌∷◌, Bool, true, false, if◌then◌else◌, Option, Some, None}
+use Rattle.std.specs.Prelude.{◌≡◌, ℕ, List, [], ◌∷◌, Bool, true, false, Option, Some, None}
 use Rattle.pst_model.specs.declared.object.ObjectKind.TheVariants.{Resource}
 use Rattle.pst_model.specs.ModelTree.{ModelTree}
 use Rattle.pst_scen.specs.declared.tree.Fill.TheVariants as fill
@@ -7,12 +7,12 @@ use Rattle.pst_scen.specs.declared.scenario.Scenario.{Scenario}
 use Rattle.pst_scen.specs.Plans.{ClashesAlone}
 use Rattle.pst_scen.specs.Legal.{Legal}
 use Rattle.pst_scen.specs.ValueReading.{Whole, read}
-use Rattle.pst_trials.specs.Parts.{bare, atomic, compound, top, pool_of, serve, traverse, lock, share, act_claims, claimed, root_node, node, scenario_of}
+use Rattle.pst_trials.specs.Parts.{bare, atomic, compound, top, pool_of, serve, traverse, claim, act_claims, claimed, root_node, node, scenario_of}
 
 -- action D { lock r_t k, j; }, or share for lock
 abbrev pub model : Bool → ModelTree
 model locks = record {
-  actions = atomic [] (if locks then lock 0 ∷ lock 0 ∷ [] else share 0 ∷ share 0 ∷ []) ∷ compound [] (traverse 0 ∷ []) [] ∷ [];
+  actions = atomic [] (claim locks 0 ∷ claim locks 0 ∷ []) ∷ compound [] (traverse 0 ∷ []) [] ∷ [];
   objects = bare Resource ∷ [];
   instances = top;
   pools = pool_of 1 ∷ [];

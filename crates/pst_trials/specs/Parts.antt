@@ -49,11 +49,9 @@ input object = record { name = name 9; object = object; output = false }
 abbrev pub output : ℕ → Reference
 output object = record { name = name 9; object = object; output = true }
 
-abbrev pub lock : ℕ → Claim
-lock object = record { name = name 9; object = object; lock = true }
-
-abbrev pub share : ℕ → Claim
-share object = record { name = name 9; object = object; lock = false }
+-- a claim by lock, or to share
+abbrev pub claim : Bool → ℕ → Claim
+claim locks object = record { name = name 9; object = object; lock = locks }
 
 -- an object type without fields
 abbrev pub bare : ObjectKind → ObjectTree
