@@ -304,62 +304,69 @@ on_some P o x fact is = subst (OnSome P) is fact
 abbrev pub HoldsAt : (SlotTree → Standing) → ConstraintTree → Type 0
 HoldsAt standing k = is_true (value_at k standing) ≡ true
 
-abbrev pub CompoundHolds : ModelTree → Scenario → ℕ → Fill → Type 0
-CompoundHolds m s n (fill.Compound action instance fields) = OnSome (λ type. EachOf (HoldsAt (node_slot m s n)) type.constraints) (type_of m action)
-CompoundHolds m s n _ = Unit {0}
+-- a property of constraints, with what their slots stand for
+abbrev pub Property : Type 1
+Property = (SlotTree → Standing) → ConstraintTree → Type 0
 
-abbrev pub ActHolds : ModelTree → Scenario → Act → Type 0
-ActHolds m s act = OnSome (λ type. EachOf (HoldsAt (act_slot m s act)) type.constraints) (type_of m act.action)
+abbrev pub CompoundHolds : Property → ModelTree → Scenario → ℕ → Fill → Type 0
+CompoundHolds P m s n (fill.Compound action instance fields) = OnSome (λ type. EachOf (P (node_slot m s n)) type.constraints) (type_of m action)
+CompoundHolds P m s n _ = Unit {0}
 
-abbrev pub ClaimsHold : ModelTree → Act → Type 0
-ClaimsHold m act = OnSome (λ type. Each (λ c claim. OnSome (λ object. EachOf (HoldsAt (resource_slot m act c)) object.constraints) (slice_get m.objects claim.object)) type.claims) (type_of m act.action)
+abbrev pub ActHolds : Property → ModelTree → Scenario → Act → Type 0
+ActHolds P m s act = OnSome (λ type. EachOf (P (act_slot m s act)) type.constraints) (type_of m act.action)
 
-abbrev pub OutputHolds : ModelTree → Scenario → Filled → Type 0
-OutputHolds m s filled = When (is_output filled.flow) (OnSome (λ object. EachOf (HoldsAt (output_slot m s filled)) object.constraints) (pool_object m filled.pool))
+abbrev pub ClaimsHold : Property → ModelTree → Act → Type 0
+ClaimsHold P m act = OnSome (λ type. Each (λ c claim. OnSome (λ object. EachOf (P (resource_slot m act c)) object.constraints) (slice_get m.objects claim.object)) type.claims) (type_of m act.action)
 
-abbrev pub FirstHolds : ModelTree → Scenario → Filled → Type 0
-FirstHolds m s filled = When (is_state_pool m filled.pool) (OnSome (λ object. EachOf (HoldsAt (first_object_slot m s filled.pool)) object.constraints) (pool_object m filled.pool))
+abbrev pub OutputHolds : Property → ModelTree → Scenario → Filled → Type 0
+OutputHolds P m s filled = When (is_output filled.flow) (OnSome (λ object. EachOf (P (output_slot m s filled)) object.constraints) (pool_object m filled.pool))
 
--- each constraint of a model without inline ones
-pub record AllHold (m : ModelTree) (s : Scenario) : Type 0 where
+abbrev pub FirstHolds : Property → ModelTree → Scenario → Filled → Type 0
+FirstHolds P m s filled = When (is_state_pool m filled.pool) (OnSome (λ object. EachOf (P (first_object_slot m s filled.pool)) object.constraints) (pool_object m filled.pool))
+
+-- each constraint of a scenario has the property, in a model without inline ones
+pub record EachConstraint (P : Property) (m : ModelTree) (s : Scenario) : Type 0 where
   pub plain : IsPlainModel m
-  pub compounds : Each (λ n node. CompoundHolds m s n node.fill) s.nodes
-  pub acts : Each (λ a act. ActHolds m s act) s.actions
-  pub claims : Each (λ a act. ClaimsHold m act) s.actions
-  pub outputs : Each (λ a act. Each (λ r filled. OutputHolds m s filled) act.references) s.actions
-  pub firsts : Each (λ a act. Each (λ r filled. FirstHolds m s filled) act.references) s.actions
+  pub compounds : Each (λ n node. CompoundHolds P m s n node.fill) s.nodes
+  pub acts : Each (λ a act. ActHolds P m s act) s.actions
+  pub claims : Each (λ a act. ClaimsHold P m act) s.actions
+  pub outputs : Each (λ a act. Each (λ r filled. OutputHolds P m s filled) act.references) s.actions
+  pub firsts : Each (λ a act. Each (λ r filled. FirstHolds P m s filled) act.references) s.actions
 
 no_inline : (k : ConstraintTree) (inline : List ConstraintTree) → inline ≡ [] → Contains inline k → ⊥
 no_inline k inline none contained = not-suc-le-zero (subst (λ l. Contains l k) none contained).1
 
-pub holds_by : (m : ModelTree) (s : Scenario) → AllHold m s → Holds m s
-holds_by m s all _ _ (OfCompound n action instance fields node type k is compound of_type contained) =
-    each_contained (HoldsAt (node_slot m s n)) type.constraints
-        (on_some (λ type. EachOf (HoldsAt (node_slot m s n)) type.constraints) (type_of m action) type
-            (subst (CompoundHolds m s n) compound (each (λ n node. CompoundHolds m s n node.fill) s.nodes all.compounds n node is)) of_type) k contained
-holds_by m s all _ _ (OfAct a act type k is contained) =
-    each_contained (HoldsAt (act_slot m s act)) type.constraints
-        (on_some (λ type. EachOf (HoldsAt (act_slot m s act)) type.constraints) (type_of m act.action) type
-            (each (λ a act. ActHolds m s act) s.actions all.acts a act is.is) is.of_type) k contained
-holds_by m s all _ _ (OfOutput a r filled object k is output has contained) =
-    each_contained (HoldsAt (output_slot m s filled)) object.constraints
-        (on_some (λ object. EachOf (HoldsAt (output_slot m s filled)) object.constraints) (pool_object m filled.pool) object
-            (due (is_output filled.flow) (OnSome (λ object. EachOf (HoldsAt (output_slot m s filled)) object.constraints) (pool_object m filled.pool)) output
-                (each_reference (λ a r filled. OutputHolds m s filled) s.actions all.outputs a r filled is)) has) k contained
-holds_by m s all _ _ (OfClaim a c act type claim object k is is_claim is_object contained) =
-    let claims : Each (λ c claim. OnSome (λ object. EachOf (HoldsAt (resource_slot m act c)) object.constraints) (slice_get m.objects claim.object)) type.claims =
-        on_some (λ type. Each (λ c claim. OnSome (λ object. EachOf (HoldsAt (resource_slot m act c)) object.constraints) (slice_get m.objects claim.object)) type.claims) (type_of m act.action) type
-            (each (λ a act. ClaimsHold m act) s.actions all.claims a act is.is) is.of_type in
-    each_contained (HoldsAt (resource_slot m act c)) object.constraints
-        (on_some (λ object. EachOf (HoldsAt (resource_slot m act c)) object.constraints) (slice_get m.objects claim.object) object
-            (each (λ c claim. OnSome (λ object. EachOf (HoldsAt (resource_slot m act c)) object.constraints) (slice_get m.objects claim.object)) type.claims claims c claim is_claim) is_object) k contained
-holds_by m s all _ _ (OfFirst a r filled object k is state has contained) =
-    each_contained (HoldsAt (first_object_slot m s filled.pool)) object.constraints
-        (on_some (λ object. EachOf (HoldsAt (first_object_slot m s filled.pool)) object.constraints) (pool_object m filled.pool) object
-            (due (is_state_pool m filled.pool) (OnSome (λ object. EachOf (HoldsAt (first_object_slot m s filled.pool)) object.constraints) (pool_object m filled.pool)) state
-                (each_reference (λ a r filled. FirstHolds m s filled) s.actions all.firsts a r filled is)) has) k contained
-holds_by m s all _ _ (Inline n top action handle inline indices k stands contained) =
+pub each_constraint : (P : Property) (m : ModelTree) (s : Scenario) → EachConstraint P m s → (k : ConstraintTree) (standing : SlotTree → Standing) → HasConstraint m s k standing → P standing k
+each_constraint P m s all _ _ (OfCompound n action instance fields node type k is compound of_type contained) =
+    each_contained (P (node_slot m s n)) type.constraints
+        (on_some (λ type. EachOf (P (node_slot m s n)) type.constraints) (type_of m action) type
+            (subst (CompoundHolds P m s n) compound (each (λ n node. CompoundHolds P m s n node.fill) s.nodes all.compounds n node is)) of_type) k contained
+each_constraint P m s all _ _ (OfAct a act type k is contained) =
+    each_contained (P (act_slot m s act)) type.constraints
+        (on_some (λ type. EachOf (P (act_slot m s act)) type.constraints) (type_of m act.action) type
+            (each (λ a act. ActHolds P m s act) s.actions all.acts a act is.is) is.of_type) k contained
+each_constraint P m s all _ _ (OfOutput a r filled object k is output has contained) =
+    each_contained (P (output_slot m s filled)) object.constraints
+        (on_some (λ object. EachOf (P (output_slot m s filled)) object.constraints) (pool_object m filled.pool) object
+            (due (is_output filled.flow) (OnSome (λ object. EachOf (P (output_slot m s filled)) object.constraints) (pool_object m filled.pool)) output
+                (each_reference (λ a r filled. OutputHolds P m s filled) s.actions all.outputs a r filled is)) has) k contained
+each_constraint P m s all _ _ (OfClaim a c act type claim object k is is_claim is_object contained) =
+    let claims : Each (λ c claim. OnSome (λ object. EachOf (P (resource_slot m act c)) object.constraints) (slice_get m.objects claim.object)) type.claims =
+        on_some (λ type. Each (λ c claim. OnSome (λ object. EachOf (P (resource_slot m act c)) object.constraints) (slice_get m.objects claim.object)) type.claims) (type_of m act.action) type
+            (each (λ a act. ClaimsHold P m act) s.actions all.claims a act is.is) is.of_type in
+    each_contained (P (resource_slot m act c)) object.constraints
+        (on_some (λ object. EachOf (P (resource_slot m act c)) object.constraints) (slice_get m.objects claim.object) object
+            (each (λ c claim. OnSome (λ object. EachOf (P (resource_slot m act c)) object.constraints) (slice_get m.objects claim.object)) type.claims claims c claim is_claim) is_object) k contained
+each_constraint P m s all _ _ (OfFirst a r filled object k is state has contained) =
+    each_contained (P (first_object_slot m s filled.pool)) object.constraints
+        (on_some (λ object. EachOf (P (first_object_slot m s filled.pool)) object.constraints) (pool_object m filled.pool) object
+            (due (is_state_pool m filled.pool) (OnSome (λ object. EachOf (P (first_object_slot m s filled.pool)) object.constraints) (pool_object m filled.pool)) state
+                (each_reference (λ a r filled. FirstHolds P m s filled) s.actions all.firsts a r filled is)) has) k contained
+each_constraint P m s all _ _ (Inline n top action handle inline indices k stands contained) =
     absurd (no_inline k inline (plain_standing m s.nodes all.plain top n (Traverse action handle inline) indices stands) contained)
+
+pub holds_by : (m : ModelTree) (s : Scenario) → EachConstraint HoldsAt m s → Holds m s
+holds_by m s all k standing has = each_constraint HoldsAt m s all k standing has
 
 -- ---- claims of one action
 

@@ -1,6 +1,9 @@
 -- Blocks that may come next, where the trace and the scenario are written out.
 use Rattle.std.proofs.Common.{◌≡◌, ◌≢◌, ℕ, zero, suc, ◌<◌, ◌≤◌, List, [], ◌∷◌, ◌++◌, ◌⊎◌, inl, inr, Option, Some, None, Bool, true, false, ◌&&◌, ◌||◌, not, nat_eq, nat_lt, if◌then◌else◌, slice_get, length, get_or, refl, sym, subst, ap, ◌∙◌, arith, Contains, T, lit<, ltb→lt, eq-eqb, le_of_suc-le-suc, not-suc-le-zero}
 use Rattle.pst_scen.specs.declared.tree.Node.{Node}
+use Rattle.pst_scen.specs.declared.tree.Fill.{Fill}
+use Rattle.pst_scen.specs.declared.tree.Fill.TheVariants.{Joined}
+use Rattle.pst_scen.specs.Tree.{IsReleased}
 use Rattle.pst_scen.specs.declared.act.Flow.{Flow}
 use Rattle.pst_scen.specs.declared.act.Flow.TheVariants.{BufferIn, StateIn, StateOut}
 use Rattle.pst_scen.specs.declared.act.Link.{Link}
@@ -42,6 +45,15 @@ pub preorder_by : (nodes : List Node) → Each (λ n node. is_parent_before n no
 preorder_by nodes facts = record {
   parents = λ n parent node is in_parent. parent_before n parent node.parent (each (λ n node. is_parent_before n node.parent ≡ true) nodes facts n node is) in_parent;
 }
+
+abbrev pub has_join : Fill → Bool
+has_join (Joined parallel joined) = true
+has_join _ = false
+
+-- without join forms nothing is released
+pub no_joins : (nodes : List Node) → Each (λ n node. has_join node.fill ≡ false) nodes → (sequence act : ℕ) → IsReleased nodes sequence act → ⊥
+no_joins nodes facts sequence act released =
+    false_true (sym (subst (λ fill. has_join fill ≡ false) released.join (each (λ n node. has_join node.fill ≡ false) nodes facts released.block released.node released.is)))
 
 -- ---- numbers below
 

@@ -39,8 +39,10 @@ pub record StreamsAreTried : Type 0 where
   pub group : IsWholeGroup scenario (0 ∷ 2 ∷ [])
   pub not_alone : MayCome scenario 2 [] (Starts (0 ∷ []) (0 ∷ [])) → ⊥
   pub both : MayCome scenario 2 [] (Starts (0 ∷ 2 ∷ []) (0 ∷ 1 ∷ []))
-  -- the partners are ordered as the statements are
+  -- the first action comes before the second and, as they start together, before the second's partner; its own partner
+  -- may run on
   pub order : Must scenario 0 1
-  pub order_of_partners : Must scenario 2 3
+  pub order_of_partner : Must scenario 0 3
+  pub partner_runs_on : Must scenario 2 1 → ⊥
   pub trace : IsLegalTrace scenario 2 in_pairs
   pub whole : IsWhole scenario in_pairs
