@@ -14,6 +14,35 @@ use Rattle.rand_core.specs.Pcg32Seed.{pcg32_seed}
 use Rattle.pst_rng.specs.Words.{generator_at}
 use Rattle.pst_expr.specs.Spans.{numbers_from}
 use Rattle.pst_trials.specs.OwnClaims.{OwnClaimsAreTried, model, scenario, choices}
+use Rattle.pst_scen.specs.declared.event.Event.TheVariants.{End}
+use Rattle.pst_scen.specs.Trace.{IsLegalTrace, IsWhole}
+use Rattle.pst_trials.specs.Parts.{start}
+use Rattle.std.proofs.Common.{◌≢◌, ◌<◌, ◌⊎◌, suc, zero, inl, inr, nat_eq, sym, ◌∙◌, subst, eq-eqb, lit<, lit≤, true≢false, length, get_or, arith, Contains, not-suc-le-zero, slice_get, replicate}
+use Rattle.pst_scen.specs.declared.act.Act.{Act as Acting}
+use Rattle.pst_scen.specs.declared.act.Filled.{Filled}
+use Rattle.pst_scen.specs.declared.act.Claimed.{Claimed}
+use Rattle.pst_scen.specs.declared.event.Event.{Event}
+use Rattle.pst_model.specs.declared.action.Claim.{Claim}
+use Rattle.pst_scen.specs.Growing.{nothing_yet, most_levels, Inner, Leaf, Look}
+use Rattle.pst_scen.specs.Pieces.{Piece, Action, Statement, IsActionWay, IsWay}
+use Rattle.pst_scen.specs.Tree.{AtTop, Below, IsReleased}
+use Rattle.pst_scen.specs.Flows.{Claims, Feeds, Refers, FromFirst, FromSecond}
+use Rattle.pst_scen.specs.Order.{Must, Cause, Before, Buffer, Sequence, Directly, Through, Itself, Linked, Together}
+use Rattle.pst_scen.specs.Conflicts.{Conflict}
+use Rattle.pst_scen.specs.Trace.{Starts, Ends, Started, Ended, Runs, MayStart, AreFree, StartsOn}
+use Rattle.pst_scen.specs.Laws.{IsPreorder}
+use Rattle.pst_scen.specs.Scenarios.{IsScenario}
+use Rattle.pst_scen.specs.Plans.{StandParallel, KeepsParallel}
+use Rattle.pst_scen.specs.Fits.{Fills, FillsRoot, Fits, HasValues, IsActOf, IsReferenceOf, IsClaimOf, IsSameLeaf}
+use Rattle.pst_scen.specs.Supplied.{Supplied}
+use Rattle.pst_scen.specs.Binds.{bounds_of}
+use Rattle.pst_scen.specs.Constraints.{Holds}
+use Rattle.pst_trials.proofs.Cases.{each, each_both, each_contained, EachOf, none_some, false_true}
+use Rattle.pst_trials.proofs.Branches.{each_parallel}
+use Rattle.pst_trials.proofs.Orders.{each_conflict, each_contend, each_must, each_must_alone, each_cause, each_before, each_feeds, each_refers, each_together}
+use Rattle.pst_trials.proofs.Traces.{When, due, on_start, each_start, each_below, preorder_by, here, runs_by, starts_next, awaits, whole_by, no_joins}
+use Rattle.pst_trials.proofs.Legality.{differ, in_preorder, are_linked, no_firsts, no_previous, no_chains, sources_by, bounds_by, inferred_by, holds_by, none_clashes}
+use Rattle.pst_trials.specs.Parts.{input, output}
 
 pub reads_locks : read (model true) 1 1 0 choices ≡ Whole (scenario true)
 unfolding generator_at u32_at pcg32_seed word_bytes numbers_from
@@ -22,3 +51,111 @@ reads_locks = refl
 pub reads_shares : read (model false) 1 1 0 choices ≡ Whole (scenario false)
 unfolding generator_at u32_at pcg32_seed word_bytes numbers_from
 reads_shares = refl
+
+-- ---- claims
+
+in_order : (locks : Bool) → IsPreorder (scenario locks).nodes
+in_order locks = preorder_by (scenario locks).nodes (refl, (refl, tt))
+
+pub locks_clash : ClashesAlone (scenario true) 0
+locks_clash = record {
+  first = 0; second = 1; one = _; other = _; different = differ 0 1 refl;
+  is_first = record { act = _; is_act = refl; is = refl };
+  is_second = record { act = _; is_act = refl; is = refl };
+  same_pool = refl; same_instance = refl; by_lock = inl refl;
+}
+
+pub locks_are_illegal : Legal (model true) 1 (scenario true) → ⊥
+locks_are_illegal legal = legal.alone 0 (lit< tt) locks_clash
+
+no_lock : (false ≡ true) ⊎ (false ≡ true) → ⊥
+no_lock (inl is) = false_true is
+no_lock (inr is) = false_true is
+
+shares_agree_all : (a : ℕ) → ClashesAlone (scenario false) a → ⊥
+shares_agree_all = none_clashes (scenario false)
+    ((((λ other pool instance. no_lock), ((λ other pool instance. no_lock), tt)), (((λ other pool instance. no_lock), ((λ other pool instance. no_lock), tt)), tt)), tt)
+
+pub shares_agree : ClashesAlone (scenario false) 0 → ⊥
+shares_agree = shares_agree_all 0
+
+-- ---- a legal scenario
+
+abbrev m : ModelTree
+m = model false
+
+abbrev s : Scenario
+s = scenario false
+
+abbrev alone : List Event
+alone = start 0 0 ∷ End 0 ∷ []
+
+trace : IsLegalTrace s 1 alone
+trace = record {
+  blocks = Ends 0 ∷ Starts (0 ∷ []) (0 ∷ []) ∷ [];
+  are = refl;
+  legal = ((tt
+    , starts_next s 1 [] 0 0 tt (lit< tt) (lit< tt) tt (awaits s [] 0 (in_order false) tt) tt tt)
+    , runs_by (start 0 0 ∷ []) 0 0 false (0, lit< tt, refl) (tt, tt));
+}
+
+whole : IsWhole s alone
+whole = whole_by s alone ((1, lit< tt, refl), tt)
+
+way : IsActionWay m 0 (Some 0) (Leaf 0 0) []
+way = record { type = _; is = refl; instance = 0; inside = (0, lit< tt, refl); content = (refl, refl) }
+
+-- the scenario before its claims are read
+abbrev tree : Scenario
+tree = scenario_of 0 s.nodes (act_claims 0 (Some 1) [] ∷ []) []
+
+fills : Fills m most_levels (Action 1 None) None (nothing_yet 0) tree
+fills = (_, _, record { type = _; is = refl; instance = 0; inside = (0, lit< tt, refl); content = ([], tt, refl, refl) }, (_, (_, _, way, refl), refl))
+
+abbrev act : Acting
+act = act_claims 0 (Some 1) (claimed false 0 ∷ claimed false 0 ∷ [])
+
+is_act : IsActOf m act
+is_act = record {
+  type = _; is = refl; fields = tt; many_references = refl; references = λ k filled is. absurd (none_some filled is);
+  many_claims = refl;
+  claims = each_both (IsClaimOf m act) (claim false 0 ∷ claim false 0 ∷ []) (claimed false 0 ∷ claimed false 0 ∷ [])
+      (record { is_pool = refl; lock = refl; pool = _; is = refl; within = lit< tt; values = tt }, (record { is_pool = refl; lock = refl; pool = _; is = refl; within = lit< tt; values = tt }, tt));
+}
+
+pub shares_are_legal : Legal m 1 s
+shares_are_legal = record {
+  scenario = record {
+    nodes = in_preorder s.nodes (tt, (refl, tt));
+    leaves = record { numbers = refl; nodes = refl };
+    links = are_linked s.actions (tt, tt);
+    firsts = no_firsts 0 s.nodes s.actions tt;
+  };
+  fits = record {
+    tree = record { tree = tree; fills = fills; nodes = refl; leaves = (record { action = refl; instance = refl; node = refl }, tt) };
+    values = record { acts = each (λ a act. IsActOf m act) s.actions (is_act, tt); firsts = λ k first is. absurd (none_some first is) };
+    within = record { few_nodes = lit≤ tt; few_acts = lit≤ tt };
+  };
+  supplied = record {
+    sources = sources_by s.actions (tt, tt);
+    previous = no_previous s.actions (tt, tt);
+    chains = no_chains s.actions (tt, tt);
+    bound = bounds_by (bounds_of m s.nodes) s.actions (tt, tt);
+    inferred = inferred_by m s.actions (tt, tt);
+    numbered = refl;
+  };
+  holds = holds_by m s (record {
+    plain = (tt, ((refl, tt), tt));
+    compounds = (tt, (tt, tt));
+    acts = (tt, tt);
+    claims = ((tt, (tt, tt)), tt);
+    outputs = (tt, tt);
+    firsts = (tt, tt);
+  });
+  parallel = record {
+    unordered = each_parallel (λ a b. Must s a b → ⊥) s (in_order false) tt;
+    undisputed = λ a b stand. absurd (each_parallel (λ a b. ⊥) s (in_order false) tt a b stand);
+  };
+  alone = λ a below. shares_agree_all a;
+  runs = record { lanes = 1; trace = alone; legal = trace; whole = whole };
+}
