@@ -3,6 +3,7 @@ pub mod Branches
 pub mod Orders
 pub mod Traces
 pub mod Legality
+pub mod Released
 mod LocksTried
 mod InferenceTried
 mod StreamsTried

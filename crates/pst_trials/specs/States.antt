@@ -21,6 +21,7 @@ use Rattle.pst_scen.specs.Order.{Must}
 use Rattle.pst_scen.specs.Conflicts.{Conflict}
 use Rattle.pst_scen.specs.Trace.{MayCome, Starts, IsLegalTrace, IsWhole, last_writer}
 use Rattle.pst_scen.specs.Plans.{CanRun}
+use Rattle.pst_scen.specs.Legal.{Legal}
 use Rattle.pst_scen.specs.ValueReading.{Dead, Whole, read}
 use Rattle.pst_trials.specs.Parts.{name, field_to, atomic, compound, top, pool_of, serve, traverse, input, output, number, by, constraint, act_of, filled, root_node, node, scenario_of, start, places}
 
@@ -128,6 +129,9 @@ pub record StatesAreTried : Type 0 where
   pub reader_not_first : MayCome row 2 [] (Starts (0 ∷ []) (1 ∷ [])) → ⊥
   pub trace : IsLegalTrace row 1 writer_first
   pub whole : IsWhole row writer_first
+  pub legal : Legal one 2 row
+  -- other values are not legal
+  pub another_first : Legal one 2 (scenario (pos 1) (pos 2)) → ⊥
   -- a reader of what was replaced before it stands in a cycle, and nothing runs whole
   pub reader_before_second : Must replaced 2 1
   pub second_before_itself : Must replaced 1 1

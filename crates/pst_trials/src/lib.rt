@@ -2,6 +2,8 @@
 //! compute or are short. Each fact is part of the contract of a function that does nothing.
 #![tactic(auto)]
 
+use pst_order::whole_is_sound;
+
 ghost use Rattle.pst_trials.specs.Locks.{LocksAreTried};
 ghost use Rattle.pst_trials.specs.Inference.{InferenceIsTried};
 ghost use Rattle.pst_trials.specs.Streams.{StreamsAreTried};
@@ -36,7 +38,9 @@ pub fn binds_are_tried()
 /// A state with its first object, a writer and a reader; and a reader of what was replaced.
 pub fn states_are_tried()
     ensures { StatesAreTried }
-{}
+{
+    whole_is_sound();
+}
 
 /// Choices among branches with guards and weights, and by value.
 pub fn selects_are_tried()
