@@ -13,7 +13,7 @@ use Rattle.pst_scen.specs.declared.event.Event.TheVariants.{End}
 use Rattle.pst_scen.specs.Binds.{bounds_of, fixed_source}
 use Rattle.pst_scen.specs.Order.{Must}
 use Rattle.pst_scen.specs.Trace.{IsLegalTrace, IsWhole}
-use Rattle.pst_scen.specs.Plans.{KeepsParallel}
+use Rattle.pst_scen.specs.Plans.{KeepsParallel, StandParallel}
 use Rattle.pst_scen.specs.Legal.{Legal}
 use Rattle.pst_scen.specs.ValueReading.{Whole, read}
 use Rattle.pst_trials.specs.Parts.{compound, traverse_by, row, act_of, filled, root_node, node, scenario_of, start, places}
@@ -72,23 +72,23 @@ one_option_still = refl
 
 -- ---- the order
 
-in_order : (block : Fill) → IsPreorder (scenario block).nodes
+pub in_order : (block : Fill) → IsPreorder (scenario block).nodes
 in_order block = preorder_by (scenario block).nodes (refl, (refl, (refl, (refl, tt))))
 
 pub order : Must (scenario fill.Parallel) 0 1
 order = Directly 0 1 1 (differ 0 1 refl, Buffer (record { pool = 0; output = 0; input = record { act = _; reference = 0; filled = _; is_act = refl; is = refl; of_flow = refl; of_pool = refl; linked = refl } })) Itself
 
+pub stand : StandParallel (scenario fill.Parallel) 0 1
+stand = record {
+  block = 1; node = _; is = refl; parallel = tt; a_branch = 2; b_branch = 3; different = differ 2 3 refl;
+  a_child = record { node = _; is = refl; in_parent = refl };
+  b_child = record { node = _; is = refl; in_parent = refl };
+  a_inside = record { leaf = 2; node = _; is = refl; of_act = refl; under = AtTop };
+  b_inside = record { leaf = 3; node = _; is = refl; of_act = refl; under = AtTop };
+}
+
 pub parallel_is_ordered : KeepsParallel (scenario fill.Parallel) → ⊥
-parallel_is_ordered keeps =
-    keeps.unordered 0 1
-        (record {
-          block = 1; node = _; is = refl; parallel = tt; a_branch = 2; b_branch = 3; different = differ 2 3 refl;
-          a_child = record { node = _; is = refl; in_parent = refl };
-          b_child = record { node = _; is = refl; in_parent = refl };
-          a_inside = record { leaf = 2; node = _; is = refl; of_act = refl; under = AtTop };
-          b_inside = record { leaf = 3; node = _; is = refl; of_act = refl; under = AtTop };
-        })
-        order
+parallel_is_ordered keeps = keeps.unordered 0 1 stand order
 
 pub parallel_is_illegal : Legal (model (Parallel both)) 2 (scenario fill.Parallel) → ⊥
 parallel_is_illegal legal = parallel_is_ordered legal.parallel

@@ -4,6 +4,7 @@ pub mod Orders
 pub mod Traces
 pub mod Legality
 pub mod Released
+pub mod Fronts
 mod LocksTried
 mod InferenceTried
 mod StreamsTried
@@ -13,3 +14,4 @@ mod SelectsTried
 mod OwnClaimsTried
 mod JoinsTried
 mod ArraysTried
+mod RefusedTried

@@ -37,7 +37,10 @@ use Rattle.pst_scen.specs.Constraints.{Holds}
 use Rattle.pst_trials.proofs.Cases.{each, each_both, none_some, false_true}
 use Rattle.pst_trials.proofs.Branches.{each_parallel}
 use Rattle.pst_trials.proofs.Orders.{each_conflict, each_contend, each_must_alone, each_cause, each_before}
-use Rattle.pst_trials.proofs.Traces.{preorder_by, here, runs_by, starts_next, awaits, whole_by}
+use Rattle.pst_scen.specs.First.{IsFirst}
+use Rattle.std.proofs.Common.{not-suc-le-zero, replicate}
+use Rattle.pst_trials.proofs.Fronts.{is_whole, none_before}
+use Rattle.pst_trials.proofs.Traces.{EachBelow, preorder_by, here, runs_by, starts_next, awaits, whole_by}
 use Rattle.pst_trials.proofs.Legality.{differ, in_preorder, are_linked, no_firsts, no_previous, no_chains, sources_by, bounds_by, inferred_by, holds_by, none_clashes}
 use Rattle.pst_trials.specs.Parts.{claim}
 use Rattle.rand_core.specs.Steps.{u32_at, word_bytes}
@@ -64,13 +67,13 @@ one_option_each = refl
 
 -- ---- claims
 
-in_order : (locks : Bool) (block : Fill) → IsPreorder (scenario locks block).nodes
+pub in_order : (locks : Bool) (block : Fill) → IsPreorder (scenario locks block).nodes
 in_order locks block = preorder_by (scenario locks block).nodes (refl, (refl, (refl, (refl, tt))))
 
-first_claims : (locks : Bool) (block : Fill) → Claims (scenario locks block) 0 0 0 locks
+pub first_claims : (locks : Bool) (block : Fill) → Claims (scenario locks block) 0 0 0 locks
 first_claims locks block = record { claim = 0; claimed = _; is = record { act = _; is_act = refl; is = refl }; of_pool = refl; of_instance = refl; by_lock = refl }
 
-second_claims : (locks : Bool) (block : Fill) → Claims (scenario locks block) 1 0 0 locks
+pub second_claims : (locks : Bool) (block : Fill) → Claims (scenario locks block) 1 0 0 locks
 second_claims locks block = record { claim = 0; claimed = _; is = record { act = _; is_act = refl; is = refl }; of_pool = refl; of_instance = refl; by_lock = refl }
 
 pub locks_conflict : Conflict (scenario true fill.Schedule) 0 1
@@ -82,7 +85,7 @@ no_conflict a b conflict = each_conflict (λ a b. ⊥) (scenario false fill.Para
 pub shares_agree : Conflict (scenario false fill.Parallel) 0 1 → ⊥
 shares_agree = no_conflict 0 1
 
-stand : (locks : Bool) → StandParallel (scenario locks fill.Parallel) 0 1
+pub stand : (locks : Bool) → StandParallel (scenario locks fill.Parallel) 0 1
 stand locks = record {
   block = 1; node = _; is = refl; parallel = tt; a_branch = 2; b_branch = 3; different = differ 2 3 refl;
   a_child = record { node = _; is = refl; in_parent = refl };
@@ -301,4 +304,19 @@ shares_are_legal = record {
   };
   alone = λ a below. none_clashes (scenario false fill.Parallel) ((((λ other pool instance locks. other refl), tt), tt), ((((λ other pool instance locks. other refl), tt), tt), tt)) a;
   runs = record { lanes = 2; trace = one_after_another; legal = parallel_trace false; whole = parallel_whole false };
+}
+
+-- ---- the first scenario
+
+fronts : EachBelow (λ k. is_whole (read (model true (Schedule twice)) 1 1 0 (replicate k 0)) ≡ false) 5
+unfolding generator_at u32_at pcg32_seed word_bytes numbers_from
+fronts = (refl, (refl, (refl, (refl, (refl, tt)))))
+
+pub locks_are_first : IsFirst (model true (Schedule twice)) 1 1 0 (scenario true fill.Schedule)
+locks_are_first = record {
+  few = lit≤ tt;
+  below = λ other less. absurd (not-suc-le-zero less);
+  choices = choices;
+  reads = record { reads = reads_any_order; legal = locks_are_legal };
+  before = λ other s before reads. none_before (model true (Schedule twice)) 1 1 0 5 fronts other s before reads.reads;
 }

@@ -54,7 +54,7 @@ reads_shares = refl
 
 -- ---- claims
 
-in_order : (locks : Bool) → IsPreorder (scenario locks).nodes
+pub in_order : (locks : Bool) → IsPreorder (scenario locks).nodes
 in_order locks = preorder_by (scenario locks).nodes (refl, (refl, tt))
 
 pub locks_clash : ClashesAlone (scenario true) 0

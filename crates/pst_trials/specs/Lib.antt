@@ -9,3 +9,4 @@ pub mod OwnClaims
 pub mod Joins
 pub mod Arrays
 pub mod Bodies
+pub mod Refused

@@ -13,6 +13,7 @@ use Rattle.pst_scen.specs.Conflicts.{Conflict}
 use Rattle.pst_scen.specs.Trace.{MayCome, Starts, IsLegalTrace, IsWhole}
 use Rattle.pst_scen.specs.Plans.{KeepsParallel}
 use Rattle.pst_scen.specs.Legal.{Legal}
+use Rattle.pst_scen.specs.First.{IsFirst}
 use Rattle.pst_scen.specs.ValueReading.{Whole, read}
 use Rattle.pst_trials.specs.Parts.{bare, atomic, compound, top, pool_of, serve, traverse, row, claim, act_claims, claimed, root_node, node, scenario_of, start, places}
 
@@ -63,4 +64,6 @@ pub record LocksAreTried : Type 0 where
   pub not_together : MayCome (scenario true fill.Schedule) 2 (start 0 0 ∷ []) (Starts (1 ∷ []) (1 ∷ [])) → ⊥
   pub shares_together : MayCome (scenario false fill.Parallel) 2 (start 0 0 ∷ []) (Starts (1 ∷ []) (1 ∷ []))
   pub locks_are_legal : Legal (model true (Schedule twice)) 1 (scenario true fill.Schedule)
+  -- every list before this one is cut off, so the scenario is the first
+  pub locks_are_first : IsFirst (model true (Schedule twice)) 1 1 0 (scenario true fill.Schedule)
   pub shares_are_legal : Legal (model false (Parallel twice)) 1 (scenario false fill.Parallel)

@@ -13,6 +13,7 @@ ghost use Rattle.pst_trials.specs.Selects.{SelectsAreTried};
 ghost use Rattle.pst_trials.specs.OwnClaims.{OwnClaimsAreTried};
 ghost use Rattle.pst_trials.specs.Joins.{JoinsAreTried};
 ghost use Rattle.pst_trials.specs.Arrays.{ArraysAreTried};
+ghost use Rattle.pst_trials.specs.Refused.{RefusalsAreTried};
 ghost use Rattle.pst_trials.specs.Bodies.{BodiesAreTried};
 
 /// Two actions that lock, or share, the one instance of a resource, in parallel and in any order.
@@ -65,4 +66,9 @@ pub fn arrays_are_tried()
 /// Bodies, given the answers of their calls.
 pub fn bodies_are_tried()
     ensures { BodiesAreTried }
+{}
+
+/// Why scenarios of the other trials have no plan.
+pub fn refusals_are_tried()
+    ensures { RefusalsAreTried }
 {}
