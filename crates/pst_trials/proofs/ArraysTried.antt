@@ -55,7 +55,7 @@ use Rattle.pst_trials.proofs.Cases.{each, each_both, each_contained, EachOf, non
 use Rattle.pst_trials.proofs.Branches.{each_parallel}
 use Rattle.pst_trials.proofs.Orders.{each_conflict, each_contend, each_must, each_must_alone, each_cause, each_before, each_feeds, each_refers, each_together}
 use Rattle.pst_trials.proofs.Traces.{When, due, on_start, each_start, each_below, preorder_by, here, runs_by, starts_next, awaits, whole_by, no_joins}
-use Rattle.pst_trials.proofs.Legality.{differ, in_preorder, are_linked, no_firsts, no_previous, no_chains, sources_by, bounds_by, inferred_by, holds_by, none_clashes}
+use Rattle.pst_trials.proofs.Legality.{differ, in_preorder, are_linked, no_firsts, no_previous, no_chains, sources_by, bounds_by, inferred_by, none_inline, holds_by, none_clashes}
 use Rattle.pst_trials.specs.Parts.{input, output, claim}
 
 pub reads_elements : read array 0 1 0 (0 ∷ 10 ∷ 2 ∷ 1 ∷ []) ≡ Whole (scenario doubled)
@@ -178,7 +178,7 @@ legal_by fields constraints values are hold = record {
 each_of : (P : Property) (fields : List Field) (constraints : List ConstraintTree) (values : List ℤ)
     → EachOf (P (act_slot (model fields constraints) (scenario values) (act values))) constraints → EachConstraint P (model fields constraints) (scenario values)
 each_of P fields constraints values facts =
-    record { plain = (tt, tt); compounds = (tt, tt); acts = (facts, tt); claims = (tt, tt); outputs = (tt, tt); firsts = (tt, tt) }
+    record { inlines = none_inline _ _ _ (tt, tt); compounds = (tt, tt); acts = (facts, tt); claims = (tt, tt); outputs = (tt, tt); firsts = (tt, tt) }
 
 hold_by : (fields : List Field) (constraints : List ConstraintTree) (values : List ℤ)
     → EachOf (HoldsAt (act_slot (model fields constraints) (scenario values) (act values))) constraints → Holds (model fields constraints) (scenario values)

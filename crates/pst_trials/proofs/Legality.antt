@@ -20,7 +20,7 @@ use Rattle.pst_scen.specs.Types.{type_of, activity_in, activity_of, pool_object,
 use Rattle.pst_scen.specs.Flows.{Refers, Claims, IsClaim}
 use Rattle.pst_scen.specs.Conflicts.{Uses}
 use Rattle.pst_scen.specs.Scenarios.{reference_at, AreInPreorder, IsLinkOf, IsStream, IsLinked, AreLinked, HasFirsts}
-use Rattle.pst_scen.specs.Standing.{StandsFor, AtTop as AtTopStatement, Below as BelowStatement, InTurn, step_below}
+use Rattle.pst_scen.specs.Standing.{IsBranch, StandsFor, AtTop as AtTopStatement, Below as BelowStatement, InTurn, step_below}
 use Rattle.pst_scen.specs.Slots.{Standing, node_slot, act_slot, inline_slot, output_slot, resource_slot, first_object_slot}
 use Rattle.pst_scen.specs.Pieces.{is_true}
 use Rattle.pst_scen.specs.Constraints.{HasConstraint, OfCompound, OfAct, OfOutput, OfClaim, OfFirst, Inline, value_at, Holds}
@@ -324,9 +324,15 @@ OutputHolds P m s filled = When (is_output filled.flow) (OnSome (λ object. Each
 abbrev pub FirstHolds : Property → ModelTree → Scenario → Filled → Type 0
 FirstHolds P m s filled = When (is_state_pool m filled.pool) (OnSome (λ object. EachOf (P (first_object_slot m s filled.pool)) object.constraints) (pool_object m filled.pool))
 
--- each constraint of a scenario has the property, in a model without inline ones
+-- each inline constraint has the property
+abbrev pub EachInline : Property → ModelTree → Scenario → Type 0
+EachInline P m s =
+    (n top action : ℕ) (handle : Option ℕ) (inline : List ConstraintTree) (indices : List ℕ) (k : ConstraintTree)
+    → StandsFor m s.nodes top n (Traverse action handle inline) indices → Contains inline k → P (inline_slot m s n top indices) k
+
+-- each constraint of a scenario has the property
 pub record EachConstraint (P : Property) (m : ModelTree) (s : Scenario) : Type 0 where
-  pub plain : IsPlainModel m
+  pub inlines : EachInline P m s
   pub compounds : Each (λ n node. CompoundHolds P m s n node.fill) s.nodes
   pub acts : Each (λ a act. ActHolds P m s act) s.actions
   pub claims : Each (λ a act. ClaimsHold P m act) s.actions
@@ -335,6 +341,11 @@ pub record EachConstraint (P : Property) (m : ModelTree) (s : Scenario) : Type 0
 
 no_inline : (k : ConstraintTree) (inline : List ConstraintTree) → inline ≡ [] → Contains inline k → ⊥
 no_inline k inline none contained = not-suc-le-zero (subst (λ l. Contains l k) none contained).1
+
+-- where the model has no inline constraint
+pub none_inline : (P : Property) (m : ModelTree) (s : Scenario) → IsPlainModel m → EachInline P m s
+none_inline P m s plain n top action handle inline indices k stands contained =
+    absurd (no_inline k inline (plain_standing m s.nodes plain top n (Traverse action handle inline) indices stands) contained)
 
 pub each_constraint : (P : Property) (m : ModelTree) (s : Scenario) → EachConstraint P m s → (k : ConstraintTree) (standing : SlotTree → Standing) → HasConstraint m s k standing → P standing k
 each_constraint P m s all _ _ (OfCompound n action instance fields node type k is compound of_type contained) =
@@ -363,7 +374,7 @@ each_constraint P m s all _ _ (OfFirst a r filled object k is state has containe
             (due (is_state_pool m filled.pool) (OnSome (λ object. EachOf (P (first_object_slot m s filled.pool)) object.constraints) (pool_object m filled.pool)) state
                 (each_reference (λ a r filled. FirstHolds P m s filled) s.actions all.firsts a r filled is)) has) k contained
 each_constraint P m s all _ _ (Inline n top action handle inline indices k stands contained) =
-    absurd (no_inline k inline (plain_standing m s.nodes all.plain top n (Traverse action handle inline) indices stands) contained)
+    all.inlines n top action handle inline indices k stands contained
 
 pub holds_by : (m : ModelTree) (s : Scenario) → EachConstraint HoldsAt m s → Holds m s
 holds_by m s all k standing has = each_constraint HoldsAt m s all k standing has
@@ -382,3 +393,67 @@ none_clashes s facts a clash =
     each (λ j other. (clash.first ≢ j) → clash.one.pool ≡ other.pool → clash.one.instance ≡ other.instance → (clash.one.lock ≡ true) ⊎ (other.lock ≡ true) → ⊥) clash.is_first.act.claims
         (each (λ i one. Each (λ j other. (i ≢ j) → one.pool ≡ other.pool → one.instance ≡ other.instance → (one.lock ≡ true) ⊎ (other.lock ≡ true) → ⊥) clash.is_first.act.claims) clash.is_first.act.claims own clash.first clash.one clash.is_first.is)
         clash.second clash.other is_second clash.different clash.same_pool clash.same_instance clash.by_lock
+
+-- ---- statements of activities that have traversals alone
+
+abbrev pub is_traverse : StepTree → Bool
+is_traverse (Traverse action handle inline) = true
+is_traverse (Sequence steps) = false
+is_traverse (Parallel steps) = false
+is_traverse (Schedule steps) = false
+is_traverse (Joined parallel join steps) = false
+is_traverse (Select row) = false
+is_traverse (Repeat count body) = false
+is_traverse (If condition holds fails) = false
+is_traverse (Match matched arms other) = false
+
+abbrev pub IsFlatContent : ContentTree → Type 0
+IsFlatContent (Atomic body) = Unit {0}
+IsFlatContent (Compound activity) = Each (λ k step. is_traverse step ≡ true) activity.steps
+
+abbrev pub IsFlatModel : ModelTree → Type 0
+IsFlatModel m = Each (λ k type. IsFlatContent type.content) m.actions
+
+flat_content : (content : ContentTree) (activity : ActivityTree) → IsFlatContent content → activity_in content ≡ Some activity → Each (λ k step. is_traverse step ≡ true) activity.steps
+flat_content (Atomic body) activity flat is = absurd (none_some activity is)
+flat_content (Compound own) activity flat is = subst (λ activity. Each (λ k step. is_traverse step ≡ true) activity.steps) (some_same own activity is) flat
+
+-- the node is a statement of the compound action's activity itself
+pub record StandsAtTop (m : ModelTree) (nodes : List Node) (top n : ℕ) (step : StepTree) (indices : List ℕ) : Type 0 where
+  pub index : ℕ
+  pub action : ℕ
+  pub instance : ℕ
+  pub fields : List ℤ
+  pub activity : ActivityTree
+  pub node : Node
+  pub is_node : slice_get nodes top ≡ Some node
+  pub compound : node.fill ≡ fill.Compound action instance fields
+  pub has : activity_of m action ≡ Some activity
+  pub branch : IsBranch nodes top index n
+  pub is : slice_get activity.steps index ≡ Some step
+  pub traverse : is_traverse step ≡ true
+  pub no_turns : indices ≡ []
+
+below_traverse : (fill : Fill) (above : StepTree) (index : ℕ) (step : StepTree) → is_traverse above ≡ true → step_below fill above index ≡ Some step → ⊥
+below_traverse _ (Traverse action handle inline) index step is some = none_some step some
+below_traverse _ (Sequence steps) index step is some = false_true is
+below_traverse _ (Parallel steps) index step is some = false_true is
+below_traverse _ (Schedule steps) index step is some = false_true is
+below_traverse _ (Joined parallel join steps) index step is some = false_true is
+below_traverse _ (Select row) index step is some = false_true is
+below_traverse _ (Repeat count body) index step is some = false_true is
+below_traverse _ (If condition holds fails) index step is some = false_true is
+below_traverse _ (Match matched arms other) index step is some = false_true is
+
+pub stands_at_top : (m : ModelTree) (nodes : List Node) → IsFlatModel m → (top n : ℕ) (step : StepTree) (indices : List ℕ) → StandsFor m nodes top n step indices → StandsAtTop m nodes top n step indices
+stands_at_top m nodes flat top _ _ _ (AtTopStatement n index action instance fields activity node step is_node compound has branch is) =
+    let t : (type : ActionTree) × (type_of m action ≡ Some type) × (activity_in type.content ≡ Some activity) = typed_activity (type_of m action) activity has in
+    record {
+      index = index; action = action; instance = instance; fields = fields; activity = activity; node = node; is_node = is_node; compound = compound; has = has; branch = branch; is = is;
+      traverse = each (λ k step. is_traverse step ≡ true) activity.steps (flat_content t.0.content activity (each (λ k type. IsFlatContent type.content) m.actions flat action t.0 t.1) t.2) index step is;
+      no_turns = refl;
+    }
+stands_at_top m nodes flat top _ _ _ (BelowStatement n parent index node above step indices stands is_node branch is) =
+    absurd (below_traverse node.fill above index step (stands_at_top m nodes flat top parent above indices stands).traverse is)
+stands_at_top m nodes flat top _ _ _ (InTurn n turn parent index node count body indices stands child is_node turning below) =
+    absurd (false_true (stands_at_top m nodes flat top parent (Repeat count body) indices stands).traverse)

@@ -15,3 +15,7 @@ mod OwnClaimsTried
 mod JoinsTried
 mod ArraysTried
 mod RefusedTried
+mod InlinesTried
+mod RepeatsTried
+mod InstancesTried
+mod CoresTried

@@ -10,3 +10,7 @@ pub mod Joins
 pub mod Arrays
 pub mod Bodies
 pub mod Refused
+pub mod Inlines
+pub mod Repeats
+pub mod Instances
+pub mod Cores

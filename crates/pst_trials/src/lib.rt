@@ -14,6 +14,10 @@ ghost use Rattle.pst_trials.specs.OwnClaims.{OwnClaimsAreTried};
 ghost use Rattle.pst_trials.specs.Joins.{JoinsAreTried};
 ghost use Rattle.pst_trials.specs.Arrays.{ArraysAreTried};
 ghost use Rattle.pst_trials.specs.Refused.{RefusalsAreTried};
+ghost use Rattle.pst_trials.specs.Inlines.{InlinesAreTried};
+ghost use Rattle.pst_trials.specs.Repeats.{RepeatsAreTried};
+ghost use Rattle.pst_trials.specs.Instances.{InstancesAreTried};
+ghost use Rattle.pst_trials.specs.Cores.{CoresAreTried};
 ghost use Rattle.pst_trials.specs.Bodies.{BodiesAreTried};
 
 /// Two actions that lock, or share, the one instance of a resource, in parallel and in any order.
@@ -71,4 +75,24 @@ pub fn bodies_are_tried()
 /// Why scenarios of the other trials have no plan.
 pub fn refusals_are_tried()
     ensures { RefusalsAreTried }
+{}
+
+/// Constraints on what a handle traverses, and at a traversal.
+pub fn inlines_are_tried()
+    ensures { InlinesAreTried }
+{}
+
+/// Repetitions with the numbers of their turns, and conditional statements.
+pub fn repeats_are_tried()
+    ensures { RepeatsAreTried }
+{}
+
+/// Component instances, and pools of more than one resource instance.
+pub fn instances_are_tried()
+    ensures { InstancesAreTried }
+{}
+
+/// What commands make of a trace on one lane.
+pub fn cores_are_tried()
+    ensures { CoresAreTried }
 {}
