@@ -178,7 +178,7 @@ legal_by fields constraints values are hold = record {
 each_of : (P : Property) (fields : List Field) (constraints : List ConstraintTree) (values : List ℤ)
     → EachOf (P (act_slot (model fields constraints) (scenario values) (act values))) constraints → EachConstraint P (model fields constraints) (scenario values)
 each_of P fields constraints values facts =
-    record { inlines = none_inline _ _ _ (tt, tt); compounds = (tt, tt); acts = (facts, tt); claims = (tt, tt); outputs = (tt, tt); firsts = (tt, tt) }
+    record { inlines = none_inline P (model fields constraints) (scenario values) (tt, tt); compounds = (tt, tt); acts = (facts, tt); claims = (tt, tt); outputs = (tt, tt); firsts = (tt, tt) }
 
 hold_by : (fields : List Field) (constraints : List ConstraintTree) (values : List ℤ)
     → EachOf (HoldsAt (act_slot (model fields constraints) (scenario values) (act values))) constraints → Holds (model fields constraints) (scenario values)

@@ -34,7 +34,7 @@ use Rattle.pst_scen.specs.Supplied.{Supplied}
 use Rattle.pst_trials.proofs.Cases.{each, none_some, false_true}
 use Rattle.pst_trials.proofs.Branches.{each_parallel}
 use Rattle.pst_trials.proofs.Traces.{preorder_by, runs_by, starts_next, awaits, whole_by}
-use Rattle.pst_trials.proofs.Legality.{differ, in_preorder, are_linked, no_firsts, no_previous, no_chains, sources_by, bounds_by, inferred_by, none_inline, holds_by, none_clashes}
+use Rattle.pst_trials.proofs.Legality.{differ, in_preorder, are_linked, no_firsts, no_previous, no_chains, sources_by, bounds_by, inferred_by, none_inline, HoldsAt, holds_by, none_clashes}
 use Rattle.pst_trials.specs.Parts.{input, output}
 use Rattle.rand_core.specs.Steps.{u32_at, word_bytes}
 use Rattle.rand_core.specs.Pcg32Seed.{pcg32_seed}
@@ -190,7 +190,7 @@ legal = record {
   fits = fits;
   supplied = supplied;
   holds = holds_by m s (record {
-    inlines = none_inline _ _ _ (tt, (tt, (((refl, (refl, tt)), tt), tt)));
+    inlines = none_inline HoldsAt m s (tt, (tt, (((refl, (refl, tt)), tt), tt)));
     compounds = (tt, (tt, (tt, (tt, tt))));
     acts = (tt, (tt, tt));
     claims = (tt, (tt, tt));

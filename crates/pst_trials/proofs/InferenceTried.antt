@@ -41,7 +41,7 @@ use Rattle.pst_trials.proofs.Cases.{each, each_both, each_contained, EachOf, non
 use Rattle.pst_trials.proofs.Branches.{each_parallel}
 use Rattle.pst_trials.proofs.Orders.{each_conflict, each_contend, each_must, each_must_alone, each_cause, each_before, each_feeds, each_refers, each_together}
 use Rattle.pst_trials.proofs.Traces.{When, due, on_start, each_start, each_below, preorder_by, here, runs_by, starts_next, awaits, whole_by, no_joins}
-use Rattle.pst_trials.proofs.Legality.{differ, in_preorder, are_linked, no_firsts, no_previous, no_chains, sources_by, bounds_by, inferred_by, none_inline, holds_by, none_clashes}
+use Rattle.pst_trials.proofs.Legality.{differ, in_preorder, are_linked, no_firsts, no_previous, no_chains, sources_by, bounds_by, inferred_by, none_inline, HoldsAt, holds_by, none_clashes}
 use Rattle.pst_trials.specs.Parts.{claim}
 use Rattle.rand_core.specs.Steps.{u32_at, word_bytes}
 use Rattle.rand_core.specs.Pcg32Seed.{pcg32_seed}
@@ -176,7 +176,7 @@ legal = record {
   fits = fits;
   supplied = supplied;
   holds = holds_by model scenario (record {
-    inlines = none_inline _ _ _ (tt, (tt, ((refl, tt), tt)));
+    inlines = none_inline HoldsAt model scenario (tt, (tt, ((refl, tt), tt)));
     compounds = (tt, (tt, tt));
     acts = (tt, (tt, tt));
     claims = (tt, (tt, tt));

@@ -41,7 +41,7 @@ use Rattle.pst_scen.specs.First.{IsFirst}
 use Rattle.std.proofs.Common.{not-suc-le-zero, replicate}
 use Rattle.pst_trials.proofs.Fronts.{is_whole, none_before}
 use Rattle.pst_trials.proofs.Traces.{EachBelow, preorder_by, here, runs_by, starts_next, awaits, whole_by}
-use Rattle.pst_trials.proofs.Legality.{differ, in_preorder, are_linked, no_firsts, no_previous, no_chains, sources_by, bounds_by, inferred_by, none_inline, holds_by, none_clashes}
+use Rattle.pst_trials.proofs.Legality.{differ, in_preorder, are_linked, no_firsts, no_previous, no_chains, sources_by, bounds_by, inferred_by, none_inline, HoldsAt, holds_by, none_clashes}
 use Rattle.pst_trials.specs.Parts.{claim}
 use Rattle.rand_core.specs.Steps.{u32_at, word_bytes}
 use Rattle.rand_core.specs.Pcg32Seed.{pcg32_seed}
@@ -179,7 +179,7 @@ any_order_supplied locks = record {
 
 any_order_holds : (locks : Bool) → Holds (model locks (Schedule twice)) (scenario locks fill.Schedule)
 any_order_holds locks = holds_by (model locks (Schedule twice)) (scenario locks fill.Schedule) (record {
-  inlines = none_inline _ _ _ (tt, (((refl, (refl, tt)), tt), tt));
+  inlines = none_inline HoldsAt (model locks (Schedule twice)) (scenario locks fill.Schedule) (tt, (((refl, (refl, tt)), tt), tt));
   compounds = (tt, (tt, (tt, (tt, tt))));
   acts = (tt, (tt, tt));
   claims = ((tt, tt), ((tt, tt), tt));
@@ -256,7 +256,7 @@ parallel_supplied locks = record {
 
 parallel_holds : (locks : Bool) → Holds (model locks (Parallel twice)) (scenario locks fill.Parallel)
 parallel_holds locks = holds_by (model locks (Parallel twice)) (scenario locks fill.Parallel) (record {
-  inlines = none_inline _ _ _ (tt, (((refl, (refl, tt)), tt), tt));
+  inlines = none_inline HoldsAt (model locks (Parallel twice)) (scenario locks fill.Parallel) (tt, (((refl, (refl, tt)), tt), tt));
   compounds = (tt, (tt, (tt, (tt, tt))));
   acts = (tt, (tt, tt));
   claims = ((tt, tt), ((tt, tt), tt));

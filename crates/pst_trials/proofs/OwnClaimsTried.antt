@@ -41,7 +41,7 @@ use Rattle.pst_trials.proofs.Cases.{each, each_both, each_contained, EachOf, non
 use Rattle.pst_trials.proofs.Branches.{each_parallel}
 use Rattle.pst_trials.proofs.Orders.{each_conflict, each_contend, each_must, each_must_alone, each_cause, each_before, each_feeds, each_refers, each_together}
 use Rattle.pst_trials.proofs.Traces.{When, due, on_start, each_start, each_below, preorder_by, here, runs_by, starts_next, awaits, whole_by, no_joins}
-use Rattle.pst_trials.proofs.Legality.{differ, in_preorder, are_linked, no_firsts, no_previous, no_chains, sources_by, bounds_by, inferred_by, none_inline, holds_by, none_clashes}
+use Rattle.pst_trials.proofs.Legality.{differ, in_preorder, are_linked, no_firsts, no_previous, no_chains, sources_by, bounds_by, inferred_by, none_inline, HoldsAt, holds_by, none_clashes}
 use Rattle.pst_trials.specs.Parts.{input, output}
 
 pub reads_locks : read (model true) 1 1 0 choices ≡ Whole (scenario true)
@@ -145,7 +145,7 @@ shares_are_legal = record {
     numbered = refl;
   };
   holds = holds_by m s (record {
-    inlines = none_inline _ _ _ (tt, ((refl, tt), tt));
+    inlines = none_inline HoldsAt m s (tt, ((refl, tt), tt));
     compounds = (tt, (tt, tt));
     acts = (tt, tt);
     claims = ((tt, (tt, tt)), tt);
