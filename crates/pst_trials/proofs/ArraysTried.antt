@@ -1,62 +1,42 @@
 -- Facts: Values of one action: elements of an array, a divisor that is 0, and two constraints that never hold together.
-use Rattle.std.specs.Prelude.{◌≡◌, ◌+◌, ◌%◌, ◌<◌, ℕ, ℤ, pos, List, [], ◌∷◌, Bool, true, false, Option, Some, None}
-use Rattle.pst_expr.specs.declared.tree.BinaryOp.TheVariants.{Implies, Equal, NotEqual, Add, Sub, Mul, Div, Rem, Greater}
-use Rattle.pst_expr.specs.Tree.{Expression, Variable, Element}
+use Rattle.std.specs.Prelude.{◌≡◌, ℕ, ℤ, pos, List, [], ◌∷◌, true, false, Some, None}
 use Rattle.pst_model.specs.declared.action.Field.{Field}
-use Rattle.pst_model.specs.ConstraintTree.{ConstraintTree, SlotTree, Own}
-use Rattle.pst_model.specs.ModelTree.{ModelTree}
+use Rattle.pst_model.specs.ConstraintTree.{ConstraintTree}
 use Rattle.pst_scen.specs.declared.tree.Node.{Node}
 use Rattle.pst_scen.specs.declared.tree.Fill.TheVariants as fill
-use Rattle.pst_scen.specs.declared.act.Act.{Act}
-use Rattle.pst_scen.specs.declared.scenario.Scenario.{Scenario}
 use Rattle.pst_scen.specs.Slots.{act_slot}
-use Rattle.pst_scen.specs.Constraints.{HasConstraint, Holds, value_at, is_refused_at}
+use Rattle.pst_scen.specs.Constraints.{Holds, is_refused_at}
 use Rattle.pst_scen.specs.Legal.{Legal}
-use Rattle.pst_scen.specs.First.{IsFirst, IsLive}
+use Rattle.pst_scen.specs.First.{IsLive}
 use Rattle.pst_scen.specs.ValueReading.{Whole, read}
-use Rattle.pst_trials.specs.Parts.{span, name, field_to, atomic_with, top, number, by, constraint, act_with, scenario_of, places}
+use Rattle.pst_trials.specs.Parts.{span, field_to, places}
 use Rattle.std.proofs.Common.{refl}
 use Rattle.rand_core.specs.Steps.{u32_at, word_bytes}
 use Rattle.rand_core.specs.Pcg32Seed.{pcg32_seed}
 use Rattle.pst_rng.specs.Words.{generator_at}
 use Rattle.pst_expr.specs.Spans.{numbers_from}
-use Rattle.pst_trials.specs.Arrays.{ArraysAreTried, model, act, scenario, at, element_field, elements, a, begins, doubles_behind, doubles, array, doubled, x_is_three, y_is_zero, quotient, guarded, divided, three_and_zero, leaves, odd_and_even}
+use Rattle.pst_trials.specs.Arrays.{model, act, scenario, at, element_field, begins, doubles_behind, doubles, array, doubled, x_is_three, y_is_zero, quotient, guarded, divided, three_and_zero, leaves, odd_and_even}
 use Rattle.pst_scen.specs.declared.event.Event.TheVariants.{End}
-use Rattle.pst_scen.specs.Trace.{IsLegalTrace, IsWhole}
+use Rattle.pst_scen.specs.Trace.{IsLegalTrace}
 use Rattle.std.specs.List.{AllZip}
 use lib.Signed.{le_z, le_z_yes}
 use Rattle.std.proofs.Common.{T}
-use Rattle.std.proofs.Common.{zero-le, ◌≤◌}
 use Rattle.pst_scen.specs.Pieces.{IsValueOf}
 use Rattle.pst_scen.specs.First.{NoneRefused}
 use Rattle.pst_scen.specs.Constraints.{OfAct}
 use Rattle.pst_trials.proofs.Legality.{Property, HoldsAt, EachConstraint, each_constraint}
 use Rattle.pst_trials.specs.Parts.{start}
-use Rattle.std.proofs.Common.{◌≢◌, ◌⊎◌, suc, zero, inl, inr, nat_eq, sym, ◌∙◌, subst, eq-eqb, lit<, lit≤, true≢false, length, get_or, arith, Contains, not-suc-le-zero, slice_get, replicate}
-use Rattle.pst_scen.specs.declared.act.Act.{Act as Acting}
-use Rattle.pst_scen.specs.declared.act.Filled.{Filled}
-use Rattle.pst_scen.specs.declared.act.Claimed.{Claimed}
+use Rattle.std.proofs.Common.{lit<, lit≤, true≢false}
 use Rattle.pst_scen.specs.declared.event.Event.{Event}
-use Rattle.pst_model.specs.declared.action.Claim.{Claim}
-use Rattle.pst_scen.specs.Growing.{nothing_yet, most_levels, Inner, Leaf, Look}
-use Rattle.pst_scen.specs.Pieces.{Piece, Action, Statement, IsActionWay, IsWay}
-use Rattle.pst_scen.specs.Tree.{AtTop, Below, IsReleased}
-use Rattle.pst_scen.specs.Flows.{Claims, Feeds, Refers, FromFirst, FromSecond}
-use Rattle.pst_scen.specs.Order.{Must, Cause, Before, Buffer, Sequence, Directly, Through, Itself, Linked, Together}
-use Rattle.pst_scen.specs.Conflicts.{Conflict, Resource}
-use Rattle.pst_scen.specs.Trace.{Starts, Ends, Started, Ended, Runs, MayStart, AreFree, StartsOn}
+use Rattle.pst_scen.specs.Order.{Must}
+use Rattle.pst_scen.specs.Trace.{Starts, Ends}
 use Rattle.pst_scen.specs.Laws.{IsPreorder}
-use Rattle.pst_scen.specs.Scenarios.{IsScenario}
-use Rattle.pst_scen.specs.Plans.{StandParallel, ClashesAlone, KeepsParallel}
-use Rattle.pst_scen.specs.Fits.{Fills, FillsRoot, Fits, HasValues, IsActOf, IsReferenceOf, IsClaimOf, IsSameLeaf}
-use Rattle.pst_scen.specs.Supplied.{Supplied}
+use Rattle.pst_scen.specs.Fits.{IsActOf}
 use Rattle.pst_scen.specs.Binds.{bounds_of}
-use Rattle.pst_trials.proofs.Cases.{each, each_both, each_contained, EachOf, none_some, false_true}
+use Rattle.pst_trials.proofs.Cases.{each, EachOf, none_some, false_true}
 use Rattle.pst_trials.proofs.Branches.{each_parallel}
-use Rattle.pst_trials.proofs.Orders.{each_conflict, each_contend, each_must, each_must_alone, each_cause, each_before, each_feeds, each_refers, each_together}
-use Rattle.pst_trials.proofs.Traces.{When, due, on_start, each_start, each_below, preorder_by, here, runs_by, starts_next, awaits, whole_by, no_joins}
-use Rattle.pst_trials.proofs.Legality.{differ, in_preorder, are_linked, no_firsts, no_previous, no_chains, sources_by, bounds_by, inferred_by, none_inline, holds_by, none_clashes}
-use Rattle.pst_trials.specs.Parts.{input, output, claim}
+use Rattle.pst_trials.proofs.Traces.{preorder_by, runs_by, starts_next, awaits, whole_by}
+use Rattle.pst_trials.proofs.Legality.{in_preorder, are_linked, no_firsts, no_previous, no_chains, sources_by, bounds_by, inferred_by, none_inline, holds_by, none_clashes}
 
 pub reads_elements : read array 0 1 0 (0 ∷ 10 ∷ 2 ∷ 1 ∷ []) ≡ Whole (scenario doubled)
 unfolding generator_at u32_at pcg32_seed word_bytes numbers_from
@@ -125,9 +105,13 @@ trace : (values : List ℤ) → IsLegalTrace (scenario values) 1 alone
 trace values = record {
   blocks = Ends 0 ∷ Starts (0 ∷ []) (0 ∷ []) ∷ [];
   are = refl;
-  legal = ((tt
-    , starts_next (scenario values) 1 [] 0 0 tt (lit< tt) (lit< tt) tt (awaits (scenario values) [] 0 in_order tt) tt tt)
-    , runs_by (start 0 0 ∷ []) 0 0 false (0, lit< tt, refl) (tt, tt));
+  legal = (
+    (
+      tt,
+      starts_next (scenario values) 1 [] 0 0 tt (lit< tt) (lit< tt) tt (awaits (scenario values) [] 0 in_order tt) tt tt,
+    ),
+    runs_by (start 0 0 ∷ []) 0 0 false (0, lit< tt, refl) (tt, tt),
+  );
 }
 
 -- values of the domains at which each constraint has a value that isn't 0 make a legal scenario
@@ -148,11 +132,18 @@ legal_by fields constraints values are hold = record {
       leaves = (record { action = refl; instance = refl; node = refl }, tt);
     };
     values = record {
-      acts = each (λ a act. IsActOf (model fields constraints) act) (scenario values).actions
-          (record {
-            type = _; is = refl; fields = are; many_references = refl; references = λ k filled is. absurd (none_some filled is);
-            many_claims = refl; claims = λ k claim claimed is. absurd (none_some claim is);
-          }, tt);
+      acts = each (λ a act. IsActOf (model fields constraints) act) (scenario values).actions (
+        record {
+          type = _;
+          is = refl;
+          fields = are;
+          many_references = refl;
+          references = λ k filled is. absurd (none_some filled is);
+          many_claims = refl;
+          claims = λ k claim claimed is. absurd (none_some claim is);
+        },
+        tt,
+      );
       firsts = λ k first is. absurd (none_some first is);
     };
     within = record { few_nodes = lit≤ tt; few_acts = lit≤ tt };

@@ -1,7 +1,7 @@
 -- Facts: A producer and a consumer whose ends an activity binds, in parallel and in any order.
-use Rattle.std.specs.Prelude.{◌≡◌, ℕ, List, [], ◌∷◌, Option, Some, None}
+use Rattle.std.specs.Prelude.{◌≡◌, List, [], ◌∷◌, Some, None}
 use Rattle.pst_model.specs.declared.object.ObjectKind.TheVariants.{Buffer}
-use Rattle.pst_model.specs.ActivityTree.{StepTree, StepRow, Parallel, Schedule}
+use Rattle.pst_model.specs.ActivityTree.{Parallel, Schedule}
 use Rattle.pst_model.specs.ModelTree.{ModelTree}
 use Rattle.pst_scen.specs.declared.tree.Fill.{Fill}
 use Rattle.pst_scen.specs.declared.tree.Fill.TheVariants as fill
@@ -16,20 +16,18 @@ use Rattle.pst_scen.specs.Trace.{IsLegalTrace, IsWhole}
 use Rattle.pst_scen.specs.Plans.{KeepsParallel, StandParallel}
 use Rattle.pst_scen.specs.Legal.{Legal}
 use Rattle.pst_scen.specs.ValueReading.{Whole, read}
-use Rattle.pst_trials.specs.Parts.{compound, traverse_by, row, act_of, filled, root_node, node, scenario_of, start, places}
-use Rattle.pst_trials.specs.Inference.{flow_model}
-use Rattle.std.proofs.Common.{inl, ◌≡◌, false, refl, lit<, lit≤, true≢false, length}
-use Rattle.pst_scen.specs.declared.act.Filled.{Filled}
+use Rattle.pst_trials.specs.Parts.{act_of, filled, scenario_of, start, places}
+use Rattle.std.proofs.Common.{inl, ◌≡◌, false, refl, lit<, lit≤, true≢false}
 use Rattle.pst_scen.specs.declared.act.Act.{Act as Acting}
 use Rattle.pst_scen.specs.declared.event.Event.{Event}
-use Rattle.pst_scen.specs.Growing.{nothing_yet, most_levels, Inner, Leaf, Look}
-use Rattle.pst_scen.specs.Pieces.{Piece, Action, Statement, IsActionWay, IsWay}
+use Rattle.pst_scen.specs.Growing.{nothing_yet, most_levels, Leaf}
+use Rattle.pst_scen.specs.Pieces.{Action, IsActionWay}
 use Rattle.pst_scen.specs.Tree.{AtTop}
 use Rattle.pst_scen.specs.Order.{Buffer, Directly, Itself}
-use Rattle.pst_scen.specs.Trace.{Starts, Ends, Ended}
+use Rattle.pst_scen.specs.Trace.{Starts, Ends}
 use Rattle.pst_scen.specs.Laws.{IsPreorder}
 use Rattle.pst_scen.specs.Scenarios.{IsScenario}
-use Rattle.pst_scen.specs.Fits.{Fills, FillsRoot, Fits, HasValues, IsActOf, IsReferenceOf, IsSameLeaf}
+use Rattle.pst_scen.specs.Fits.{Fills, Fits, IsActOf, IsReferenceOf}
 use Rattle.pst_scen.specs.Supplied.{Supplied}
 use Rattle.pst_trials.proofs.Cases.{each, none_some, false_true}
 use Rattle.pst_trials.proofs.Branches.{each_parallel}
@@ -40,7 +38,7 @@ use Rattle.rand_core.specs.Steps.{u32_at, word_bytes}
 use Rattle.rand_core.specs.Pcg32Seed.{pcg32_seed}
 use Rattle.pst_rng.specs.Words.{generator_at}
 use Rattle.pst_expr.specs.Spans.{numbers_from}
-use Rattle.pst_trials.specs.Binds.{BindsAreTried, model, both, scenario, choices, producer_first}
+use Rattle.pst_trials.specs.Binds.{model, both, scenario, choices, producer_first}
 
 pub joined : bounds_of (model (Parallel both)) (scenario fill.Parallel).nodes ≡ record { from_act = 0; from_reference = 0; to_act = 1; to_reference = 0 } ∷ []
 unfolding generator_at u32_at pcg32_seed word_bytes numbers_from
@@ -80,7 +78,13 @@ order = Directly 0 1 1 (differ 0 1 refl, Buffer (record { pool = 0; output = 0; 
 
 pub stand : StandParallel (scenario fill.Parallel) 0 1
 stand = record {
-  block = 1; node = _; is = refl; parallel = tt; a_branch = 2; b_branch = 3; different = differ 2 3 refl;
+  block = 1;
+  node = _;
+  is = refl;
+  parallel = tt;
+  a_branch = 2;
+  b_branch = 3;
+  different = differ 2 3 refl;
   a_child = record { node = _; is = refl; in_parent = refl };
   b_child = record { node = _; is = refl; in_parent = refl };
   a_inside = record { leaf = 2; node = _; is = refl; of_act = refl; under = AtTop };
@@ -108,11 +112,19 @@ pub trace : IsLegalTrace s 1 producer_first
 trace = record {
   blocks = Ends 1 ∷ Starts (1 ∷ []) (0 ∷ []) ∷ Ends 0 ∷ Starts (0 ∷ []) (0 ∷ []) ∷ [];
   are = refl;
-  legal = ((((tt
-    , starts_next s 1 [] 0 0 tt (lit< tt) (lit< tt) tt (awaits s [] 0 (in_order fill.Schedule) tt) (tt, tt) (tt, (tt, tt)))
-    , runs_by (start 0 0 ∷ []) 0 0 false (0, lit< tt, refl) (tt, tt))
-    , starts_next s 1 after_first 1 0 tt (lit< tt) (lit< tt) ((tt, inl (1, lit< tt, refl)), (tt, tt)) (awaits s after_first 1 (in_order fill.Schedule) tt) ((1, lit< tt, refl), tt) (tt, (tt, tt)))
-    , runs_by (start 0 0 ∷ End 0 ∷ start 1 0 ∷ []) 1 0 false (2, lit< tt, refl) (tt, (tt, (tt, tt))));
+  legal = (
+    (
+      (
+        (
+          tt,
+          starts_next s 1 [] 0 0 tt (lit< tt) (lit< tt) tt (awaits s [] 0 (in_order fill.Schedule) tt) (tt, tt) (tt, (tt, tt)),
+        ),
+        runs_by (start 0 0 ∷ []) 0 0 false (0, lit< tt, refl) (tt, tt),
+      ),
+      starts_next s 1 after_first 1 0 tt (lit< tt) (lit< tt) ((tt, inl (1, lit< tt, refl)), (tt, tt)) (awaits s after_first 1 (in_order fill.Schedule) tt) ((1, lit< tt, refl), tt) (tt, (tt, tt)),
+    ),
+    runs_by (start 0 0 ∷ End 0 ∷ start 1 0 ∷ []) 1 0 false (2, lit< tt, refl) (tt, (tt, (tt, tt))),
+  );
 }
 
 pub whole : IsWhole s producer_first
@@ -139,9 +151,12 @@ abbrev tree : Scenario
 tree = scenario_of 0 s.nodes (act_of 0 (Some 2) (filled BufferOut [] Nothing ∷ []) ∷ act_of 1 (Some 3) (filled BufferIn [] Nothing ∷ []) ∷ []) []
 
 fills : Fills m most_levels (Action 2 None) None (nothing_yet 0) tree
-fills =
-    (_, _, record { type = _; is = refl; instance = 0; inside = (0, lit< tt, refl); content = ([], tt, refl, refl) },
-      (_, (_, _, (refl, refl), (_, (_, _, producer_way, refl), (_, (_, _, consumer_way, refl), refl))), refl))
+fills = (
+  _,
+  _,
+  record { type = _; is = refl; instance = 0; inside = (0, lit< tt, refl); content = ([], tt, refl, refl) },
+  (_, (_, _, (refl, refl), (_, (_, _, producer_way, refl), (_, (_, _, consumer_way, refl), refl))), refl),
+)
 
 abbrev producer : Acting
 producer = act_of 0 (Some 2) (filled BufferOut [] Nothing ∷ [])
@@ -157,14 +172,24 @@ consumer_reference = record { reference = input 0; is = refl; pool = refl; flow 
 
 is_producer : IsActOf m producer
 is_producer = record {
-  type = _; is = refl; fields = tt; many_references = refl; references = each (IsReferenceOf m producer) producer.references (producer_reference, tt);
-  many_claims = refl; claims = λ k claim claimed is. absurd (none_some claim is);
+  type = _;
+  is = refl;
+  fields = tt;
+  many_references = refl;
+  references = each (IsReferenceOf m producer) producer.references (producer_reference, tt);
+  many_claims = refl;
+  claims = λ k claim claimed is. absurd (none_some claim is);
 }
 
 is_consumer : IsActOf m consumer
 is_consumer = record {
-  type = _; is = refl; fields = tt; many_references = refl; references = each (IsReferenceOf m consumer) consumer.references (consumer_reference, tt);
-  many_claims = refl; claims = λ k claim claimed is. absurd (none_some claim is);
+  type = _;
+  is = refl;
+  fields = tt;
+  many_references = refl;
+  references = each (IsReferenceOf m consumer) consumer.references (consumer_reference, tt);
+  many_claims = refl;
+  claims = λ k claim claimed is. absurd (none_some claim is);
 }
 
 fits : Fits m 2 s

@@ -1,13 +1,13 @@
 -- Which actions stand in different branches of one node, as a list that computes.
-use Rattle.std.proofs.Common.{◌≡◌, ◌≢◌, ℕ, zero, suc, ◌<◌, ◌≤◌, List, [], ◌∷◌, ◌++◌, ◌⊎◌, inl, inr, Option, Some, None, Bool, true, false, ◌&&◌, ◌||◌, not, nat_eq, nat_lt, if◌then◌else◌, slice_get, length, refl, sym, subst, ap, ◌∙◌, arith, flat_map, option_and_then, lt-ltb, eq-eqb, ne_eqb, le_of_suc-le-suc, le_trans, le_refl, not-suc-le-zero, lt_irrefl}
+use Rattle.std.proofs.Common.{◌≡◌, ℕ, zero, suc, ◌<◌, ◌≤◌, List, [], ◌∷◌, inl, Option, Some, None, Bool, true, false, ◌&&◌, ◌||◌, not, nat_eq, nat_lt, if◌then◌else◌, slice_get, refl, sym, subst, ap, ◌∙◌, arith, flat_map, option_and_then, lt-ltb, eq-eqb, ne_eqb, le_refl}
 use Rattle.pst_scen.specs.declared.tree.Node.{Node}
 use Rattle.pst_scen.specs.declared.tree.Fill.{Fill}
 use Rattle.pst_scen.specs.declared.tree.Fill.TheVariants.{Compound, Leaf, Sequence, Parallel, Schedule, Joined, Select, Repeat, Turn, If, Match}
 use Rattle.pst_scen.specs.declared.scenario.Scenario.{Scenario}
-use Rattle.pst_scen.specs.Tree.{IsNode, IsChild, StandsUnder, AtTop, Below, Contains-act, RunsInOrder, IsSequence, StandsEarlier}
+use Rattle.pst_scen.specs.Tree.{IsChild, StandsUnder, AtTop, Below, Contains-act, RunsInOrder, StandsEarlier}
 use Rattle.pst_scen.specs.Plans.{IsParallel, StandParallel}
 use Rattle.pst_scen.specs.Laws.{IsPreorder}
-use Rattle.pst_trials.proofs.Cases.{Each, each, EachOf, each_among, Among, among_flat, among_left, numbered, among_numbered, some_same, none_some, false_true}
+use Rattle.pst_trials.proofs.Cases.{EachOf, each_among, Among, among_flat, numbered, among_numbered, false_true}
 
 -- ---- what stands under a node
 
@@ -48,7 +48,7 @@ under_is_below nodes preorder top _ (Below n parent under child) (suc steps) eno
     let less : parent ≤ steps = omega arith in
     let upper : is_below nodes steps top parent ≡ true = under_is_below nodes preorder top parent under steps less in
     or_right (nat_eq top n) (holds_of (is_below nodes steps top) (parent_at nodes n))
-        (ap (holds_of (is_below nodes steps top)) (child_parent nodes n parent child) ∙ upper)
+    (ap (holds_of (is_below nodes steps top)) (child_parent nodes n parent child) ∙ upper)
 
 -- ---- the actions inside a node
 
@@ -67,8 +67,8 @@ pub contained_is_inside : (nodes : List Node) → IsPreorder nodes → (n act : 
 contained_is_inside nodes preorder n act contains =
     let inside : is_below nodes contains.leaf n contains.leaf ≡ true = under_is_below nodes preorder n contains.leaf contains.under contains.leaf (le_refl contains.leaf) in
     among_flat (λ e. act_if (is_below nodes e.0 n e.0) e.1.fill) (numbered nodes) (contains.leaf, contains.node) act
-        (among_numbered nodes contains.leaf contains.node contains.is)
-        (act_of_leaf (is_below nodes contains.leaf n contains.leaf) contains.node.fill act inside contains.of_act)
+    (among_numbered nodes contains.leaf contains.node contains.is)
+    (act_of_leaf (is_below nodes contains.leaf n contains.leaf) contains.node.fill act inside contains.of_act)
 
 -- ---- actions in different branches of one node
 
@@ -104,7 +104,7 @@ beside apart test nodes = flat_map (λ x. flat_map (beside_in apart test nodes x
 among_pairs : (parent : ℕ) (some others : List ℕ) (a b : ℕ) → Among a some → Among b others → Among (record { parent = parent; first = a; second = b }) (pairs parent some others)
 among_pairs parent some others a b in_as in_bs =
     among_flat (λ a. flat_map (λ b. record { parent = parent; first = a; second = b } ∷ []) others) some a (record { parent = parent; first = a; second = b }) in_as
-        (among_flat (λ b. record { parent = parent; first = a; second = b } ∷ []) others b (record { parent = parent; first = a; second = b }) in_bs (inl refl))
+    (among_flat (λ b. record { parent = parent; first = a; second = b } ∷ []) others b (record { parent = parent; first = a; second = b }) in_bs (inl refl))
 
 among_if : (b : Bool) (x : Beside) (xs : List Beside) → b ≡ true → Among x xs → Among x (if b then xs else [])
 among_if true x xs is among = among
@@ -120,8 +120,8 @@ fill_test_of test nodes n node is holds = ap (tests_node test) is ∙ holds
 by_parents_of : (test : ℕ → Bool) (some others : List ℕ) (p : ℕ) (first second : Option ℕ) (x : Beside) → first ≡ Some p → second ≡ Some p → test p ≡ true → Among x (pairs p some others) → Among x (by_parents test some others first second)
 by_parents_of test some others p first second x is_first is_second holds among =
     subst (λ f. Among x (by_parents test some others f second)) (sym is_first)
-        (subst (λ g. Among x (by_parents test some others (Some p) g)) (sym is_second)
-            (among_if (nat_eq p p && test p) x (pairs p some others) (both_true (nat_eq p p) (test p) (eq-eqb p p refl) holds) among))
+    (subst (λ g. Among x (by_parents test some others (Some p) g)) (sym is_second)
+    (among_if (nat_eq p p && test p) x (pairs p some others) (both_true (nat_eq p p) (test p) (eq-eqb p p refl) holds) among))
 
 pub beside_has : (apart : ℕ → ℕ → Bool) (test : Fill → Bool) (nodes : List Node) → IsPreorder nodes → (p : ℕ) (node : Node) (m n a b : ℕ)
     → slice_get nodes p ≡ Some node → test node.fill ≡ true → apart m n ≡ true → IsChild nodes m p → IsChild nodes n p
@@ -129,13 +129,13 @@ pub beside_has : (apart : ℕ → ℕ → Bool) (test : Fill → Bool) (nodes : 
 beside_has apart test nodes preorder p node m n a b is holds are_apart first second a_inside b_inside =
     let x : Beside = record { parent = p; first = a; second = b } in
     let here : Among x (pairs p (acts_inside nodes m) (acts_inside nodes n)) =
-        among_pairs p (acts_inside nodes m) (acts_inside nodes n) a b (contained_is_inside nodes preorder m a a_inside) (contained_is_inside nodes preorder n b b_inside) in
+    among_pairs p (acts_inside nodes m) (acts_inside nodes n) a b (contained_is_inside nodes preorder m a a_inside) (contained_is_inside nodes preorder n b b_inside) in
     let by : Among x (by_parents (fill_test test nodes) (acts_inside nodes m) (acts_inside nodes n) first.node.parent second.node.parent) =
-        by_parents_of (fill_test test nodes) (acts_inside nodes m) (acts_inside nodes n) p first.node.parent second.node.parent x first.in_parent second.in_parent
-            (fill_test_of test nodes p node is holds) here in
+    by_parents_of (fill_test test nodes) (acts_inside nodes m) (acts_inside nodes n) p first.node.parent second.node.parent x first.in_parent second.in_parent
+    (fill_test_of test nodes p node is holds) here in
     among_flat (λ x. flat_map (beside_in apart test nodes x) (numbered nodes)) (numbered nodes) (m, first.node) x (among_numbered nodes m first.node first.is)
-        (among_flat (beside_in apart test nodes (m, first.node)) (numbered nodes) (n, second.node) x (among_numbered nodes n second.node second.is)
-            (among_if (apart m n) x (by_parents (fill_test test nodes) (acts_inside nodes m) (acts_inside nodes n) first.node.parent second.node.parent) are_apart by))
+    (among_flat (beside_in apart test nodes (m, first.node)) (numbered nodes) (n, second.node) x (among_numbered nodes n second.node second.is)
+    (among_if (apart m n) x (by_parents (fill_test test nodes) (acts_inside nodes m) (acts_inside nodes n) first.node.parent second.node.parent) are_apart by))
 
 -- ---- earlier statements, and branches in parallel
 
@@ -188,9 +188,9 @@ pub each_earlier : (Q : ℕ → ℕ → ℕ → Type 0) (nodes : List Node) → 
     → (sequence a b : ℕ) → StandsEarlier nodes sequence a b → Q sequence a b
 each_earlier Q nodes preorder facts sequence a b earlier =
     each_among (λ x. Q x.parent x.first x.second) (earliers nodes) facts (record { parent = sequence; first = a; second = b })
-        (beside_has nat_lt runs_in_order nodes preorder sequence earlier.is_sequence.node earlier.earlier earlier.later a b earlier.is_sequence.is
-            (in_order earlier.is_sequence.node.fill earlier.is_sequence.in_order) (lt-ltb earlier.earlier earlier.later earlier.order)
-            earlier.earlier_child earlier.later_child earlier.a_inside earlier.b_inside)
+    (beside_has nat_lt runs_in_order nodes preorder sequence earlier.is_sequence.node earlier.earlier earlier.later a b earlier.is_sequence.is
+    (in_order earlier.is_sequence.node.fill earlier.is_sequence.in_order) (lt-ltb earlier.earlier earlier.later earlier.order)
+    earlier.earlier_child earlier.later_child earlier.a_inside earlier.b_inside)
 
 not_false : (b : Bool) → b ≡ false → not b ≡ true
 not_false b is = ap not is
@@ -199,6 +199,6 @@ pub each_parallel : (Q : ℕ → ℕ → Type 0) (s : Scenario) → IsPreorder s
     → (a b : ℕ) → StandParallel s a b → Q a b
 each_parallel Q s preorder facts a b stand =
     each_among (λ x. Q x.first x.second) (parallels s.nodes) facts (record { parent = stand.block; first = a; second = b })
-        (beside_has (λ m n. not (nat_eq m n)) is_parallel s.nodes preorder stand.block stand.node stand.a_branch stand.b_branch a b stand.is
-            (parallel stand.node.fill stand.parallel) (not_false (nat_eq stand.a_branch stand.b_branch) (ne_eqb stand.a_branch stand.b_branch stand.different))
-            stand.a_child stand.b_child stand.a_inside stand.b_inside)
+    (beside_has (λ m n. not (nat_eq m n)) is_parallel s.nodes preorder stand.block stand.node stand.a_branch stand.b_branch a b stand.is
+    (parallel stand.node.fill stand.parallel) (not_false (nat_eq stand.a_branch stand.b_branch) (ne_eqb stand.a_branch stand.b_branch stand.different))
+    stand.a_child stand.b_child stand.a_inside stand.b_inside)

@@ -1,50 +1,30 @@
 -- Facts: Two actions in sequence, and what commands make of their trace on one lane.
-use Rattle.std.specs.Prelude.{◌≡◌, ℕ, List, [], ◌∷◌, Option, Some, None, true, false}
-use Rattle.pst_model.specs.ModelTree.{ModelTree}
-use Rattle.pst_scen.specs.declared.tree.Fill.TheVariants as fill
-use Rattle.pst_scen.specs.declared.scenario.Scenario.{Scenario}
+use Rattle.std.specs.Prelude.{◌≡◌, ℕ, List, [], ◌∷◌, false}
 use Rattle.pst_scen.specs.declared.event.Event.{Event}
-use Rattle.pst_scen.specs.declared.event.Event.TheVariants.{Start, End}
-use Rattle.pst_scen.specs.Core.{Command, Open, Close, Step, Core, commands_of}
+use Rattle.pst_scen.specs.declared.event.Event.TheVariants.{End}
+use Rattle.pst_scen.specs.Core.{Open, Close, Core, commands_of}
 use Rattle.pst_scen.specs.Trace.{IsLegalTrace, Prefix}
 use Rattle.pst_scen.specs.ValueReading.{Whole, read}
-use Rattle.pst_trials.specs.Parts.{atomic, compound, top, traverse, act_of, root_node, node, scenario_of, start}
+use Rattle.pst_trials.specs.Parts.{start}
 use Rattle.std.proofs.Common.{refl}
 use Rattle.rand_core.specs.Steps.{u32_at, word_bytes}
 use Rattle.rand_core.specs.Pcg32Seed.{pcg32_seed}
 use Rattle.pst_rng.specs.Words.{generator_at}
 use Rattle.pst_expr.specs.Spans.{numbers_from}
-use Rattle.pst_trials.specs.Cores.{CoresAreTried, model, scenario, commands, in_sequence}
+use Rattle.pst_trials.specs.Cores.{model, scenario, commands, in_sequence}
 use Rattle.std.proofs.Common.{zero-le, ◌≤◌}
 use Rattle.pst_scen.specs.Trace.{IsWholeGroup}
-use Rattle.pst_scen.specs.Core.{IsStartable, Opens, Opened, Shut, Closed, Idle, Makes, Done, Then}
+use Rattle.pst_scen.specs.Core.{IsStartable, Opens, Opened, Shut, Closed, Idle, Done, Then}
 use Rattle.pst_trials.proofs.Orders.{itself_alone}
 use Rattle.pst_trials.proofs.Traces.{alone_group}
-use Rattle.std.proofs.Common.{◌≢◌, ◌<◌, ◌⊎◌, suc, zero, inl, inr, nat_eq, sym, ◌∙◌, subst, eq-eqb, lit<, lit≤, true≢false, length, get_or, arith, Contains, not-suc-le-zero, slice_get, replicate, Bool}
-use Rattle.pst_scen.specs.declared.act.Act.{Act as Acting}
-use Rattle.pst_scen.specs.declared.act.Filled.{Filled}
-use Rattle.pst_scen.specs.declared.act.Claimed.{Claimed}
-use Rattle.pst_model.specs.declared.action.Claim.{Claim}
-use Rattle.pst_scen.specs.Growing.{nothing_yet, most_levels, Inner, Leaf, Look}
-use Rattle.pst_scen.specs.Pieces.{Piece, Action, Statement, IsActionWay, IsWay}
-use Rattle.pst_scen.specs.Tree.{AtTop, Below, IsReleased}
-use Rattle.pst_scen.specs.Flows.{Claims, Feeds, Refers, FromFirst, FromSecond}
-use Rattle.pst_scen.specs.Order.{Must, Cause, Before, Buffer, Sequence, Directly, Through, Itself, Linked, Together}
-use Rattle.pst_scen.specs.Conflicts.{Conflict, Resource}
-use Rattle.pst_scen.specs.Trace.{Starts, Ends, Started, Ended, Runs, MayStart, AreFree, StartsOn}
+use Rattle.std.proofs.Common.{◌<◌, suc, zero, inl, nat_eq, sym, subst, lit<, length, get_or, arith, Contains, not-suc-le-zero}
+use Rattle.pst_scen.specs.Order.{Must}
+use Rattle.pst_scen.specs.Trace.{Starts, Ends, Started, Ended, Runs, AreFree}
 use Rattle.pst_scen.specs.Laws.{IsPreorder}
-use Rattle.pst_scen.specs.Scenarios.{IsScenario}
-use Rattle.pst_scen.specs.Plans.{StandParallel, ClashesAlone, KeepsParallel}
-use Rattle.pst_scen.specs.Fits.{Fills, FillsRoot, Fits, HasValues, IsActOf, IsReferenceOf, IsClaimOf, IsSameLeaf}
-use Rattle.pst_scen.specs.Supplied.{Supplied}
-use Rattle.pst_scen.specs.Binds.{bounds_of}
-use Rattle.pst_scen.specs.Constraints.{Holds}
-use Rattle.pst_trials.proofs.Cases.{each, each_both, each_contained, EachOf, none_some, false_true}
-use Rattle.pst_trials.proofs.Branches.{each_parallel}
-use Rattle.pst_trials.proofs.Orders.{each_conflict, each_contend, each_must, each_must_alone, each_cause, each_before, each_feeds, each_refers, each_together}
-use Rattle.pst_trials.proofs.Traces.{When, due, on_start, each_start, each_below, preorder_by, here, runs_by, starts_next, awaits, whole_by, no_joins}
-use Rattle.pst_trials.proofs.Legality.{differ, in_preorder, are_linked, no_firsts, no_previous, no_chains, sources_by, bounds_by, inferred_by, holds_by, none_clashes}
-use Rattle.pst_trials.specs.Parts.{input, output, claim}
+use Rattle.pst_trials.proofs.Cases.{each_contained}
+use Rattle.pst_trials.proofs.Orders.{each_must_alone, each_cause, each_before}
+use Rattle.pst_trials.proofs.Traces.{each_start, each_below, preorder_by, here, runs_by, starts_next, awaits, whole_by}
+use Rattle.pst_trials.proofs.Legality.{differ}
 
 pub reads : read model 2 1 0 (0 ∷ 0 ∷ 0 ∷ []) ≡ Whole scenario
 unfolding generator_at u32_at pcg32_seed word_bytes numbers_from
@@ -62,7 +42,7 @@ in_order = preorder_by scenario.nodes (refl, (refl, (refl, tt)))
 only_first : (a b : ℕ) → Must scenario a b → (a ≡ 0) × (b ≡ 1)
 only_first =
     each_must_alone (λ a b. (a ≡ 0) × (b ≡ 1)) scenario tt (λ a c b first second. (first.0, second.1))
-        (each_cause (λ a b. (a ≡ 0) × (b ≡ 1)) scenario (each_before (λ a b. (a ≡ 0) × (b ≡ 1)) scenario in_order ((refl, refl), tt)) tt)
+    (each_cause (λ a b. (a ≡ 0) × (b ≡ 1)) scenario (each_before (λ a b. (a ≡ 0) × (b ≡ 1)) scenario in_order ((refl, refl), tt)) tt)
 
 own_group : (a : ℕ) → a < 2 → IsWholeGroup scenario (a ∷ [])
 own_group a below = alone_group scenario a below (itself_alone scenario tt a)
@@ -91,11 +71,19 @@ pub legal : IsLegalTrace scenario 1 in_sequence
 legal = record {
   blocks = Ends 1 ∷ Starts (1 ∷ []) (0 ∷ []) ∷ Ends 0 ∷ Starts (0 ∷ []) (0 ∷ []) ∷ [];
   are = refl;
-  legal = ((((tt
-    , starts_next scenario 1 [] 0 0 tt (lit< tt) (lit< tt) tt (awaits scenario [] 0 in_order (tt, tt)) tt tt)
-    , runs_first)
-    , starts_next scenario 1 first_ended 1 0 tt (lit< tt) (lit< tt) ((tt, inl (1, lit< tt, refl)), (tt, tt)) (awaits scenario first_ended 1 in_order ((1, lit< tt, refl), tt)) tt tt)
-    , runs_second);
+  legal = (
+    (
+      (
+        (
+          tt,
+          starts_next scenario 1 [] 0 0 tt (lit< tt) (lit< tt) tt (awaits scenario [] 0 in_order (tt, tt)) tt tt,
+        ),
+        runs_first,
+      ),
+      starts_next scenario 1 first_ended 1 0 tt (lit< tt) (lit< tt) ((tt, inl (1, lit< tt, refl)), (tt, tt)) (awaits scenario first_ended 1 in_order ((1, lit< tt, refl), tt)) tt tt,
+    ),
+    runs_second,
+  );
 }
 
 pub prefix : Prefix scenario 1 (start 0 0 ∷ [])
@@ -169,8 +157,8 @@ all_started : (members : List ℕ) → IsStartable scenario 1 in_sequence member
 all_started members startable =
     let first : (x : ℕ) × (get_or members 0 0 ≡ x) × Contains members x = first_of members startable.ready.group.some in
     each_below (λ x. Contains members x → ⊥) 2
-        ((λ has. startable.ready.fresh 0 has (0, (false, (0, lit< tt, refl)))), ((λ has. startable.ready.fresh 1 has (0, (false, (2, lit< tt, refl)))), tt))
-        first.0 (startable.ready.group.inside first.0 first.2) first.2
+    ((λ has. startable.ready.fresh 0 has (0, (false, (0, lit< tt, refl)))), ((λ has. startable.ready.fresh 1 has (0, (false, (2, lit< tt, refl)))), tt))
+    first.0 (startable.ready.group.inside first.0 first.2) first.2
 
 pub makes : Core scenario 1 commands in_sequence
 makes =

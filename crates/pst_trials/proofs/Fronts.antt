@@ -1,5 +1,5 @@
 -- The lists before a list of zeros, in the order of lists of choices: its fronts.
-use Rattle.std.proofs.Common.{◌≡◌, ℕ, zero, suc, ◌<◌, List, [], ◌∷◌, ◌⊎◌, inl, inr, Bool, true, false, replicate, refl, sym, subst, ap, ap₂, ◌∙◌, arith, not-suc-le-zero, true≢false}
+use Rattle.std.proofs.Common.{◌≡◌, ℕ, zero, suc, ◌<◌, List, [], ◌∷◌, inl, inr, Bool, true, false, replicate, refl, sym, ap, ap₂, ◌∙◌, arith, not-suc-le-zero, true≢false}
 use Rattle.pst_model.specs.ModelTree.{ModelTree}
 use Rattle.pst_scen.specs.declared.scenario.Scenario.{Scenario}
 use Rattle.pst_scen.specs.First.{IsBefore}

@@ -1,53 +1,40 @@
 -- Facts: A consumer of a buffer, whose producer is inferred.
-use Rattle.std.specs.Prelude.{◌≡◌, ℕ, List, [], ◌∷◌, Option, Some, None}
-use Rattle.pst_model.specs.declared.object.ObjectKind.{ObjectKind}
+use Rattle.std.specs.Prelude.{◌≡◌, ℕ, List, [], ◌∷◌, Some, None}
 use Rattle.pst_model.specs.declared.object.ObjectKind.TheVariants.{Buffer}
-use Rattle.pst_model.specs.ModelTree.{ModelTree, ActionTree}
-use Rattle.pst_scen.specs.declared.tree.Fill.TheVariants as fill
 use Rattle.pst_scen.specs.declared.act.Flow.TheVariants.{BufferIn, BufferOut}
 use Rattle.pst_scen.specs.declared.act.Link.TheVariants.{Nothing, Act}
 use Rattle.pst_scen.specs.declared.scenario.Scenario.{Scenario}
-use Rattle.pst_scen.specs.declared.event.Event.{Event}
 use Rattle.pst_scen.specs.declared.event.Event.TheVariants.{End}
 use Rattle.pst_scen.specs.Order.{Must}
 use Rattle.pst_scen.specs.Trace.{MayCome, Starts, IsLegalTrace, IsWhole}
 use Rattle.pst_scen.specs.Supplied.{AreNumbered, linkings}
 use Rattle.pst_scen.specs.Legal.{Legal}
 use Rattle.pst_scen.specs.ValueReading.{Dead, Whole, read}
-use Rattle.pst_trials.specs.Parts.{bare, atomic, compound, top, pool_of, serve, traverse, input, output, act_of, filled, root_node, node, scenario_of, start, places}
+use Rattle.pst_trials.specs.Parts.{input, output, act_of, filled, scenario_of, start, places}
 use Rattle.pst_scen.specs.Reading.{Reading, Reader, Stops, then_read}
 use Rattle.pst_scen.specs.ValueReading.{answer_of}
-use Rattle.std.proofs.Common.{Bool, if◌then◌else◌, le-ltb, ◌≤◌, nat_lt, ◌≡◌, ◌<◌, ◌⊎◌, suc, zero, inl, inr, false, true, nat_eq, refl, sym, ◌∙◌, lit<, lit≤, true≢false, length, get_or, arith, Contains, not-suc-le-zero, slice_get, replicate}
+use Rattle.std.proofs.Common.{Bool, if◌then◌else◌, le-ltb, ◌≤◌, nat_lt, ◌≡◌, ◌<◌, inl, false, true, refl, lit<, lit≤, true≢false, arith, not-suc-le-zero}
 use Rattle.pst_scen.specs.declared.act.Act.{Act as Acting}
-use Rattle.pst_scen.specs.declared.act.Filled.{Filled}
-use Rattle.pst_scen.specs.declared.act.Claimed.{Claimed}
-use Rattle.pst_model.specs.declared.action.Claim.{Claim}
-use Rattle.pst_scen.specs.Growing.{nothing_yet, most_levels, Inner, Leaf, Look}
-use Rattle.pst_scen.specs.Pieces.{Piece, Action, Statement, IsActionWay, IsWay}
-use Rattle.pst_scen.specs.Tree.{AtTop, Below, IsReleased}
-use Rattle.pst_scen.specs.Flows.{Claims, Feeds, Refers}
-use Rattle.pst_scen.specs.Order.{Cause, Before, Buffer, Sequence, Directly, Through, Itself, Linked, Together}
-use Rattle.pst_scen.specs.Flows.{FromFirst, FromSecond}
-use Rattle.pst_scen.specs.Conflicts.{Conflict, Resource}
-use Rattle.pst_scen.specs.Trace.{Ends, Started, Ended, Runs, MayStart, AreFree, StartsOn}
+use Rattle.pst_scen.specs.Growing.{nothing_yet, most_levels, Leaf}
+use Rattle.pst_scen.specs.Pieces.{Action, IsActionWay}
+use Rattle.pst_scen.specs.Flows.{Feeds}
+use Rattle.pst_scen.specs.Order.{Buffer, Directly, Itself}
+use Rattle.pst_scen.specs.Trace.{Ends}
 use Rattle.pst_scen.specs.Laws.{IsPreorder}
 use Rattle.pst_scen.specs.Scenarios.{IsScenario}
-use Rattle.pst_scen.specs.Plans.{StandParallel, ClashesAlone, KeepsParallel}
-use Rattle.pst_scen.specs.Fits.{Fills, FillsRoot, Fits, HasValues, IsActOf, IsReferenceOf, IsClaimOf, IsSameLeaf}
+use Rattle.pst_scen.specs.Fits.{Fills, Fits, IsActOf, IsReferenceOf}
 use Rattle.pst_scen.specs.Supplied.{Supplied}
 use Rattle.pst_scen.specs.Binds.{bounds_of}
-use Rattle.pst_scen.specs.Constraints.{Holds}
-use Rattle.pst_trials.proofs.Cases.{each, each_both, each_contained, EachOf, none_some, false_true}
+use Rattle.pst_trials.proofs.Cases.{each, none_some, false_true}
 use Rattle.pst_trials.proofs.Branches.{each_parallel}
-use Rattle.pst_trials.proofs.Orders.{each_conflict, each_contend, each_must, each_must_alone, each_cause, each_before, each_feeds, each_refers, each_together}
-use Rattle.pst_trials.proofs.Traces.{When, due, on_start, each_start, each_below, preorder_by, here, runs_by, starts_next, awaits, whole_by, no_joins}
+use Rattle.pst_trials.proofs.Orders.{each_must_alone, each_cause, each_before}
+use Rattle.pst_trials.proofs.Traces.{preorder_by, here, runs_by, starts_next, awaits, whole_by}
 use Rattle.pst_trials.proofs.Legality.{differ, in_preorder, are_linked, no_firsts, no_previous, no_chains, sources_by, bounds_by, inferred_by, none_inline, HoldsAt, holds_by, none_clashes}
-use Rattle.pst_trials.specs.Parts.{claim}
 use Rattle.rand_core.specs.Steps.{u32_at, word_bytes}
 use Rattle.rand_core.specs.Pcg32Seed.{pcg32_seed}
 use Rattle.pst_rng.specs.Words.{generator_at}
 use Rattle.pst_expr.specs.Spans.{numbers_from}
-use Rattle.pst_trials.specs.Inference.{InferenceIsTried, flow_model, model, scenario, producer_first}
+use Rattle.pst_trials.specs.Inference.{model, scenario, producer_first}
 
 pub reads : read model 2 1 1 (0 ∷ 0 ∷ 0 ∷ []) ≡ Whole scenario
 unfolding generator_at u32_at pcg32_seed word_bytes numbers_from
@@ -83,7 +70,7 @@ order = Directly 1 0 0 (differ 1 0 refl, Buffer feeds) Itself
 downwards : (a b : ℕ) → Must scenario a b → b < a
 downwards =
     each_must_alone (λ a b. b < a) scenario tt (λ a c b first second. let one : c < a = first in let two : b < c = second in omega arith)
-        (each_cause (λ a b. b < a) scenario (each_before (λ a b. b < a) scenario in_order tt) (lit< tt, tt))
+    (each_cause (λ a b. b < a) scenario (each_before (λ a b. b < a) scenario in_order tt) (lit< tt, tt))
 
 pub not_back : Must scenario 0 1 → ⊥
 not_back must = not-suc-le-zero (downwards 0 1 must)
@@ -97,11 +84,19 @@ pub trace : IsLegalTrace scenario 1 producer_first
 trace = record {
   blocks = Ends 0 ∷ Starts (0 ∷ []) (0 ∷ []) ∷ Ends 1 ∷ Starts (1 ∷ []) (0 ∷ []) ∷ [];
   are = refl;
-  legal = ((((tt
-    , starts_next scenario 1 [] 1 0 tt (lit< tt) (lit< tt) tt (awaits scenario [] 1 in_order tt) (tt, tt) (tt, (tt, tt)))
-    , runs_by (start 1 0 ∷ []) 1 0 false (0, lit< tt, refl) (tt, tt))
-    , starts_next scenario 1 (start 1 0 ∷ End 1 ∷ []) 0 0 tt (lit< tt) (lit< tt) ((tt, inl (1, lit< tt, refl)), (tt, tt)) (awaits scenario (start 1 0 ∷ End 1 ∷ []) 0 in_order tt) ((1, lit< tt, refl), tt) (tt, (tt, tt)))
-    , runs_by (start 1 0 ∷ End 1 ∷ start 0 0 ∷ []) 0 0 false (2, lit< tt, refl) (tt, (tt, (tt, tt))));
+  legal = (
+    (
+      (
+        (
+          tt,
+          starts_next scenario 1 [] 1 0 tt (lit< tt) (lit< tt) tt (awaits scenario [] 1 in_order tt) (tt, tt) (tt, (tt, tt)),
+        ),
+        runs_by (start 1 0 ∷ []) 1 0 false (0, lit< tt, refl) (tt, tt),
+      ),
+      starts_next scenario 1 (start 1 0 ∷ End 1 ∷ []) 0 0 tt (lit< tt) (lit< tt) ((tt, inl (1, lit< tt, refl)), (tt, tt)) (awaits scenario (start 1 0 ∷ End 1 ∷ []) 0 in_order tt) ((1, lit< tt, refl), tt) (tt, (tt, tt)),
+    ),
+    runs_by (start 1 0 ∷ End 1 ∷ start 0 0 ∷ []) 0 0 false (2, lit< tt, refl) (tt, (tt, (tt, tt))),
+  );
 }
 
 pub whole : IsWhole scenario producer_first
@@ -125,9 +120,12 @@ abbrev tree : Scenario
 tree = scenario_of 1 scenario.nodes (act_of 1 (Some 1) (filled BufferIn [] Nothing ∷ []) ∷ []) []
 
 fills : Fills model most_levels (Action 2 None) None (nothing_yet 1) tree
-fills =
-    (_, _, record { type = _; is = refl; instance = 0; inside = (0, lit< tt, refl); content = ([], tt, refl, refl) },
-      (_, (_, _, consumer_way, refl), refl))
+fills = (
+  _,
+  _,
+  record { type = _; is = refl; instance = 0; inside = (0, lit< tt, refl); content = ([], tt, refl, refl) },
+  (_, (_, _, consumer_way, refl), refl),
+)
 
 abbrev consumer : Acting
 consumer = act_of 1 (Some 1) (filled BufferIn [] (Act 1 0) ∷ [])
@@ -143,14 +141,24 @@ producer_reference = record { reference = output 0; is = refl; pool = refl; flow
 
 is_consumer : IsActOf model consumer
 is_consumer = record {
-  type = _; is = refl; fields = tt; many_references = refl; references = each (IsReferenceOf model consumer) consumer.references (consumer_reference, tt);
-  many_claims = refl; claims = λ k claim claimed is. absurd (none_some claim is);
+  type = _;
+  is = refl;
+  fields = tt;
+  many_references = refl;
+  references = each (IsReferenceOf model consumer) consumer.references (consumer_reference, tt);
+  many_claims = refl;
+  claims = λ k claim claimed is. absurd (none_some claim is);
 }
 
 is_producer : IsActOf model producer
 is_producer = record {
-  type = _; is = refl; fields = tt; many_references = refl; references = each (IsReferenceOf model producer) producer.references (producer_reference, tt);
-  many_claims = refl; claims = λ k claim claimed is. absurd (none_some claim is);
+  type = _;
+  is = refl;
+  fields = tt;
+  many_references = refl;
+  references = each (IsReferenceOf model producer) producer.references (producer_reference, tt);
+  many_claims = refl;
+  claims = λ k claim claimed is. absurd (none_some claim is);
 }
 
 fits : Fits model 2 scenario

@@ -1,57 +1,30 @@
 -- Facts: Constraints on what a handle traverses, and constraints that stand at a traversal.
-use Rattle.std.specs.Prelude.{◌≡◌, ℕ, ℤ, pos, List, [], ◌∷◌, Bool, true, false, Option, Some, None}
-use Rattle.pst_expr.specs.declared.ranges.Span.{Span}
-use Rattle.pst_expr.specs.declared.tree.BinaryOp.TheVariants.{Equal, Add}
-use Rattle.pst_expr.specs.Tree.{Variable}
-use Rattle.pst_model.specs.ConstraintTree.{ConstraintTree, SlotTree, Own, Through, Outer}
+use Rattle.std.specs.Prelude.{◌≡◌, ℕ, pos, List, [], ◌∷◌, Option, Some, None}
+use Rattle.pst_model.specs.ConstraintTree.{ConstraintTree, Own, Through, Outer}
 use Rattle.pst_model.specs.ActivityTree.{StepTree, Traverse}
-use Rattle.pst_model.specs.ModelTree.{ModelTree, ActionTree}
 use Rattle.pst_scen.specs.declared.tree.Fill.TheVariants as fill
-use Rattle.pst_scen.specs.declared.scenario.Scenario.{Scenario}
 use Rattle.pst_scen.specs.Standing.{handle_node}
-use Rattle.pst_scen.specs.Slots.{Standing, Known, Lacking, Between, node_slot, inline_slot}
+use Rattle.pst_scen.specs.Slots.{Known, Between, node_slot, inline_slot}
 use Rattle.pst_scen.specs.Constraints.{HasConstraint, Holds, value_at}
 use Rattle.pst_scen.specs.First.{IsLive}
 use Rattle.pst_scen.specs.ValueReading.{Whole, read}
-use Rattle.pst_trials.specs.Parts.{span, field_to, atomic_with, compound, top, traverse_by, number, by, constraint, act_with, root_node, node, scenario_of, places}
+use Rattle.pst_trials.specs.Parts.{span, top, traverse_by, places}
 use Rattle.std.proofs.Common.{refl}
 use Rattle.rand_core.specs.Steps.{u32_at, word_bytes}
 use Rattle.rand_core.specs.Pcg32Seed.{pcg32_seed}
 use Rattle.pst_rng.specs.Words.{generator_at}
 use Rattle.pst_expr.specs.Spans.{numbers_from}
-use Rattle.pst_trials.specs.Inlines.{InlinesAreTried, is_next, is_nine, is_outer, entry, model, scenario, row, choices, begun}
-use Rattle.pst_scen.specs.Constraints.{OfCompound, OfAct, Inline}
+use Rattle.pst_trials.specs.Inlines.{is_next, is_nine, is_outer, entry, model, scenario, row, choices, begun}
+use Rattle.pst_scen.specs.Constraints.{OfCompound, Inline}
 use Rattle.pst_scen.specs.Standing.{IsBranch, AtTop as AtTopStatement}
 use Rattle.pst_scen.specs.declared.tree.Fill.{Fill}
 use Rattle.pst_model.specs.ActivityTree.{ActivityTree}
 use Rattle.pst_scen.specs.Types.{activity_of}
 use Rattle.pst_trials.proofs.Cases.{Each, some_same}
-use Rattle.pst_trials.proofs.Legality.{HoldsAt, EachInline, each_constraint, StandsAtTop, stands_at_top}
-use Rattle.std.proofs.Common.{◌≢◌, ◌<◌, ◌⊎◌, suc, zero, inl, inr, nat_eq, sym, ◌∙◌, subst, eq-eqb, lit<, lit≤, true≢false, length, get_or, arith, Contains, not-suc-le-zero, slice_get, replicate}
-use Rattle.pst_scen.specs.declared.act.Act.{Act as Acting}
-use Rattle.pst_scen.specs.declared.act.Filled.{Filled}
-use Rattle.pst_scen.specs.declared.act.Claimed.{Claimed}
-use Rattle.pst_scen.specs.declared.event.Event.{Event}
-use Rattle.pst_model.specs.declared.action.Claim.{Claim}
-use Rattle.pst_scen.specs.Growing.{nothing_yet, most_levels, Inner, Leaf, Look}
-use Rattle.pst_scen.specs.Pieces.{Piece, Action, Statement, IsActionWay, IsWay}
-use Rattle.pst_scen.specs.Tree.{AtTop, Below, IsReleased}
-use Rattle.pst_scen.specs.Flows.{Claims, Feeds, Refers, FromFirst, FromSecond}
-use Rattle.pst_scen.specs.Order.{Must, Cause, Before, Buffer, Sequence, Directly, Itself, Linked, Together}
-use Rattle.pst_scen.specs.Conflicts.{Conflict, Resource}
-use Rattle.pst_scen.specs.Trace.{Starts, Ends, Started, Ended, Runs, MayStart, AreFree, StartsOn}
-use Rattle.pst_scen.specs.Laws.{IsPreorder}
-use Rattle.pst_scen.specs.Scenarios.{IsScenario}
-use Rattle.pst_scen.specs.Plans.{StandParallel, ClashesAlone, KeepsParallel}
-use Rattle.pst_scen.specs.Fits.{Fills, FillsRoot, Fits, HasValues, IsActOf, IsReferenceOf, IsClaimOf, IsSameLeaf}
-use Rattle.pst_scen.specs.Supplied.{Supplied}
-use Rattle.pst_scen.specs.Binds.{bounds_of}
-use Rattle.pst_trials.proofs.Cases.{each, each_both, each_contained, EachOf, none_some, false_true}
-use Rattle.pst_trials.proofs.Branches.{each_parallel}
-use Rattle.pst_trials.proofs.Orders.{each_conflict, each_contend, each_must, each_must_alone, each_cause, each_before, each_feeds, each_refers, each_together}
-use Rattle.pst_trials.proofs.Traces.{When, due, on_start, each_start, each_below, preorder_by, here, runs_by, starts_next, awaits, whole_by, no_joins}
-use Rattle.pst_trials.proofs.Legality.{differ, in_preorder, are_linked, no_firsts, no_previous, no_chains, sources_by, bounds_by, inferred_by, holds_by, none_clashes}
-use Rattle.pst_trials.specs.Parts.{input, output, claim}
+use Rattle.pst_trials.proofs.Legality.{HoldsAt, EachInline, StandsAtTop, stands_at_top}
+use Rattle.std.proofs.Common.{sym, subst, lit<, true≢false, Contains, slice_get}
+use Rattle.pst_trials.proofs.Cases.{each, each_contained, EachOf, false_true}
+use Rattle.pst_trials.proofs.Legality.{holds_by}
 
 pub reads : read model 1 1 0 choices ≡ Whole row
 unfolding generator_at u32_at pcg32_seed word_bytes numbers_from
@@ -132,10 +105,13 @@ abbrev steps : List StepTree
 steps = traverse_by 0 0 ∷ Traverse 0 None (is_nine ∷ []) ∷ Traverse 0 None (is_outer ∷ []) ∷ []
 
 by_index : Each (λ index step. (n : ℕ) → IsBranch row.nodes 0 index n → Inlined n 0 step) steps
-by_index =
-    ((λ n branch. subst (λ n. Inlined n 0 (traverse_by 0 0)) (some_same 1 n branch) (inline_of 1 0 0 (Some 0) [] tt)),
-      ((λ n branch. subst (λ n. Inlined n 0 (Traverse 0 None (is_nine ∷ []))) (some_same 2 n branch) (inline_of 2 0 0 None (is_nine ∷ []) (refl, tt))),
-        ((λ n branch. subst (λ n. Inlined n 0 (Traverse 0 None (is_outer ∷ []))) (some_same 3 n branch) (inline_of 3 0 0 None (is_outer ∷ []) (refl, tt))), tt)))
+by_index = (
+  (λ n branch. subst (λ n. Inlined n 0 (traverse_by 0 0)) (some_same 1 n branch) (inline_of 1 0 0 (Some 0) [] tt)),
+  (
+    (λ n branch. subst (λ n. Inlined n 0 (Traverse 0 None (is_nine ∷ []))) (some_same 2 n branch) (inline_of 2 0 0 None (is_nine ∷ []) (refl, tt))),
+    ((λ n branch. subst (λ n. Inlined n 0 (Traverse 0 None (is_outer ∷ []))) (some_same 3 n branch) (inline_of 3 0 0 None (is_outer ∷ []) (refl, tt))), tt),
+  ),
+)
 
 -- the root is the only compound action
 abbrev IsRoot : ℕ → Fill → Type 0
@@ -153,7 +129,7 @@ inlines n top action handle inline indices k stands contained =
     let is : slice_get steps t.index ≡ Some (Traverse action handle inline) = subst (λ (a : ActivityTree). slice_get a.steps t.index ≡ Some (Traverse action handle inline)) (sym same) t.is in
     let branch : IsBranch row.nodes 0 t.index n = subst (λ top. IsBranch row.nodes top t.index n) root.0 t.branch in
     let holds : HoldsAt (inline_slot model row n 0 []) k =
-        each (λ index step. (n : ℕ) → IsBranch row.nodes 0 index n → Inlined n 0 step) steps by_index t.index (Traverse action handle inline) is n branch action handle inline k refl contained in
+    each (λ index step. (n : ℕ) → IsBranch row.nodes 0 index n → Inlined n 0 step) steps by_index t.index (Traverse action handle inline) is n branch action handle inline k refl contained in
     subst (λ top. HoldsAt (inline_slot model row n top indices) k) (sym root.0) (subst (λ l. HoldsAt (inline_slot model row n 0 l) k) (sym t.no_turns) holds)
 
 pub all_hold : Holds model row

@@ -1,60 +1,39 @@
 -- Facts: Blocks that wait for some of their branches, or for none.
-use Rattle.std.specs.Prelude.{◌≡◌, ℕ, List, [], ◌∷◌, Bool, true, false, Option, Some, None}
-use Rattle.pst_model.specs.declared.activity.Join.{Join}
+use Rattle.std.specs.Prelude.{◌≡◌, ℕ, List, [], ◌∷◌, Bool, true, false, Some}
 use Rattle.pst_model.specs.declared.activity.Join.TheVariants.{Fixed, Choose}
-use Rattle.pst_model.specs.ActivityTree.{StepTree, StepRow, Parallel, Joined}
-use Rattle.pst_model.specs.ModelTree.{ModelTree}
+use Rattle.pst_model.specs.ActivityTree.{Joined}
 use Rattle.pst_scen.specs.declared.tree.Fill.{Fill}
 use Rattle.pst_scen.specs.declared.tree.Fill.TheVariants as fill
-use Rattle.pst_scen.specs.declared.act.Flow.TheVariants.{BufferIn, BufferOut}
-use Rattle.pst_scen.specs.declared.act.Link.TheVariants.{Nothing, Act}
 use Rattle.pst_scen.specs.declared.scenario.Scenario.{Scenario}
 use Rattle.pst_scen.specs.declared.event.Event.{Event}
 use Rattle.pst_scen.specs.declared.event.Event.TheVariants.{End}
 use Rattle.pst_scen.specs.Binds.{bounds_of}
 use Rattle.pst_scen.specs.Order.{Before, Must}
 use Rattle.pst_scen.specs.Trace.{MayCome, Starts, IsLegalTrace, IsWhole}
-use Rattle.pst_scen.specs.Plans.{CanRun}
-use Rattle.pst_scen.specs.Legal.{Legal}
 use Rattle.pst_scen.specs.ValueReading.{Dead, Whole, read}
-use Rattle.pst_trials.specs.Parts.{atomic, compound, top, traverse, traverse_by, row, act_of, filled, root_node, node, scenario_of, start, places}
-use Rattle.pst_trials.specs.Inference.{flow_model}
+use Rattle.pst_trials.specs.Parts.{traverse_by, row, start, places}
 use Rattle.std.proofs.Common.{refl}
 use Rattle.rand_core.specs.Steps.{u32_at, word_bytes}
 use Rattle.rand_core.specs.Pcg32Seed.{pcg32_seed}
 use Rattle.pst_rng.specs.Words.{generator_at}
 use Rattle.pst_expr.specs.Spans.{numbers_from}
-use Rattle.pst_trials.specs.Joins.{JoinsAreTried, model, branches, scenario, choices, third_before_second, across, crossed, second_first}
+use Rattle.pst_trials.specs.Joins.{model, branches, scenario, choices, third_before_second, across, crossed, second_first}
 use Rattle.pst_scen.specs.declared.event.Event.TheVariants.{Start}
 use Rattle.pst_scen.specs.Tree.{StandsEarlier, Directly as NearestDirectly}
 use Rattle.pst_trials.proofs.Cases.{some_same}
 use Rattle.pst_trials.proofs.Branches.{earliers, each_earlier}
 use Rattle.pst_trials.proofs.Traces.{each_end}
 use Rattle.pst_trials.proofs.Released.{not_released, earlier_ends}
-use Rattle.std.proofs.Common.{◌≢◌, ◌<◌, ◌⊎◌, suc, zero, inl, inr, nat_eq, sym, ◌∙◌, subst, eq-eqb, lit<, lit≤, true≢false, length, get_or, arith, Contains, not-suc-le-zero, slice_get, replicate}
-use Rattle.pst_scen.specs.declared.act.Act.{Act as Acting}
-use Rattle.pst_scen.specs.declared.act.Filled.{Filled}
-use Rattle.pst_scen.specs.declared.act.Claimed.{Claimed}
-use Rattle.pst_model.specs.declared.action.Claim.{Claim}
-use Rattle.pst_scen.specs.Growing.{nothing_yet, most_levels, Inner, Leaf, Look}
-use Rattle.pst_scen.specs.Pieces.{Piece, Action, Statement, IsActionWay, IsWay}
+use Rattle.std.proofs.Common.{◌<◌, inl, nat_eq, sym, subst, eq-eqb, lit<, slice_get}
 use Rattle.pst_scen.specs.Tree.{AtTop, Below, IsReleased}
-use Rattle.pst_scen.specs.Flows.{Claims, Feeds, Refers, FromFirst, FromSecond}
-use Rattle.pst_scen.specs.Order.{Buffer, Cause, Sequence, Directly, Through, Itself, Linked, Together}
-use Rattle.pst_scen.specs.Conflicts.{Conflict, Resource}
-use Rattle.pst_scen.specs.Trace.{Ends, Started, Ended, Runs, MayStart, AreFree, StartsOn}
+use Rattle.pst_scen.specs.Flows.{Feeds}
+use Rattle.pst_scen.specs.Order.{Buffer, Sequence, Directly, Through, Itself}
+use Rattle.pst_scen.specs.Trace.{Ends, Ended}
 use Rattle.pst_scen.specs.Laws.{IsPreorder}
-use Rattle.pst_scen.specs.Scenarios.{IsScenario}
-use Rattle.pst_scen.specs.Plans.{StandParallel, ClashesAlone, KeepsParallel}
-use Rattle.pst_scen.specs.Fits.{Fills, FillsRoot, Fits, HasValues, IsActOf, IsReferenceOf, IsClaimOf, IsSameLeaf}
-use Rattle.pst_scen.specs.Supplied.{Supplied}
-use Rattle.pst_scen.specs.Constraints.{Holds}
-use Rattle.pst_trials.proofs.Cases.{each, each_both, each_contained, EachOf, none_some, false_true}
-use Rattle.pst_trials.proofs.Branches.{each_parallel}
-use Rattle.pst_trials.proofs.Orders.{each_conflict, each_contend, each_must, each_must_alone, each_cause, each_before, each_feeds, each_refers, each_together}
-use Rattle.pst_trials.proofs.Traces.{When, due, on_start, each_start, each_below, preorder_by, here, runs_by, starts_next, awaits, whole_by, no_joins}
-use Rattle.pst_trials.proofs.Legality.{differ, in_preorder, are_linked, no_firsts, no_previous, no_chains, sources_by, bounds_by, inferred_by, holds_by, none_clashes}
-use Rattle.pst_trials.specs.Parts.{input, output, claim}
+use Rattle.pst_trials.proofs.Cases.{EachOf}
+use Rattle.pst_trials.proofs.Orders.{each_before}
+use Rattle.pst_trials.proofs.Traces.{When, due, each_below, preorder_by, here, runs_by, starts_next, whole_by, no_joins}
+use Rattle.pst_trials.proofs.Legality.{differ}
 
 pub reads_named : read (model (Joined true (Fixed 1) branches)) 3 1 0 choices ≡ Whole (scenario (fill.Joined true 1))
 unfolding generator_at u32_at pcg32_seed word_bytes numbers_from
@@ -98,7 +77,8 @@ in_order block = preorder_by (scenario block).nodes (refl, (refl, (refl, (refl, 
 earlier : (block : Fill) → StandsEarlier (scenario block).nodes 0 0 2
 earlier block = record {
   is_sequence = record { node = _; is = refl; in_order = tt };
-  earlier = 1; later = 4;
+  earlier = 1;
+  later = 4;
   earlier_child = record { node = _; is = refl; in_parent = refl };
   later_child = record { node = _; is = refl; in_parent = refl };
   order = lit< tt;
@@ -109,7 +89,8 @@ earlier block = record {
 second_earlier : (block : Fill) → StandsEarlier (scenario block).nodes 0 1 2
 second_earlier block = record {
   is_sequence = record { node = _; is = refl; in_order = tt };
-  earlier = 1; later = 4;
+  earlier = 1;
+  later = 4;
   earlier_child = record { node = _; is = refl; in_parent = refl };
   later_child = record { node = _; is = refl; in_parent = refl };
   order = lit< tt;
@@ -122,7 +103,13 @@ awaited = record { sequence = 0; earlier = earlier (fill.Joined true 1); awaited
 
 is_released : IsReleased named.nodes 0 1
 is_released = record {
-  block = 1; branch = 3; node = _; parallel = true; joined = 1; is = refl; join = refl;
+  block = 1;
+  branch = 3;
+  node = _;
+  parallel = true;
+  joined = 1;
+  is = refl;
+  join = refl;
   child = record { node = _; is = refl; in_parent = refl };
   free = λ set. set refl;
   inside = record { leaf = 3; node = _; is = refl; of_act = refl; under = AtTop };
@@ -141,15 +128,27 @@ pub trace : IsLegalTrace named 1 third_before_second
 trace = record {
   blocks = Ends 1 ∷ Starts (1 ∷ []) (0 ∷ []) ∷ Ends 2 ∷ Starts (2 ∷ []) (0 ∷ []) ∷ Ends 0 ∷ Starts (0 ∷ []) (0 ∷ []) ∷ [];
   are = refl;
-  legal = ((((((tt
-    , starts_next named 1 [] 0 0 tt (lit< tt) (lit< tt) tt (waits [] 0 ((λ b. tt), ((λ b. tt), tt))) tt tt)
-    , runs_by (start 0 0 ∷ []) 0 0 false (0, lit< tt, refl) (tt, tt))
-    , starts_next named 1 (start 0 0 ∷ End 0 ∷ []) 2 0 tt (lit< tt) (lit< tt) ((tt, inl (1, lit< tt, refl)), (tt, tt))
-        (waits (start 0 0 ∷ End 0 ∷ []) 2 ((λ b. (1, lit< tt, refl)), ((λ b. absurd (released b)), tt))) tt tt)
-    , runs_by (start 0 0 ∷ End 0 ∷ start 2 0 ∷ []) 2 0 false (2, lit< tt, refl) (tt, (tt, (tt, tt))))
-    , starts_next named 1 (start 0 0 ∷ End 0 ∷ start 2 0 ∷ End 2 ∷ []) 1 0 tt (lit< tt) (lit< tt) ((tt, inl (1, lit< tt, refl)), (tt, ((tt, inl (3, lit< tt, refl)), (tt, tt))))
-        (waits (start 0 0 ∷ End 0 ∷ start 2 0 ∷ End 2 ∷ []) 1 ((λ b. tt), ((λ b. tt), tt))) tt tt)
-    , runs_by (start 0 0 ∷ End 0 ∷ start 2 0 ∷ End 2 ∷ start 1 0 ∷ []) 1 0 false (4, lit< tt, refl) (tt, (tt, (tt, (tt, (tt, tt))))));
+  legal = (
+    (
+      (
+        (
+          (
+            (
+              tt,
+              starts_next named 1 [] 0 0 tt (lit< tt) (lit< tt) tt (waits [] 0 ((λ b. tt), ((λ b. tt), tt))) tt tt,
+            ),
+            runs_by (start 0 0 ∷ []) 0 0 false (0, lit< tt, refl) (tt, tt),
+          ),
+          starts_next named 1 (start 0 0 ∷ End 0 ∷ []) 2 0 tt (lit< tt) (lit< tt) ((tt, inl (1, lit< tt, refl)), (tt, tt))
+              (waits (start 0 0 ∷ End 0 ∷ []) 2 ((λ b. (1, lit< tt, refl)), ((λ b. absurd (released b)), tt))) tt tt,
+        ),
+        runs_by (start 0 0 ∷ End 0 ∷ start 2 0 ∷ []) 2 0 false (2, lit< tt, refl) (tt, (tt, (tt, tt))),
+      ),
+      starts_next named 1 (start 0 0 ∷ End 0 ∷ start 2 0 ∷ End 2 ∷ []) 1 0 tt (lit< tt) (lit< tt) ((tt, inl (1, lit< tt, refl)), (tt, ((tt, inl (3, lit< tt, refl)), (tt, tt))))
+          (waits (start 0 0 ∷ End 0 ∷ start 2 0 ∷ End 2 ∷ []) 1 ((λ b. tt), ((λ b. tt), tt))) tt tt,
+    ),
+    runs_by (start 0 0 ∷ End 0 ∷ start 2 0 ∷ End 2 ∷ start 1 0 ∷ []) 1 0 false (4, lit< tt, refl) (tt, (tt, (tt, (tt, (tt, tt))))),
+  );
 }
 
 pub whole : IsWhole named third_before_second
@@ -186,7 +185,13 @@ crossed_in_order block = preorder_by (crossed block).nodes (refl, (refl, (refl, 
 
 crossed_is_released : IsReleased free.nodes 0 0
 crossed_is_released = record {
-  block = 1; branch = 2; node = _; parallel = true; joined = 0; is = refl; join = refl;
+  block = 1;
+  branch = 2;
+  node = _;
+  parallel = true;
+  joined = 0;
+  is = refl;
+  join = refl;
   child = record { node = _; is = refl; in_parent = refl };
   free = λ set. set refl;
   inside = record { leaf = 2; node = _; is = refl; of_act = refl; under = AtTop };
@@ -211,11 +216,19 @@ pub crossed_trace : IsLegalTrace free 1 second_first
 crossed_trace = record {
   blocks = Ends 0 ∷ Starts (0 ∷ []) (0 ∷ []) ∷ Ends 1 ∷ Starts (1 ∷ []) (0 ∷ []) ∷ [];
   are = refl;
-  legal = ((((tt
-    , starts_next free 1 [] 1 0 tt (lit< tt) (lit< tt) tt (λ x before. absurd (nothing_before x 1 before)) (tt, tt) (tt, (tt, tt)))
-    , runs_by (start 1 0 ∷ []) 1 0 false (0, lit< tt, refl) (tt, tt))
-    , starts_next free 1 (start 1 0 ∷ End 1 ∷ []) 0 0 tt (lit< tt) (lit< tt) ((tt, inl (1, lit< tt, refl)), (tt, tt)) (λ x before. absurd (nothing_before x 0 before)) ((1, lit< tt, refl), tt) (tt, (tt, tt)))
-    , runs_by (start 1 0 ∷ End 1 ∷ start 0 0 ∷ []) 0 0 false (2, lit< tt, refl) (tt, (tt, (tt, tt))));
+  legal = (
+    (
+      (
+        (
+          tt,
+          starts_next free 1 [] 1 0 tt (lit< tt) (lit< tt) tt (λ x before. absurd (nothing_before x 1 before)) (tt, tt) (tt, (tt, tt)),
+        ),
+        runs_by (start 1 0 ∷ []) 1 0 false (0, lit< tt, refl) (tt, tt),
+      ),
+      starts_next free 1 (start 1 0 ∷ End 1 ∷ []) 0 0 tt (lit< tt) (lit< tt) ((tt, inl (1, lit< tt, refl)), (tt, tt)) (λ x before. absurd (nothing_before x 0 before)) ((1, lit< tt, refl), tt) (tt, (tt, tt)),
+    ),
+    runs_by (start 1 0 ∷ End 1 ∷ start 0 0 ∷ []) 0 0 false (2, lit< tt, refl) (tt, (tt, (tt, tt))),
+  );
 }
 
 pub crossed_whole : IsWhole free second_first
@@ -226,7 +239,8 @@ plain_crossed_before = record {
   sequence = 0;
   earlier = record {
     is_sequence = record { node = _; is = refl; in_order = tt };
-    earlier = 1; later = 3;
+    earlier = 1;
+    later = 3;
     earlier_child = record { node = _; is = refl; in_parent = refl };
     later_child = record { node = _; is = refl; in_parent = refl };
     order = lit< tt;

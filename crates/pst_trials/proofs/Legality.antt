@@ -1,8 +1,8 @@
 -- The parts of a legal scenario, where the scenario and its model are written out.
-use Rattle.std.proofs.Common.{◌≡◌, ◌≢◌, ℕ, zero, suc, ◌<◌, ◌≤◌, ℤ, List, [], ◌∷◌, ◌++◌, ◌⊎◌, inl, inr, Option, Some, None, Bool, true, false, ◌&&◌, ◌||◌, not, nat_eq, nat_lt, if◌then◌else◌, slice_get, length, map, refl, sym, subst, ap, ◌∙◌, arith, Contains, AllPairs, option_and_then, T, lit<, ltb→lt, eqb→eq, eq-eqb, true≢false, le_of_suc-le-suc, not-suc-le-zero}
+use Rattle.std.proofs.Common.{◌≡◌, ◌≢◌, ℕ, zero, suc, ℤ, List, [], ◌⊎◌, inl, inr, Option, Some, None, Bool, true, false, ◌||◌, nat_eq, slice_get, refl, sym, subst, ◌∙◌, Contains, option_and_then, T, eqb→eq, eq-eqb, true≢false, not-suc-le-zero}
 use Rattle.pst_model.specs.ConstraintTree.{SlotTree, ConstraintTree}
 use Rattle.pst_model.specs.ActivityTree.{StepTree, Traverse, Sequence, Parallel, Schedule, Joined, Select, Repeat, If, Match, BranchTree, MakeBranch, ArmTree, MakeArm, StepRow, NoSteps, MoreSteps, BranchRow, NoBranches, MoreBranches, ArmRow, NoArms, MoreArms, MaybeStep, NoStep, SomeStep, steps_of, branches_of, arms_of, step_of, branch_step, arm_step, ActivityTree}
-use Rattle.pst_model.specs.ModelTree.{ModelTree, ActionTree, ObjectTree, ContentTree, Atomic, Compound}
+use Rattle.pst_model.specs.ModelTree.{ModelTree, ActionTree, ContentTree, Atomic, Compound}
 use Rattle.pst_scen.specs.declared.tree.Node.{Node}
 use Rattle.pst_scen.specs.declared.tree.Fill.{Fill}
 use Rattle.pst_scen.specs.declared.tree.Fill.TheVariants as fill
@@ -15,11 +15,10 @@ use Rattle.pst_scen.specs.declared.act.Link.{Link}
 use Rattle.pst_scen.specs.declared.act.Link.TheVariants as link
 use Rattle.pst_scen.specs.declared.scenario.Scenario.{Scenario}
 use Rattle.std.specs.Option.{option_map}
-use Rattle.pst_scen.specs.Tree.{IsNode, IsChild, StandsUnder, AtTop, Below, Contains-act}
+use Rattle.pst_scen.specs.Tree.{StandsUnder, AtTop, Below}
 use Rattle.pst_scen.specs.Types.{type_of, activity_in, activity_of, pool_object, is_state_pool, is_output}
-use Rattle.pst_scen.specs.Flows.{Refers, Claims, IsClaim}
 use Rattle.pst_scen.specs.Conflicts.{Uses}
-use Rattle.pst_scen.specs.Scenarios.{reference_at, AreInPreorder, IsLinkOf, IsStream, IsLinked, AreLinked, HasFirsts}
+use Rattle.pst_scen.specs.Scenarios.{reference_at, AreInPreorder, IsLinkOf, IsStream, AreLinked, HasFirsts}
 use Rattle.pst_scen.specs.Standing.{IsBranch, StandsFor, AtTop as AtTopStatement, Below as BelowStatement, InTurn, step_below}
 use Rattle.pst_scen.specs.Slots.{Standing, node_slot, act_slot, inline_slot, output_slot, resource_slot, first_object_slot}
 use Rattle.pst_scen.specs.Pieces.{is_true}
@@ -29,7 +28,7 @@ use Rattle.pst_scen.specs.Supplied.{is_source_for, IsSource, ArePreviousOnce, Co
 use Rattle.pst_scen.specs.SupplyReading.{is_state}
 use Rattle.pst_scen.specs.Plans.{ClashesAlone}
 use Rattle.pst_trials.specs.Parts.{scenario_of}
-use Rattle.pst_trials.proofs.Cases.{Each, each, each_reference, EachOf, each_contained, each_among, Among, some_same, none_some, false_true}
+use Rattle.pst_trials.proofs.Cases.{Each, each, each_reference, EachOf, each_contained, some_same, none_some, false_true}
 use Rattle.pst_trials.proofs.Branches.{is_below, holds_of, parent_at}
 use Rattle.pst_trials.proofs.Orders.{referrals, each_refers}
 use Rattle.pst_trials.proofs.Traces.{When, due}
@@ -285,7 +284,7 @@ plain_standing : (m : ModelTree) (nodes : List Node) → IsPlainModel m → (top
 plain_standing m nodes plain top _ _ _ (AtTopStatement n index action instance fields activity node step is_node compound has branch is) =
     let t : (type : ActionTree) × (type_of m action ≡ Some type) × (activity_in type.content ≡ Some activity) = typed_activity (type_of m action) activity has in
     each (λ k step. IsPlain step) activity.steps
-        (plain_content t.0.content activity (each (λ k type. IsPlainContent type.content) m.actions plain action t.0 t.1) t.2) index step is
+    (plain_content t.0.content activity (each (λ k type. IsPlainContent type.content) m.actions plain action t.0 t.1) t.2) index step is
 plain_standing m nodes plain top _ _ _ (BelowStatement n parent index node above step indices stands is_node branch is) =
     plain_below node.fill above index step (plain_standing m nodes plain top parent above indices stands) is
 plain_standing m nodes plain top _ _ _ (InTurn n turn parent index node count body indices stands child is_node turning below) =
@@ -350,29 +349,29 @@ none_inline P m s plain n top action handle inline indices k stands contained =
 pub each_constraint : (P : Property) (m : ModelTree) (s : Scenario) → EachConstraint P m s → (k : ConstraintTree) (standing : SlotTree → Standing) → HasConstraint m s k standing → P standing k
 each_constraint P m s all _ _ (OfCompound n action instance fields node type k is compound of_type contained) =
     each_contained (P (node_slot m s n)) type.constraints
-        (on_some (λ type. EachOf (P (node_slot m s n)) type.constraints) (type_of m action) type
-            (subst (CompoundHolds P m s n) compound (each (λ n node. CompoundHolds P m s n node.fill) s.nodes all.compounds n node is)) of_type) k contained
+    (on_some (λ type. EachOf (P (node_slot m s n)) type.constraints) (type_of m action) type
+    (subst (CompoundHolds P m s n) compound (each (λ n node. CompoundHolds P m s n node.fill) s.nodes all.compounds n node is)) of_type) k contained
 each_constraint P m s all _ _ (OfAct a act type k is contained) =
     each_contained (P (act_slot m s act)) type.constraints
-        (on_some (λ type. EachOf (P (act_slot m s act)) type.constraints) (type_of m act.action) type
-            (each (λ a act. ActHolds P m s act) s.actions all.acts a act is.is) is.of_type) k contained
+    (on_some (λ type. EachOf (P (act_slot m s act)) type.constraints) (type_of m act.action) type
+    (each (λ a act. ActHolds P m s act) s.actions all.acts a act is.is) is.of_type) k contained
 each_constraint P m s all _ _ (OfOutput a r filled object k is output has contained) =
     each_contained (P (output_slot m s filled)) object.constraints
-        (on_some (λ object. EachOf (P (output_slot m s filled)) object.constraints) (pool_object m filled.pool) object
-            (due (is_output filled.flow) (OnSome (λ object. EachOf (P (output_slot m s filled)) object.constraints) (pool_object m filled.pool)) output
-                (each_reference (λ a r filled. OutputHolds P m s filled) s.actions all.outputs a r filled is)) has) k contained
+    (on_some (λ object. EachOf (P (output_slot m s filled)) object.constraints) (pool_object m filled.pool) object
+    (due (is_output filled.flow) (OnSome (λ object. EachOf (P (output_slot m s filled)) object.constraints) (pool_object m filled.pool)) output
+    (each_reference (λ a r filled. OutputHolds P m s filled) s.actions all.outputs a r filled is)) has) k contained
 each_constraint P m s all _ _ (OfClaim a c act type claim object k is is_claim is_object contained) =
     let claims : Each (λ c claim. OnSome (λ object. EachOf (P (resource_slot m act c)) object.constraints) (slice_get m.objects claim.object)) type.claims =
-        on_some (λ type. Each (λ c claim. OnSome (λ object. EachOf (P (resource_slot m act c)) object.constraints) (slice_get m.objects claim.object)) type.claims) (type_of m act.action) type
-            (each (λ a act. ClaimsHold P m act) s.actions all.claims a act is.is) is.of_type in
+    on_some (λ type. Each (λ c claim. OnSome (λ object. EachOf (P (resource_slot m act c)) object.constraints) (slice_get m.objects claim.object)) type.claims) (type_of m act.action) type
+    (each (λ a act. ClaimsHold P m act) s.actions all.claims a act is.is) is.of_type in
     each_contained (P (resource_slot m act c)) object.constraints
-        (on_some (λ object. EachOf (P (resource_slot m act c)) object.constraints) (slice_get m.objects claim.object) object
-            (each (λ c claim. OnSome (λ object. EachOf (P (resource_slot m act c)) object.constraints) (slice_get m.objects claim.object)) type.claims claims c claim is_claim) is_object) k contained
+    (on_some (λ object. EachOf (P (resource_slot m act c)) object.constraints) (slice_get m.objects claim.object) object
+    (each (λ c claim. OnSome (λ object. EachOf (P (resource_slot m act c)) object.constraints) (slice_get m.objects claim.object)) type.claims claims c claim is_claim) is_object) k contained
 each_constraint P m s all _ _ (OfFirst a r filled object k is state has contained) =
     each_contained (P (first_object_slot m s filled.pool)) object.constraints
-        (on_some (λ object. EachOf (P (first_object_slot m s filled.pool)) object.constraints) (pool_object m filled.pool) object
-            (due (is_state_pool m filled.pool) (OnSome (λ object. EachOf (P (first_object_slot m s filled.pool)) object.constraints) (pool_object m filled.pool)) state
-                (each_reference (λ a r filled. FirstHolds P m s filled) s.actions all.firsts a r filled is)) has) k contained
+    (on_some (λ object. EachOf (P (first_object_slot m s filled.pool)) object.constraints) (pool_object m filled.pool) object
+    (due (is_state_pool m filled.pool) (OnSome (λ object. EachOf (P (first_object_slot m s filled.pool)) object.constraints) (pool_object m filled.pool)) state
+    (each_reference (λ a r filled. FirstHolds P m s filled) s.actions all.firsts a r filled is)) has) k contained
 each_constraint P m s all _ _ (Inline n top action handle inline indices k stands contained) =
     all.inlines n top action handle inline indices k stands contained
 
@@ -391,8 +390,8 @@ none_clashes s facts a clash =
     let is_second : slice_get clash.is_first.act.claims clash.second ≡ Some clash.other = subst (λ act. slice_get act.claims clash.second ≡ Some clash.other) same clash.is_second.is in
     let own : AreOwnClaims clash.is_first.act.claims = each (λ a act. AreOwnClaims act.claims) s.actions facts a clash.is_first.act clash.is_first.is_act in
     each (λ j other. (clash.first ≢ j) → clash.one.pool ≡ other.pool → clash.one.instance ≡ other.instance → (clash.one.lock ≡ true) ⊎ (other.lock ≡ true) → ⊥) clash.is_first.act.claims
-        (each (λ i one. Each (λ j other. (i ≢ j) → one.pool ≡ other.pool → one.instance ≡ other.instance → (one.lock ≡ true) ⊎ (other.lock ≡ true) → ⊥) clash.is_first.act.claims) clash.is_first.act.claims own clash.first clash.one clash.is_first.is)
-        clash.second clash.other is_second clash.different clash.same_pool clash.same_instance clash.by_lock
+    (each (λ i one. Each (λ j other. (i ≢ j) → one.pool ≡ other.pool → one.instance ≡ other.instance → (one.lock ≡ true) ⊎ (other.lock ≡ true) → ⊥) clash.is_first.act.claims) clash.is_first.act.claims own clash.first clash.one clash.is_first.is)
+    clash.second clash.other is_second clash.different clash.same_pool clash.same_instance clash.by_lock
 
 -- ---- statements of activities that have traversals alone
 
@@ -449,7 +448,17 @@ pub stands_at_top : (m : ModelTree) (nodes : List Node) → IsFlatModel m → (t
 stands_at_top m nodes flat top _ _ _ (AtTopStatement n index action instance fields activity node step is_node compound has branch is) =
     let t : (type : ActionTree) × (type_of m action ≡ Some type) × (activity_in type.content ≡ Some activity) = typed_activity (type_of m action) activity has in
     record {
-      index = index; action = action; instance = instance; fields = fields; activity = activity; node = node; is_node = is_node; compound = compound; has = has; branch = branch; is = is;
+      index = index;
+      action = action;
+      instance = instance;
+      fields = fields;
+      activity = activity;
+      node = node;
+      is_node = is_node;
+      compound = compound;
+      has = has;
+      branch = branch;
+      is = is;
       traverse = each (λ k step. is_traverse step ≡ true) activity.steps (flat_content t.0.content activity (each (λ k type. IsFlatContent type.content) m.actions flat action t.0 t.1) t.2) index step is;
       no_turns = refl;
     }

@@ -1,40 +1,33 @@
 -- Facts: Two actions that lock, or share, one resource instance, in parallel and in any order.
-use Rattle.std.specs.Prelude.{◌≡◌, ℕ, List, [], ◌∷◌, Bool, true, false, Option, Some, None}
+use Rattle.std.specs.Prelude.{◌≡◌, ℕ, [], ◌∷◌, Bool, true, false, Some, None}
 use Rattle.pst_model.specs.declared.object.ObjectKind.TheVariants.{Resource}
-use Rattle.pst_model.specs.ActivityTree.{StepTree, StepRow, Parallel, Schedule}
-use Rattle.pst_model.specs.ModelTree.{ModelTree}
+use Rattle.pst_model.specs.ActivityTree.{Parallel, Schedule}
 use Rattle.pst_scen.specs.declared.tree.Fill.{Fill}
 use Rattle.pst_scen.specs.declared.tree.Fill.TheVariants as fill
-use Rattle.pst_scen.specs.declared.act.Act.{Act}
 use Rattle.pst_scen.specs.declared.scenario.Scenario.{Scenario}
-use Rattle.pst_scen.specs.declared.event.Event.{Event}
-use Rattle.pst_scen.specs.declared.event.Event.TheVariants.{Start, End}
+use Rattle.pst_scen.specs.declared.event.Event.TheVariants.{End}
 use Rattle.pst_scen.specs.Conflicts.{Conflict}
 use Rattle.pst_scen.specs.Trace.{MayCome, Starts, IsLegalTrace, IsWhole}
 use Rattle.pst_scen.specs.Plans.{KeepsParallel}
 use Rattle.pst_scen.specs.Legal.{Legal}
 use Rattle.pst_scen.specs.ValueReading.{Whole, read}
-use Rattle.pst_trials.specs.Parts.{bare, atomic, compound, top, pool_of, serve, traverse, row, claim, act_claims, claimed, root_node, node, scenario_of, start, places}
-use Rattle.std.proofs.Common.{◌≡◌, ◌⊎◌, ℕ, inl, inr, false, true, refl, lit<, lit≤, true≢false, length}
-use Rattle.pst_scen.specs.declared.act.Act.{Act as Acting}
-use Rattle.pst_scen.specs.declared.act.Claimed.{Claimed}
-use Rattle.pst_scen.specs.declared.event.Event.{Event}
-use Rattle.pst_model.specs.declared.action.Claim.{Claim}
-use Rattle.pst_scen.specs.Growing.{nothing_yet, most_levels, Inner, Leaf, Look}
-use Rattle.pst_scen.specs.Pieces.{Piece, Action, Statement, IsActionWay, IsWay}
-use Rattle.pst_scen.specs.Tree.{AtTop, Below}
+use Rattle.pst_trials.specs.Parts.{claim, act_claims, claimed, scenario_of, start, places}
+use Rattle.std.proofs.Common.{◌≡◌, ℕ, inl, inr, false, true, refl, lit<, lit≤}
+use Rattle.pst_scen.specs.Growing.{nothing_yet, most_levels, Leaf}
+use Rattle.pst_scen.specs.Pieces.{Action, IsActionWay}
+use Rattle.pst_scen.specs.Tree.{AtTop}
 use Rattle.pst_scen.specs.Flows.{Claims}
-use Rattle.pst_scen.specs.Order.{Must, Cause}
+use Rattle.pst_scen.specs.Order.{Must}
 use Rattle.pst_scen.specs.Conflicts.{Resource}
-use Rattle.pst_scen.specs.Trace.{Starts, Ends, Ended, Runs}
+use Rattle.pst_scen.specs.Trace.{Starts, Ends}
 use Rattle.pst_scen.specs.Laws.{IsPreorder}
 use Rattle.pst_scen.specs.Scenarios.{IsScenario}
 use Rattle.pst_scen.specs.Plans.{StandParallel}
-use Rattle.pst_scen.specs.Fits.{Fills, FillsRoot, Fits, HasValues, IsActOf, IsClaimOf, IsSameLeaf}
+use Rattle.pst_scen.specs.Fits.{Fills, Fits, IsActOf, IsClaimOf}
 use Rattle.pst_scen.specs.Supplied.{Supplied}
 use Rattle.pst_scen.specs.Binds.{bounds_of}
 use Rattle.pst_scen.specs.Constraints.{Holds}
-use Rattle.pst_trials.proofs.Cases.{each, each_both, none_some, false_true}
+use Rattle.pst_trials.proofs.Cases.{each, each_both, none_some}
 use Rattle.pst_trials.proofs.Branches.{each_parallel}
 use Rattle.pst_trials.proofs.Orders.{each_conflict, each_contend, each_must_alone, each_cause, each_before}
 use Rattle.pst_scen.specs.First.{IsFirst}
@@ -47,7 +40,7 @@ use Rattle.rand_core.specs.Steps.{u32_at, word_bytes}
 use Rattle.rand_core.specs.Pcg32Seed.{pcg32_seed}
 use Rattle.pst_rng.specs.Words.{generator_at}
 use Rattle.pst_expr.specs.Spans.{numbers_from}
-use Rattle.pst_trials.specs.Locks.{LocksAreTried, model, twice, act, scenario, choices, one_after_another}
+use Rattle.pst_trials.specs.Locks.{model, twice, act, scenario, choices, one_after_another}
 
 pub reads_parallel_locks : read (model true (Parallel twice)) 1 1 0 choices ≡ Whole (scenario true fill.Parallel)
 unfolding generator_at u32_at pcg32_seed word_bytes numbers_from
@@ -87,7 +80,13 @@ shares_agree = no_conflict 0 1
 
 pub stand : (locks : Bool) → StandParallel (scenario locks fill.Parallel) 0 1
 stand locks = record {
-  block = 1; node = _; is = refl; parallel = tt; a_branch = 2; b_branch = 3; different = differ 2 3 refl;
+  block = 1;
+  node = _;
+  is = refl;
+  parallel = tt;
+  a_branch = 2;
+  b_branch = 3;
+  different = differ 2 3 refl;
   a_child = record { node = _; is = refl; in_parent = refl };
   b_child = record { node = _; is = refl; in_parent = refl };
   a_inside = record { leaf = 2; node = _; is = refl; of_act = refl; under = AtTop };
@@ -97,7 +96,7 @@ stand locks = record {
 pub locks_dispute : KeepsParallel (scenario true fill.Parallel) → ⊥
 locks_dispute keeps =
     keeps.undisputed 0 1 (stand true) (differ 0 1 refl)
-        (record { pool = 0; instance = 0; own = true; other = true; a_claims = first_claims true fill.Parallel; b_claims = second_claims true fill.Parallel; by_lock = inl refl })
+    (record { pool = 0; instance = 0; own = true; other = true; a_claims = first_claims true fill.Parallel; b_claims = second_claims true fill.Parallel; by_lock = inl refl })
 
 pub parallel_locks_are_illegal : Legal (model true (Parallel twice)) 1 (scenario true fill.Parallel) → ⊥
 parallel_locks_are_illegal legal = locks_dispute legal.parallel
@@ -108,7 +107,7 @@ not_together may = may.clear 0 1 (runs_by (start 0 0 ∷ []) 0 0 false (0, lit< 
 pub shares_together : MayCome (scenario false fill.Parallel) 2 (start 0 0 ∷ []) (Starts (1 ∷ []) (1 ∷ []))
 shares_together =
     starts_next (scenario false fill.Parallel) 2 (start 0 0 ∷ []) 1 1 tt (lit< tt) (lit< tt) ((tt, inr (tt, no_conflict 0 1)), tt)
-        (awaits (scenario false fill.Parallel) (start 0 0 ∷ []) 1 (in_order false fill.Parallel) tt) tt tt
+    (awaits (scenario false fill.Parallel) (start 0 0 ∷ []) 1 (in_order false fill.Parallel) tt) tt tt
 
 -- ---- one after another, in any_order
 
@@ -116,12 +115,20 @@ any_order_trace : (locks : Bool) → IsLegalTrace (scenario locks fill.Schedule)
 any_order_trace locks = record {
   blocks = Ends 1 ∷ Starts (1 ∷ []) (0 ∷ []) ∷ Ends 0 ∷ Starts (0 ∷ []) (0 ∷ []) ∷ [];
   are = refl;
-  legal = ((((tt
-    , starts_next (scenario locks fill.Schedule) 2 [] 0 0 tt (lit< tt) (lit< tt) tt (awaits (scenario locks fill.Schedule) [] 0 (in_order locks fill.Schedule) tt) tt tt)
-    , runs_by (start 0 0 ∷ []) 0 0 false (0, lit< tt, refl) (tt, tt))
-    , starts_next (scenario locks fill.Schedule) 2 (start 0 0 ∷ End 0 ∷ []) 1 0 tt (lit< tt) (lit< tt) ((tt, inl (1, lit< tt, refl)), (tt, tt))
-        (awaits (scenario locks fill.Schedule) (start 0 0 ∷ End 0 ∷ []) 1 (in_order locks fill.Schedule) tt) tt tt)
-    , runs_by (start 0 0 ∷ End 0 ∷ start 1 0 ∷ []) 1 0 false (2, lit< tt, refl) (tt, (tt, (tt, tt))));
+  legal = (
+    (
+      (
+        (
+          tt,
+          starts_next (scenario locks fill.Schedule) 2 [] 0 0 tt (lit< tt) (lit< tt) tt (awaits (scenario locks fill.Schedule) [] 0 (in_order locks fill.Schedule) tt) tt tt,
+        ),
+        runs_by (start 0 0 ∷ []) 0 0 false (0, lit< tt, refl) (tt, tt),
+      ),
+      starts_next (scenario locks fill.Schedule) 2 (start 0 0 ∷ End 0 ∷ []) 1 0 tt (lit< tt) (lit< tt) ((tt, inl (1, lit< tt, refl)), (tt, tt))
+          (awaits (scenario locks fill.Schedule) (start 0 0 ∷ End 0 ∷ []) 1 (in_order locks fill.Schedule) tt) tt tt,
+    ),
+    runs_by (start 0 0 ∷ End 0 ∷ start 1 0 ∷ []) 1 0 false (2, lit< tt, refl) (tt, (tt, (tt, tt))),
+  );
 }
 
 any_order_whole : (locks : Bool) → IsWhole (scenario locks fill.Schedule) one_after_another
@@ -143,16 +150,23 @@ abbrev any_order_tree : Scenario
 any_order_tree = scenario_of 0 (scenario true fill.Schedule).nodes (act_claims 0 (Some 2) [] ∷ act_claims 0 (Some 3) [] ∷ []) []
 
 any_order_fills : (locks : Bool) → Fills (model locks (Schedule twice)) most_levels (Action 1 None) None (nothing_yet 0) any_order_tree
-any_order_fills locks =
-    (_, _, record { type = _; is = refl; instance = 0; inside = (0, lit< tt, refl); content = ([], tt, refl, refl) },
-      (_, (_, _, (refl, refl), (_, (_, _, any_order_leaf locks, refl), (_, (_, _, any_order_leaf locks, refl), refl))), refl))
+any_order_fills locks = (
+  _,
+  _,
+  record { type = _; is = refl; instance = 0; inside = (0, lit< tt, refl); content = ([], tt, refl, refl) },
+  (_, (_, _, (refl, refl), (_, (_, _, any_order_leaf locks, refl), (_, (_, _, any_order_leaf locks, refl), refl))), refl),
+)
 
 any_order_claim : (locks : Bool) (n : ℕ) → IsClaimOf (model locks (Schedule twice)) (act locks n) 0 (claim locks 0) (claimed locks 0)
 any_order_claim locks n = record { is_pool = refl; lock = refl; pool = _; is = refl; within = lit< tt; values = tt }
 
 any_order_act : (locks : Bool) (n : ℕ) → IsActOf (model locks (Schedule twice)) (act locks n)
 any_order_act locks n = record {
-  type = _; is = refl; fields = tt; many_references = refl; references = λ k filled is. absurd (none_some filled is);
+  type = _;
+  is = refl;
+  fields = tt;
+  many_references = refl;
+  references = λ k filled is. absurd (none_some filled is);
   many_claims = refl;
   claims = each_both (IsClaimOf (model locks (Schedule twice)) (act locks n)) (claim locks 0 ∷ []) (claimed locks 0 ∷ []) (any_order_claim locks n, tt);
 }
@@ -193,12 +207,20 @@ parallel_trace : (locks : Bool) → IsLegalTrace (scenario locks fill.Parallel) 
 parallel_trace locks = record {
   blocks = Ends 1 ∷ Starts (1 ∷ []) (0 ∷ []) ∷ Ends 0 ∷ Starts (0 ∷ []) (0 ∷ []) ∷ [];
   are = refl;
-  legal = ((((tt
-    , starts_next (scenario locks fill.Parallel) 2 [] 0 0 tt (lit< tt) (lit< tt) tt (awaits (scenario locks fill.Parallel) [] 0 (in_order locks fill.Parallel) tt) tt tt)
-    , runs_by (start 0 0 ∷ []) 0 0 false (0, lit< tt, refl) (tt, tt))
-    , starts_next (scenario locks fill.Parallel) 2 (start 0 0 ∷ End 0 ∷ []) 1 0 tt (lit< tt) (lit< tt) ((tt, inl (1, lit< tt, refl)), (tt, tt))
-        (awaits (scenario locks fill.Parallel) (start 0 0 ∷ End 0 ∷ []) 1 (in_order locks fill.Parallel) tt) tt tt)
-    , runs_by (start 0 0 ∷ End 0 ∷ start 1 0 ∷ []) 1 0 false (2, lit< tt, refl) (tt, (tt, (tt, tt))));
+  legal = (
+    (
+      (
+        (
+          tt,
+          starts_next (scenario locks fill.Parallel) 2 [] 0 0 tt (lit< tt) (lit< tt) tt (awaits (scenario locks fill.Parallel) [] 0 (in_order locks fill.Parallel) tt) tt tt,
+        ),
+        runs_by (start 0 0 ∷ []) 0 0 false (0, lit< tt, refl) (tt, tt),
+      ),
+      starts_next (scenario locks fill.Parallel) 2 (start 0 0 ∷ End 0 ∷ []) 1 0 tt (lit< tt) (lit< tt) ((tt, inl (1, lit< tt, refl)), (tt, tt))
+          (awaits (scenario locks fill.Parallel) (start 0 0 ∷ End 0 ∷ []) 1 (in_order locks fill.Parallel) tt) tt tt,
+    ),
+    runs_by (start 0 0 ∷ End 0 ∷ start 1 0 ∷ []) 1 0 false (2, lit< tt, refl) (tt, (tt, (tt, tt))),
+  );
 }
 
 parallel_whole : (locks : Bool) → IsWhole (scenario locks fill.Parallel) one_after_another
@@ -220,16 +242,23 @@ abbrev parallel_tree : Scenario
 parallel_tree = scenario_of 0 (scenario true fill.Parallel).nodes (act_claims 0 (Some 2) [] ∷ act_claims 0 (Some 3) [] ∷ []) []
 
 parallel_fills : (locks : Bool) → Fills (model locks (Parallel twice)) most_levels (Action 1 None) None (nothing_yet 0) parallel_tree
-parallel_fills locks =
-    (_, _, record { type = _; is = refl; instance = 0; inside = (0, lit< tt, refl); content = ([], tt, refl, refl) },
-      (_, (_, _, (refl, refl), (_, (_, _, parallel_leaf locks, refl), (_, (_, _, parallel_leaf locks, refl), refl))), refl))
+parallel_fills locks = (
+  _,
+  _,
+  record { type = _; is = refl; instance = 0; inside = (0, lit< tt, refl); content = ([], tt, refl, refl) },
+  (_, (_, _, (refl, refl), (_, (_, _, parallel_leaf locks, refl), (_, (_, _, parallel_leaf locks, refl), refl))), refl),
+)
 
 parallel_claim : (locks : Bool) (n : ℕ) → IsClaimOf (model locks (Parallel twice)) (act locks n) 0 (claim locks 0) (claimed locks 0)
 parallel_claim locks n = record { is_pool = refl; lock = refl; pool = _; is = refl; within = lit< tt; values = tt }
 
 parallel_act : (locks : Bool) (n : ℕ) → IsActOf (model locks (Parallel twice)) (act locks n)
 parallel_act locks n = record {
-  type = _; is = refl; fields = tt; many_references = refl; references = λ k filled is. absurd (none_some filled is);
+  type = _;
+  is = refl;
+  fields = tt;
+  many_references = refl;
+  references = λ k filled is. absurd (none_some filled is);
   many_claims = refl;
   claims = each_both (IsClaimOf (model locks (Parallel twice)) (act locks n)) (claim locks 0 ∷ []) (claimed locks 0 ∷ []) (parallel_claim locks n, tt);
 }
@@ -290,7 +319,7 @@ locks_are_legal = record {
 no_order : (a b : ℕ) → Must (scenario false fill.Parallel) a b → ⊥
 no_order =
     each_must_alone (λ a b. ⊥) (scenario false fill.Parallel) tt (λ a c b first second. first)
-        (each_cause (λ a b. ⊥) (scenario false fill.Parallel) (each_before (λ a b. ⊥) (scenario false fill.Parallel) (in_order false fill.Parallel) tt) tt)
+    (each_cause (λ a b. ⊥) (scenario false fill.Parallel) (each_before (λ a b. ⊥) (scenario false fill.Parallel) (in_order false fill.Parallel) tt) tt)
 
 pub shares_are_legal : Legal (model false (Parallel twice)) 1 (scenario false fill.Parallel)
 shares_are_legal = record {

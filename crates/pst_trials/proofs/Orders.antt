@@ -1,5 +1,5 @@
 -- What orders actions, joins them and excludes them, as lists that compute.
-use Rattle.std.proofs.Common.{◌≡◌, ◌≢◌, ℕ, zero, suc, ◌<◌, ◌≤◌, List, [], ◌∷◌, ◌++◌, ◌⊎◌, inl, inr, Option, Some, None, Bool, true, false, ◌&&◌, ◌||◌, not, nat_eq, nat_lt, if◌then◌else◌, slice_get, length, refl, sym, subst, ap, ◌∙◌, arith, flat_map, eq-eqb}
+use Rattle.std.proofs.Common.{◌≡◌, ℕ, zero, suc, List, [], ◌∷◌, ◌++◌, ◌⊎◌, inl, inr, Some, Bool, true, false, ◌&&◌, ◌||◌, nat_eq, if◌then◌else◌, slice_get, refl, sym, subst, flat_map, eq-eqb}
 use Rattle.pst_scen.specs.declared.act.Act.{Act}
 use Rattle.pst_scen.specs.declared.act.Filled.{Filled}
 use Rattle.pst_scen.specs.declared.act.Claimed.{Claimed}
@@ -8,14 +8,14 @@ use Rattle.pst_scen.specs.declared.act.Flow.TheVariants.{BufferIn, BufferOut, St
 use Rattle.pst_scen.specs.declared.act.Link.{Link}
 use Rattle.pst_scen.specs.declared.act.Link.TheVariants as link
 use Rattle.pst_scen.specs.declared.scenario.Scenario.{Scenario}
-use Rattle.pst_scen.specs.Flows.{Refers, Feeds, Streams, FromFirst, FromSecond, Reads, Writes, LeadsTo, IsClaim, Claims}
-use Rattle.pst_scen.specs.Order.{Before, Together, Itself, Linked, Cause, Sequence, Buffer, Source, Previous, Replaced, Direct, Must, Directly, Through}
-use Rattle.pst_scen.specs.Conflicts.{Uses, Clash, Resource, FirstWrites, SecondWrites, Conflict}
-use Rattle.pst_scen.specs.Plans.{Contend, ClashesAlone, StandParallel, KeepsParallel}
+use Rattle.pst_scen.specs.Flows.{Refers, Feeds, Streams, FromFirst, FromSecond, Reads, Writes, Claims}
+use Rattle.pst_scen.specs.Order.{Before, Together, Itself, Linked, Cause, Sequence, Buffer, Source, Previous, Replaced, Must, Directly, Through}
+use Rattle.pst_scen.specs.Conflicts.{Uses, Clash, Resource, FirstWrites, SecondWrites}
+use Rattle.pst_scen.specs.Plans.{Contend}
 use Rattle.pst_scen.specs.Laws.{IsPreorder}
 use Rattle.pst_scen.specs.SupplyReading.{same_link, is_writer}
-use Rattle.pst_trials.proofs.Cases.{Each, each, EachOf, each_among, Among, among_left, among_right, among_flat, numbered, among_numbered, some_same, none_some, false_true}
-use Rattle.pst_trials.proofs.Branches.{earliers, each_earlier, parallels, each_parallel}
+use Rattle.pst_trials.proofs.Cases.{EachOf, each_among, Among, among_left, among_right, among_flat, numbered, among_numbered, some_same, none_some, false_true}
+use Rattle.pst_trials.proofs.Branches.{earliers, each_earlier}
 
 pub record Pair : Type 0 where
   pub first : ℕ
@@ -66,8 +66,8 @@ refers_among s a flow pool to refers =
     let x : Referral = record { act = a; flow = flow; pool = pool; to = to } in
     let same : referral a refers.filled ≡ x = cc (refers.of_flow, refers.of_pool, refers.linked) in
     among_flat (λ e. flat_map (λ filled. referral e.0 filled ∷ []) e.1.references) (numbered s.actions) (a, refers.act) x
-        (among_numbered s.actions a refers.act refers.is_act)
-        (among_flat (λ filled. referral a filled ∷ []) refers.act.references refers.filled x (among_list refers.act.references refers.reference refers.filled refers.is) (inl same))
+    (among_numbered s.actions a refers.act refers.is_act)
+    (among_flat (λ filled. referral a filled ∷ []) refers.act.references refers.filled x (among_list refers.act.references refers.reference refers.filled refers.is) (inl same))
 
 -- one fact for each reference
 pub each_refers : (Q : ℕ → Flow → ℕ → Link → Type 0) (s : Scenario) → EachOf (λ x. Q x.act x.flow x.pool x.to) (referrals s.actions) → (a : ℕ) (flow : Flow) (pool : ℕ) (to : Link) → Refers s a flow pool to → Q a flow pool to
@@ -121,9 +121,9 @@ same_to (link.Act a r) = both_true (nat_eq a a) (nat_eq r r) (eq-eqb a a refl) (
 supplied_among : (s : Scenario) (flow : Flow) (pool a r b : ℕ) (to : Link) → Refers s b flow pool to → to ≡ link.Act a r → Among (pair a b) (supplied flow (link.Act a r) b) → Among (pair a b) (flow_causes s)
 supplied_among s flow pool a r b to refers is among =
     among_left (pair a b) (suppliers (referrals s.actions)) (replacements (referrals s.actions))
-        (among_flat (λ x. supplied x.flow x.to x.act) (referrals s.actions) (record { act = b; flow = flow; pool = pool; to = to }) (pair a b)
-            (refers_among s b flow pool to refers)
-            (subst (λ to. Among (pair a b) (supplied flow to b)) (sym is) among))
+    (among_flat (λ x. supplied x.flow x.to x.act) (referrals s.actions) (record { act = b; flow = flow; pool = pool; to = to }) (pair a b)
+    (refers_among s b flow pool to refers)
+    (subst (λ to. Among (pair a b) (supplied flow to b)) (sym is) among))
 
 replaced_among : (s : Scenario) (a b pool : ℕ) (to : Link) → Reads s a pool to → Writes s b pool to → Among (pair a b) (flow_causes s)
 replaced_among s a b pool to reads writes =
@@ -131,16 +131,16 @@ replaced_among s a b pool to reads writes =
     let y : Referral = record { act = b; flow = StateOut; pool = pool; to = to } in
     let same : (nat_eq pool pool && same_link to to) ≡ true = both_true (nat_eq pool pool) (same_link to to) (eq-eqb pool pool refl) (same_to to) in
     among_right (pair a b) (suppliers (referrals s.actions)) (replacements (referrals s.actions))
-        (among_flat (λ x. flat_map (replaced x) (referrals s.actions)) (referrals s.actions) x (pair a b) (refers_among s a StateIn pool to reads)
-            (among_flat (replaced x) (referrals s.actions) y (pair a b) (refers_among s b StateOut pool to writes)
-                (among_pair_if (nat_eq pool pool && same_link to to) a b same)))
+    (among_flat (λ x. flat_map (replaced x) (referrals s.actions)) (referrals s.actions) x (pair a b) (refers_among s a StateIn pool to reads)
+    (among_flat (replaced x) (referrals s.actions) y (pair a b) (refers_among s b StateOut pool to writes)
+    (among_pair_if (nat_eq pool pool && same_link to to) a b same)))
 
 -- one fact for each producer of a consumed buffer
 pub each_feeds : (Q : ℕ → ℕ → Type 0) (s : Scenario) → EachPair Q (suppliers (referrals s.actions)) → (a b : ℕ) → Feeds s a b → Q a b
 each_feeds Q s facts a b feeds =
     each_pair Q (suppliers (referrals s.actions)) facts a b
-        (among_flat (λ x. supplied x.flow x.to x.act) (referrals s.actions) (record { act = b; flow = BufferIn; pool = feeds.pool; to = link.Act a feeds.output }) (pair a b)
-            (refers_among s b BufferIn feeds.pool (link.Act a feeds.output) feeds.input) (inl refl))
+    (among_flat (λ x. supplied x.flow x.to x.act) (referrals s.actions) (record { act = b; flow = BufferIn; pool = feeds.pool; to = link.Act a feeds.output }) (pair a b)
+    (refers_among s b BufferIn feeds.pool (link.Act a feeds.output) feeds.input) (inl refl))
 
 -- one fact for each cause
 pub each_cause : (Q : ℕ → ℕ → Type 0) (s : Scenario) → ((a b : ℕ) → Before s a b → Q a b) → EachPair Q (flow_causes s) → (a b : ℕ) → Cause s a b → Q a b
@@ -223,8 +223,8 @@ claims_among s a pool instance lock claims =
     let x : Claiming = record { act = a; pool = pool; instance = instance; lock = lock } in
     let same : claiming a claims.claimed ≡ x = cc (claims.of_pool, claims.of_instance, claims.by_lock) in
     among_flat (λ e. flat_map (λ claimed. claiming e.0 claimed ∷ []) e.1.claims) (numbered s.actions) (a, claims.is.act) x
-        (among_numbered s.actions a claims.is.act claims.is.is_act)
-        (among_flat (λ claimed. claiming a claimed ∷ []) claims.is.act.claims claims.claimed x (among_list claims.is.act.claims claims.claim claims.claimed claims.is.is) (inl same))
+    (among_numbered s.actions a claims.is.act claims.is.is_act)
+    (among_flat (λ claimed. claiming a claimed ∷ []) claims.is.act.claims claims.claimed x (among_list claims.is.act.claims claims.claim claims.claimed claims.is.is) (inl same))
 
 abbrev pub contend : Claiming → Claiming → List Pair
 contend x y = pair_if (nat_eq x.pool y.pool && (nat_eq x.instance y.instance && (x.lock || y.lock))) x.act y.act
@@ -245,8 +245,8 @@ contend_among s a b pool instance own other a_claims b_claims locks =
     let same : (nat_eq instance instance && (own || other)) ≡ true = both_true (nat_eq instance instance) (own || other) (eq-eqb instance instance refl) (one_locks own other locks) in
     let all : (nat_eq pool pool && (nat_eq instance instance && (own || other))) ≡ true = both_true (nat_eq pool pool) (nat_eq instance instance && (own || other)) (eq-eqb pool pool refl) same in
     among_flat (λ x. flat_map (contend x) (claimings s.actions)) (claimings s.actions) x (pair a b) (claims_among s a pool instance own a_claims)
-        (among_flat (contend x) (claimings s.actions) y (pair a b) (claims_among s b pool instance other b_claims)
-            (among_pair_if (nat_eq pool pool && (nat_eq instance instance && (own || other))) a b all))
+    (among_flat (contend x) (claimings s.actions) y (pair a b) (claims_among s b pool instance other b_claims)
+    (among_pair_if (nat_eq pool pool && (nat_eq instance instance && (own || other))) a b all))
 
 pub each_contend : (Q : ℕ → ℕ → Type 0) (s : Scenario) → EachPair Q (contentions s) → (a b : ℕ) → Contend s a b → Q a b
 each_contend Q s facts a b contend =
@@ -264,12 +264,12 @@ writing_among s a b pool to writes (other, inl reads) =
     let x : Referral = record { act = a; flow = StateOut; pool = pool; to = to } in
     let y : Referral = record { act = b; flow = StateIn; pool = pool; to = other } in
     among_flat (λ x. flat_map (writes_used x) (referrals s.actions)) (referrals s.actions) x (pair a b) (refers_among s a StateOut pool to writes)
-        (among_flat (writes_used x) (referrals s.actions) y (pair a b) (refers_among s b StateIn pool other reads) (among_pair_if (nat_eq pool pool) a b (eq-eqb pool pool refl)))
+    (among_flat (writes_used x) (referrals s.actions) y (pair a b) (refers_among s b StateIn pool other reads) (among_pair_if (nat_eq pool pool) a b (eq-eqb pool pool refl)))
 writing_among s a b pool to writes (other, inr also) =
     let x : Referral = record { act = a; flow = StateOut; pool = pool; to = to } in
     let y : Referral = record { act = b; flow = StateOut; pool = pool; to = other } in
     among_flat (λ x. flat_map (writes_used x) (referrals s.actions)) (referrals s.actions) x (pair a b) (refers_among s a StateOut pool to writes)
-        (among_flat (writes_used x) (referrals s.actions) y (pair a b) (refers_among s b StateOut pool other also) (among_pair_if (nat_eq pool pool) a b (eq-eqb pool pool refl)))
+    (among_flat (writes_used x) (referrals s.actions) y (pair a b) (refers_among s b StateOut pool other also) (among_pair_if (nat_eq pool pool) a b (eq-eqb pool pool refl)))
 
 pub each_conflict : (Q : ℕ → ℕ → Type 0) (s : Scenario) → EachPair Q (contentions s) → EachPair Q (writings s) → EachPair (λ a b. Q b a) (writings s) → (a b : ℕ) → Clash s a b → Q a b
 each_conflict Q s contended written other_way a b (Resource pool instance own other a_claims b_claims locks) =

@@ -1,48 +1,34 @@
 -- Facts: One action with two claims of one resource instance.
-use Rattle.std.specs.Prelude.{◌≡◌, ℕ, List, [], ◌∷◌, Bool, true, false, Option, Some, None}
-use Rattle.pst_model.specs.declared.object.ObjectKind.TheVariants.{Resource}
+use Rattle.std.specs.Prelude.{◌≡◌, ℕ, List, [], ◌∷◌, Bool, true, false, Some, None}
 use Rattle.pst_model.specs.ModelTree.{ModelTree}
-use Rattle.pst_scen.specs.declared.tree.Fill.TheVariants as fill
 use Rattle.pst_scen.specs.declared.scenario.Scenario.{Scenario}
 use Rattle.pst_scen.specs.Plans.{ClashesAlone}
 use Rattle.pst_scen.specs.Legal.{Legal}
 use Rattle.pst_scen.specs.ValueReading.{Whole, read}
-use Rattle.pst_trials.specs.Parts.{bare, atomic, compound, top, pool_of, serve, traverse, claim, act_claims, claimed, root_node, node, scenario_of}
+use Rattle.pst_trials.specs.Parts.{claim, act_claims, claimed, scenario_of}
 use Rattle.std.proofs.Common.{refl}
 use Rattle.rand_core.specs.Steps.{u32_at, word_bytes}
 use Rattle.rand_core.specs.Pcg32Seed.{pcg32_seed}
 use Rattle.pst_rng.specs.Words.{generator_at}
 use Rattle.pst_expr.specs.Spans.{numbers_from}
-use Rattle.pst_trials.specs.OwnClaims.{OwnClaimsAreTried, model, scenario, choices}
+use Rattle.pst_trials.specs.OwnClaims.{model, scenario, choices}
 use Rattle.pst_scen.specs.declared.event.Event.TheVariants.{End}
 use Rattle.pst_scen.specs.Trace.{IsLegalTrace, IsWhole}
 use Rattle.pst_trials.specs.Parts.{start}
-use Rattle.std.proofs.Common.{◌≢◌, ◌<◌, ◌⊎◌, suc, zero, inl, inr, nat_eq, sym, ◌∙◌, subst, eq-eqb, lit<, lit≤, true≢false, length, get_or, arith, Contains, not-suc-le-zero, slice_get, replicate}
+use Rattle.std.proofs.Common.{◌⊎◌, inl, inr, lit<, lit≤}
 use Rattle.pst_scen.specs.declared.act.Act.{Act as Acting}
-use Rattle.pst_scen.specs.declared.act.Filled.{Filled}
-use Rattle.pst_scen.specs.declared.act.Claimed.{Claimed}
 use Rattle.pst_scen.specs.declared.event.Event.{Event}
-use Rattle.pst_model.specs.declared.action.Claim.{Claim}
-use Rattle.pst_scen.specs.Growing.{nothing_yet, most_levels, Inner, Leaf, Look}
-use Rattle.pst_scen.specs.Pieces.{Piece, Action, Statement, IsActionWay, IsWay}
-use Rattle.pst_scen.specs.Tree.{AtTop, Below, IsReleased}
-use Rattle.pst_scen.specs.Flows.{Claims, Feeds, Refers, FromFirst, FromSecond}
-use Rattle.pst_scen.specs.Order.{Must, Cause, Before, Buffer, Sequence, Directly, Through, Itself, Linked, Together}
-use Rattle.pst_scen.specs.Conflicts.{Conflict}
-use Rattle.pst_scen.specs.Trace.{Starts, Ends, Started, Ended, Runs, MayStart, AreFree, StartsOn}
+use Rattle.pst_scen.specs.Growing.{nothing_yet, most_levels, Leaf}
+use Rattle.pst_scen.specs.Pieces.{Action, IsActionWay}
+use Rattle.pst_scen.specs.Order.{Must}
+use Rattle.pst_scen.specs.Trace.{Starts, Ends}
 use Rattle.pst_scen.specs.Laws.{IsPreorder}
-use Rattle.pst_scen.specs.Scenarios.{IsScenario}
-use Rattle.pst_scen.specs.Plans.{StandParallel, KeepsParallel}
-use Rattle.pst_scen.specs.Fits.{Fills, FillsRoot, Fits, HasValues, IsActOf, IsReferenceOf, IsClaimOf, IsSameLeaf}
-use Rattle.pst_scen.specs.Supplied.{Supplied}
+use Rattle.pst_scen.specs.Fits.{Fills, IsActOf, IsClaimOf}
 use Rattle.pst_scen.specs.Binds.{bounds_of}
-use Rattle.pst_scen.specs.Constraints.{Holds}
-use Rattle.pst_trials.proofs.Cases.{each, each_both, each_contained, EachOf, none_some, false_true}
+use Rattle.pst_trials.proofs.Cases.{each, each_both, none_some, false_true}
 use Rattle.pst_trials.proofs.Branches.{each_parallel}
-use Rattle.pst_trials.proofs.Orders.{each_conflict, each_contend, each_must, each_must_alone, each_cause, each_before, each_feeds, each_refers, each_together}
-use Rattle.pst_trials.proofs.Traces.{When, due, on_start, each_start, each_below, preorder_by, here, runs_by, starts_next, awaits, whole_by, no_joins}
+use Rattle.pst_trials.proofs.Traces.{preorder_by, runs_by, starts_next, awaits, whole_by}
 use Rattle.pst_trials.proofs.Legality.{differ, in_preorder, are_linked, no_firsts, no_previous, no_chains, sources_by, bounds_by, inferred_by, none_inline, HoldsAt, holds_by, none_clashes}
-use Rattle.pst_trials.specs.Parts.{input, output}
 
 pub reads_locks : read (model true) 1 1 0 choices ≡ Whole (scenario true)
 unfolding generator_at u32_at pcg32_seed word_bytes numbers_from
@@ -59,10 +45,16 @@ in_order locks = preorder_by (scenario locks).nodes (refl, (refl, tt))
 
 pub locks_clash : ClashesAlone (scenario true) 0
 locks_clash = record {
-  first = 0; second = 1; one = _; other = _; different = differ 0 1 refl;
+  first = 0;
+  second = 1;
+  one = _;
+  other = _;
+  different = differ 0 1 refl;
   is_first = record { act = _; is_act = refl; is = refl };
   is_second = record { act = _; is_act = refl; is = refl };
-  same_pool = refl; same_instance = refl; by_lock = inl refl;
+  same_pool = refl;
+  same_instance = refl;
+  by_lock = inl refl;
 }
 
 pub locks_are_illegal : Legal (model true) 1 (scenario true) → ⊥
@@ -94,9 +86,13 @@ trace : IsLegalTrace s 1 alone
 trace = record {
   blocks = Ends 0 ∷ Starts (0 ∷ []) (0 ∷ []) ∷ [];
   are = refl;
-  legal = ((tt
-    , starts_next s 1 [] 0 0 tt (lit< tt) (lit< tt) tt (awaits s [] 0 (in_order false) tt) tt tt)
-    , runs_by (start 0 0 ∷ []) 0 0 false (0, lit< tt, refl) (tt, tt));
+  legal = (
+    (
+      tt,
+      starts_next s 1 [] 0 0 tt (lit< tt) (lit< tt) tt (awaits s [] 0 (in_order false) tt) tt tt,
+    ),
+    runs_by (start 0 0 ∷ []) 0 0 false (0, lit< tt, refl) (tt, tt),
+  );
 }
 
 whole : IsWhole s alone
@@ -117,7 +113,11 @@ act = act_claims 0 (Some 1) (claimed false 0 ∷ claimed false 0 ∷ [])
 
 is_act : IsActOf m act
 is_act = record {
-  type = _; is = refl; fields = tt; many_references = refl; references = λ k filled is. absurd (none_some filled is);
+  type = _;
+  is = refl;
+  fields = tt;
+  many_references = refl;
+  references = λ k filled is. absurd (none_some filled is);
   many_claims = refl;
   claims = each_both (IsClaimOf m act) (claim false 0 ∷ claim false 0 ∷ []) (claimed false 0 ∷ claimed false 0 ∷ [])
       (record { is_pool = refl; lock = refl; pool = _; is = refl; within = lit< tt; values = tt }, (record { is_pool = refl; lock = refl; pool = _; is = refl; within = lit< tt; values = tt }, tt));

@@ -1,5 +1,5 @@
 -- Which actions are released, as a list that computes; and what earlier statements mean in a legal trace.
-use Rattle.std.proofs.Common.{◌≡◌, ◌≢◌, ℕ, zero, suc, ◌+◌, ◌<◌, ◌≤◌, List, [], ◌∷◌, ◌++◌, ◌⊎◌, inl, inr, Option, Some, None, Bool, true, false, ◌&&◌, not, nat_eq, if◌then◌else◌, slice_get, length, slice_index_or, refl, sym, subst, ap, ◌∙◌, arith, Contains, flat_map, bit_and, ◌^◌, IsBitSet, true≢false, lit<, le_of_suc-le-suc, not-suc-le-zero}
+use Rattle.std.proofs.Common.{◌≡◌, ℕ, zero, suc, ◌<◌, ◌≤◌, List, [], ◌∷◌, ◌++◌, ◌⊎◌, inl, inr, Option, Some, None, Bool, true, false, nat_eq, if◌then◌else◌, slice_get, length, refl, sym, subst, ap, arith, Contains, flat_map, bit_and, ◌^◌, IsBitSet, lit<, le_of_suc-le-suc, not-suc-le-zero}
 use Rattle.pst_scen.specs.declared.tree.Node.{Node}
 use Rattle.pst_scen.specs.declared.tree.Fill.{Fill}
 use Rattle.pst_scen.specs.declared.tree.Fill.TheVariants.{Joined}
@@ -8,9 +8,9 @@ use Rattle.pst_scen.specs.declared.event.Event.{Event}
 use Rattle.pst_scen.specs.declared.event.Event.TheVariants.{Start, End}
 use Rattle.pst_scen.specs.Tree.{IsReleased, branch_of}
 use Rattle.pst_scen.specs.Order.{Before}
-use Rattle.pst_scen.specs.Trace.{Ended, Block, Starts, Ends, starts_of, events_of, events, AreLegal, IsLegalTrace}
+use Rattle.pst_scen.specs.Trace.{Ended, Block, Starts, Ends, starts_of, events, AreLegal, IsLegalTrace}
 use Rattle.pst_scen.specs.Laws.{IsPreorder}
-use Rattle.pst_trials.proofs.Cases.{Each, each, EachOf, each_among, Among, among_flat, numbered, among_numbered, some_same, none_some, false_true}
+use Rattle.pst_trials.proofs.Cases.{EachOf, each_among, Among, among_flat, numbered, among_numbered, some_same, none_some, false_true}
 use Rattle.pst_trials.proofs.Branches.{acts_inside, contained_is_inside}
 use Rattle.pst_trials.proofs.Legality.{differ}
 
@@ -48,12 +48,12 @@ pub released_among : (nodes : List Node) → IsPreorder nodes → (sequence act 
 released_among nodes preorder sequence act r =
     let inside : Among act (acts_inside nodes r.branch) = contained_is_inside nodes preorder r.branch act r.inside in
     let clear : is_clear r.joined (branch_of nodes r.block r.branch) ≡ true =
-        clear_of r.joined (branch_of nodes r.block r.branch) r.free (is_clear r.joined (branch_of nodes r.block r.branch)) refl in
+    clear_of r.joined (branch_of nodes r.block r.branch) r.free (is_clear r.joined (branch_of nodes r.block r.branch)) refl in
     let in_fill : Among act (released_in nodes r.block r.branch (Joined r.parallel r.joined)) = among_if (is_clear r.joined (branch_of nodes r.block r.branch)) act (acts_inside nodes r.branch) clear inside in
     let in_node : Among act (released_in nodes r.block r.branch r.node.fill) = subst (λ fill. Among act (released_in nodes r.block r.branch fill)) (sym r.join) in_fill in
     let at_node : Among act (released_at nodes r.block r.branch (slice_get nodes r.block)) = subst (λ o. Among act (released_at nodes r.block r.branch o)) (sym r.is) in_node in
     among_flat (λ e. released_under nodes e.0 e.1.parent) (numbered nodes) (r.branch, r.child.node) act (among_numbered nodes r.branch r.child.node r.child.is)
-        (subst (λ p. Among act (released_under nodes r.branch p)) (sym r.child.in_parent) at_node)
+    (subst (λ p. Among act (released_under nodes r.branch p)) (sym r.child.in_parent) at_node)
 
 -- no other action is released
 pub not_released : (nodes : List Node) → IsPreorder nodes → (act : ℕ) → EachOf (λ x. nat_eq x act ≡ false) (all_released nodes) → (sequence : ℕ) → IsReleased nodes sequence act → ⊥
@@ -135,4 +135,4 @@ pub earlier_ends : (s : Scenario) (lanes : ℕ) (trace : List Event) → IsLegal
     → slice_get trace k ≡ Some (Start b l m) → (j : ℕ) × (j < k) × (slice_get trace j ≡ Some (End a))
 earlier_ends s lanes trace legal a b k l m before is =
     subst (λ t. (j : ℕ) × (j < k) × (slice_get t j ≡ Some (End a))) legal.are
-        (earlier_ends_first s lanes legal.blocks legal.legal a b k l m before (subst (λ t. slice_get t k ≡ Some (Start b l m)) (sym legal.are) is))
+    (earlier_ends_first s lanes legal.blocks legal.legal a b k l m before (subst (λ t. slice_get t k ≡ Some (Start b l m)) (sym legal.are) is))

@@ -1,53 +1,26 @@
 -- Facts: Repetitions with the numbers of their turns, and conditional statements.
-use Rattle.std.specs.Prelude.{◌≡◌, ℕ, ℤ, pos, List, [], ◌∷◌, Bool, true, false, Option, Some, None}
-use Rattle.pst_expr.specs.declared.tree.BinaryOp.TheVariants.{Equal, Add, Sub}
-use Rattle.pst_expr.specs.Tree.{Expression, Variable}
-use Rattle.pst_model.specs.ConstraintTree.{ConstraintTree, SlotTree, Own, Index}
-use Rattle.pst_model.specs.ActivityTree.{StepTree, Traverse, Sequence, Repeat, If, NoStep}
-use Rattle.pst_model.specs.ModelTree.{ModelTree}
+use Rattle.std.specs.Prelude.{◌≡◌, pos, [], ◌∷◌, Some, None}
+use Rattle.pst_expr.specs.declared.tree.BinaryOp.TheVariants.{Sub}
+use Rattle.pst_model.specs.ConstraintTree.{Index}
+use Rattle.pst_model.specs.ActivityTree.{Repeat, If, NoStep}
 use Rattle.pst_scen.specs.declared.tree.Fill.TheVariants as fill
-use Rattle.pst_scen.specs.declared.scenario.Scenario.{Scenario}
 use Rattle.pst_scen.specs.Slots.{Known, inline_slot}
 use Rattle.pst_scen.specs.Standing.{StandsFor}
 use Rattle.pst_scen.specs.Constraints.{HasConstraint, value_at}
 use Rattle.pst_scen.specs.Order.{Before}
 use Rattle.pst_scen.specs.ValueReading.{Dead, Whole, read}
-use Rattle.pst_trials.specs.Parts.{field_to, atomic_with, compound, top, traverse, row, number, by, constraint, act_with, root_node, node, scenario_of, places}
+use Rattle.pst_trials.specs.Parts.{traverse, number, by, root_node, node, scenario_of, places}
 use Rattle.std.proofs.Common.{refl}
 use Rattle.rand_core.specs.Steps.{u32_at, word_bytes}
 use Rattle.rand_core.specs.Pcg32Seed.{pcg32_seed}
 use Rattle.pst_rng.specs.Words.{generator_at}
 use Rattle.pst_expr.specs.Spans.{numbers_from}
-use Rattle.pst_trials.specs.Repeats.{RepeatsAreTried, plain, second_turn, turn_value, traversal, body, model, three, scenario, two_turns}
+use Rattle.pst_trials.specs.Repeats.{plain, second_turn, turn_value, traversal, body, model, three, scenario, two_turns}
 use Rattle.pst_scen.specs.Constraints.{Inline}
 use Rattle.pst_scen.specs.Standing.{AtTop, Below, InTurn}
 use Rattle.pst_scen.specs.Tree.{AtTop as UnderTop, Below as UnderBelow}
-use Rattle.std.proofs.Common.{◌≢◌, ◌<◌, ◌⊎◌, suc, zero, inl, inr, nat_eq, sym, ◌∙◌, subst, eq-eqb, lit<, lit≤, true≢false, length, get_or, arith, Contains, not-suc-le-zero, slice_get, replicate}
-use Rattle.pst_scen.specs.declared.act.Act.{Act as Acting}
-use Rattle.pst_scen.specs.declared.act.Filled.{Filled}
-use Rattle.pst_scen.specs.declared.act.Claimed.{Claimed}
-use Rattle.pst_scen.specs.declared.event.Event.{Event}
-use Rattle.pst_model.specs.declared.action.Claim.{Claim}
-use Rattle.pst_scen.specs.Growing.{nothing_yet, most_levels, Inner, Leaf, Look}
-use Rattle.pst_scen.specs.Pieces.{Piece, Action, Statement, IsActionWay, IsWay}
-use Rattle.pst_scen.specs.Tree.{IsReleased}
-use Rattle.pst_scen.specs.Flows.{Claims, Feeds, Refers, FromFirst, FromSecond}
-use Rattle.pst_scen.specs.Order.{Must, Cause, Buffer, Directly, Through, Itself, Linked, Together}
-use Rattle.pst_scen.specs.Conflicts.{Conflict, Resource}
-use Rattle.pst_scen.specs.Trace.{Starts, Ends, Started, Ended, Runs, MayStart, AreFree, StartsOn}
-use Rattle.pst_scen.specs.Laws.{IsPreorder}
-use Rattle.pst_scen.specs.Scenarios.{IsScenario}
-use Rattle.pst_scen.specs.Plans.{StandParallel, ClashesAlone, KeepsParallel}
-use Rattle.pst_scen.specs.Fits.{Fills, FillsRoot, Fits, HasValues, IsActOf, IsReferenceOf, IsClaimOf, IsSameLeaf}
-use Rattle.pst_scen.specs.Supplied.{Supplied}
-use Rattle.pst_scen.specs.Binds.{bounds_of}
-use Rattle.pst_scen.specs.Constraints.{Holds}
-use Rattle.pst_trials.proofs.Cases.{each, each_both, each_contained, EachOf, none_some, false_true}
-use Rattle.pst_trials.proofs.Branches.{each_parallel}
-use Rattle.pst_trials.proofs.Orders.{each_conflict, each_contend, each_must, each_must_alone, each_cause, each_before, each_feeds, each_refers, each_together}
-use Rattle.pst_trials.proofs.Traces.{When, due, on_start, each_start, each_below, preorder_by, here, runs_by, starts_next, awaits, whole_by, no_joins}
-use Rattle.pst_trials.proofs.Legality.{differ, in_preorder, are_linked, no_firsts, no_previous, no_chains, sources_by, bounds_by, inferred_by, holds_by, none_clashes}
-use Rattle.pst_trials.specs.Parts.{input, output, claim}
+use Rattle.std.proofs.Common.{lit<}
+use Rattle.pst_trials.proofs.Traces.{no_joins}
 
 pub reads : read three 1 1 0 (0 ∷ 0 ∷ 2 ∷ []) ≡ Whole scenario
 unfolding generator_at u32_at pcg32_seed word_bytes numbers_from
@@ -82,12 +55,12 @@ reads_two = refl
 pub stands : StandsFor three scenario.nodes 0 8 traversal (1 ∷ [])
 stands =
     Below 8 7 0 _ (If second_turn traversal NoStep) traversal (1 ∷ [])
-        (Below 7 6 0 _ body (If second_turn traversal NoStep) (1 ∷ [])
-            (InTurn 6 5 1 1 _ (plain (number 3)) body []
-                (AtTop 1 0 1 0 [] _ _ (Repeat (plain (number 3)) body) refl refl refl refl refl)
-                (record { node = _; is = refl; in_parent = refl }) refl refl (record { node = _; is = refl; in_parent = refl }))
-            refl refl refl)
-        refl refl refl
+    (Below 7 6 0 _ body (If second_turn traversal NoStep) (1 ∷ [])
+    (InTurn 6 5 1 1 _ (plain (number 3)) body []
+    (AtTop 1 0 1 0 [] _ _ (Repeat (plain (number 3)) body) refl refl refl refl refl)
+    (record { node = _; is = refl; in_parent = refl }) refl refl (record { node = _; is = refl; in_parent = refl }))
+    refl refl refl)
+    refl refl refl
 
 pub has : HasConstraint three scenario turn_value (inline_slot three scenario 8 0 (1 ∷ []))
 has = Inline 8 0 0 None (turn_value ∷ []) (1 ∷ []) turn_value stands (0, lit< tt, refl)
@@ -97,7 +70,8 @@ turns_in_order = record {
   sequence = 1;
   earlier = record {
     is_sequence = record { node = _; is = refl; in_order = tt };
-    earlier = 2; later = 4;
+    earlier = 2;
+    later = 4;
     earlier_child = record { node = _; is = refl; in_parent = refl };
     later_child = record { node = _; is = refl; in_parent = refl };
     order = lit< tt;

@@ -1,23 +1,16 @@
 -- Facts: A choice among branches with guards and weights, and a choice by value.
-use Rattle.std.specs.Prelude.{◌≡◌, ℕ, ℤ, pos, List, [], ◌∷◌, Bool, true, false, Option, Some, None}
-use Rattle.pst_expr.specs.declared.ranges.Span.{Span}
-use Rattle.pst_expr.specs.declared.tree.BinaryOp.TheVariants.{Equal, Greater, Less}
-use Rattle.pst_expr.specs.Tree.{Variable}
+use Rattle.std.specs.Prelude.{◌≡◌, [], ◌∷◌, Some, None}
 use Rattle.pst_rng.specs.Words.{word_of}
 use Rattle.pst_rng.specs.Weights.{weighted_start_of}
-use Rattle.pst_model.specs.ConstraintTree.{ConstraintTree, Own}
-use Rattle.pst_model.specs.ActivityTree.{StepTree, BranchTree, ArmTree, BranchRow, ArmRow, Select, Match, MakeBranch, MakeArm, NoBranches, MoreBranches, NoArms, MoreArms, NoStep}
-use Rattle.pst_model.specs.ModelTree.{ModelTree}
-use Rattle.pst_scen.specs.declared.tree.Fill.TheVariants as fill
-use Rattle.pst_scen.specs.declared.scenario.Scenario.{Scenario}
+use Rattle.pst_model.specs.ActivityTree.{NoArms}
 use Rattle.pst_scen.specs.ValueReading.{Dead, Whole, read}
-use Rattle.pst_trials.specs.Parts.{span, field_to, atomic, compound, top, traverse, number, by, constraint, act_of, root_node, node, scenario_of, places}
+use Rattle.pst_trials.specs.Parts.{places}
 use Rattle.std.proofs.Common.{refl}
 use Rattle.rand_core.specs.Steps.{u32_at, word_bytes}
 use Rattle.rand_core.specs.Pcg32Seed.{pcg32_seed}
 use Rattle.pst_rng.specs.Words.{generator_at}
 use Rattle.pst_expr.specs.Spans.{numbers_from}
-use Rattle.pst_trials.specs.Selects.{SelectsAreTried, is_three, above_five, below_nine, the_number, branches, arms, arm_of_three, model, scenario, both, taken}
+use Rattle.pst_trials.specs.Selects.{above_five, below_nine, branches, arms, arm_of_three, model, scenario, both, taken}
 
 pub word_one : word_of 1 1 ≡ 319104231195455319
 unfolding generator_at u32_at pcg32_seed word_bytes numbers_from

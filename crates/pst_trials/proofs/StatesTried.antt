@@ -1,35 +1,25 @@
 -- Facts: A state with a first object, whose writer is inferred; and two writers, of which a reader wants the first one's object.
-use Rattle.std.specs.Prelude.{◌≡◌, ℕ, ℤ, pos, List, [], ◌∷◌, Bool, true, false, Option, Some, None}
-use Rattle.pst_expr.specs.declared.tree.BinaryOp.TheVariants.{Implies, Equal, Add}
-use Rattle.pst_expr.specs.declared.tree.UnaryOp.TheVariants.{Not}
-use Rattle.pst_expr.specs.Tree.{Variable, Unary}
-use Rattle.pst_model.specs.declared.object.ObjectKind.TheVariants.{State}
-use Rattle.pst_model.specs.ConstraintTree.{ConstraintTree, SlotTree, Own, Object, Prev, IsFirst}
-use Rattle.pst_model.specs.ActivityTree.{StepTree}
-use Rattle.pst_model.specs.ModelTree.{ModelTree, ActionTree, ObjectTree}
-use Rattle.pst_scen.specs.declared.tree.Fill.TheVariants as fill
-use Rattle.pst_scen.specs.declared.act.Act.{Act}
+use Rattle.std.specs.Prelude.{◌≡◌, ℕ, pos, [], ◌∷◌, Bool, true, false, Some, None}
+use Rattle.pst_model.specs.ConstraintTree.{Own, Object, Prev, IsFirst}
 use Rattle.pst_scen.specs.declared.act.Filled.{Filled}
 use Rattle.pst_scen.specs.declared.act.Flow.TheVariants.{StateIn, StateOut}
 use Rattle.pst_scen.specs.declared.act.Link.TheVariants as link
 use Rattle.pst_scen.specs.declared.scenario.Scenario.{Scenario}
-use Rattle.pst_scen.specs.declared.event.Event.{Event}
 use Rattle.pst_scen.specs.declared.event.Event.TheVariants.{End}
-use Rattle.pst_scen.specs.Slots.{Standing, Known, Lacking, act_slot, output_slot, first_object_slot}
-use Rattle.pst_scen.specs.Constraints.{HasConstraint, value_at}
+use Rattle.pst_scen.specs.Slots.{Known, Lacking, act_slot, output_slot, first_object_slot}
+use Rattle.pst_scen.specs.Constraints.{HasConstraint}
 use Rattle.pst_scen.specs.Order.{Must}
 use Rattle.pst_scen.specs.Conflicts.{Conflict}
 use Rattle.pst_scen.specs.Trace.{MayCome, Starts, IsLegalTrace, IsWhole, last_writer}
-use Rattle.pst_scen.specs.Plans.{CanRun}
 use Rattle.pst_scen.specs.Legal.{Legal}
-use Rattle.pst_scen.specs.ValueReading.{Dead, Whole, read}
-use Rattle.pst_trials.specs.Parts.{name, field_to, atomic, compound, top, pool_of, serve, traverse, input, output, number, by, constraint, act_of, filled, root_node, node, scenario_of, start, places}
+use Rattle.pst_scen.specs.ValueReading.{Whole, read}
+use Rattle.pst_trials.specs.Parts.{field_to, input, output, act_of, filled, scenario_of, start, places}
 use Rattle.std.proofs.Common.{refl}
 use Rattle.rand_core.specs.Steps.{u32_at, word_bytes}
 use Rattle.rand_core.specs.Pcg32Seed.{pcg32_seed}
 use Rattle.pst_rng.specs.Words.{generator_at}
 use Rattle.pst_expr.specs.Spans.{numbers_from}
-use Rattle.pst_trials.specs.States.{StatesAreTried, at_first, one_more, is_one, state, model, written, reader, scenario, one, row, choices, of_written, of_first, of_reader, writer_first, replaced}
+use Rattle.pst_trials.specs.States.{at_first, one_more, is_one, state, written, reader, scenario, one, row, choices, of_written, of_first, of_reader, writer_first, replaced}
 use Rattle.pst_scen.specs.Conflicts.{Uses, SecondWrites}
 use Rattle.pst_scen.specs.Order.{Source, Replaced}
 use Rattle.pst_scen.specs.Flows.{Reads, Writes}
@@ -44,30 +34,24 @@ use Rattle.pst_scen.specs.Supplied.{ArePreviousOnce, ComesFromFirst, AtFirst}
 use Rattle.pst_trials.proofs.Cases.{each_reference}
 use lib.Signed.{le_z, le_z_yes}
 use Rattle.std.proofs.Common.{T, ap}
-use Rattle.std.proofs.Common.{◌≢◌, ◌<◌, ◌⊎◌, suc, zero, inl, inr, nat_eq, sym, ◌∙◌, subst, eq-eqb, lit<, lit≤, true≢false, length, get_or, arith, Contains, not-suc-le-zero, slice_get, replicate}
+use Rattle.std.proofs.Common.{◌<◌, inl, inr, sym, subst, lit<, lit≤, true≢false, arith, Contains}
 use Rattle.pst_scen.specs.declared.act.Act.{Act as Acting}
-use Rattle.pst_scen.specs.declared.act.Claimed.{Claimed}
-use Rattle.pst_model.specs.declared.action.Claim.{Claim}
-use Rattle.pst_scen.specs.Growing.{nothing_yet, most_levels, Inner, Leaf, Look}
-use Rattle.pst_scen.specs.Pieces.{Piece, Action, Statement, IsActionWay, IsWay}
-use Rattle.pst_scen.specs.Tree.{AtTop, Below, IsReleased}
-use Rattle.pst_scen.specs.Flows.{Claims, Feeds, Refers, FromFirst, FromSecond}
-use Rattle.pst_scen.specs.Order.{Cause, Before, Buffer, Sequence, Directly, Through, Itself, Linked, Together}
-use Rattle.pst_scen.specs.Conflicts.{Resource}
-use Rattle.pst_scen.specs.Trace.{Ends, Started, Ended, Runs, MayStart, AreFree, StartsOn}
+use Rattle.pst_scen.specs.Growing.{nothing_yet, most_levels, Leaf}
+use Rattle.pst_scen.specs.Pieces.{Action, IsActionWay}
+use Rattle.pst_scen.specs.Tree.{AtTop}
+use Rattle.pst_scen.specs.Flows.{Refers}
+use Rattle.pst_scen.specs.Order.{Before, Sequence, Directly, Through, Itself}
+use Rattle.pst_scen.specs.Trace.{Ends}
 use Rattle.pst_scen.specs.Laws.{IsPreorder}
 use Rattle.pst_scen.specs.Scenarios.{IsScenario}
-use Rattle.pst_scen.specs.Plans.{StandParallel, ClashesAlone, KeepsParallel}
-use Rattle.pst_scen.specs.Fits.{Fills, FillsRoot, Fits, HasValues, IsActOf, IsReferenceOf, IsClaimOf, IsSameLeaf}
+use Rattle.pst_scen.specs.Fits.{Fills, Fits, IsActOf, IsReferenceOf}
 use Rattle.pst_scen.specs.Supplied.{Supplied}
 use Rattle.pst_scen.specs.Binds.{bounds_of}
-use Rattle.pst_scen.specs.Constraints.{Holds}
-use Rattle.pst_trials.proofs.Cases.{each, each_both, each_contained, EachOf, none_some, false_true}
+use Rattle.pst_trials.proofs.Cases.{each, each_contained, none_some, false_true}
 use Rattle.pst_trials.proofs.Branches.{each_parallel}
-use Rattle.pst_trials.proofs.Orders.{each_conflict, each_contend, each_must, each_must_alone, each_cause, each_before, each_feeds, each_refers, each_together}
-use Rattle.pst_trials.proofs.Traces.{When, due, on_start, each_start, each_below, preorder_by, here, runs_by, starts_next, awaits, whole_by, no_joins}
-use Rattle.pst_trials.proofs.Legality.{differ, in_preorder, are_linked, no_firsts, no_previous, no_chains, sources_by, bounds_by, inferred_by, none_inline, HoldsAt, holds_by, none_clashes}
-use Rattle.pst_trials.specs.Parts.{claim}
+use Rattle.pst_trials.proofs.Orders.{each_refers}
+use Rattle.pst_trials.proofs.Traces.{preorder_by, here, runs_by, starts_next, awaits, whole_by, no_joins}
+use Rattle.pst_trials.proofs.Legality.{differ, in_preorder, are_linked, sources_by, bounds_by, inferred_by, none_inline, HoldsAt, holds_by, none_clashes}
 
 pub reads : read one 2 1 1 choices ≡ Whole row
 unfolding generator_at u32_at pcg32_seed word_bytes numbers_from
@@ -184,11 +168,19 @@ pub trace : IsLegalTrace row 1 writer_first
 trace = record {
   blocks = Ends 0 ∷ Starts (0 ∷ []) (0 ∷ []) ∷ Ends 1 ∷ Starts (1 ∷ []) (0 ∷ []) ∷ [];
   are = refl;
-  legal = ((((tt
-    , starts_next row 1 [] 1 0 tt (lit< tt) (lit< tt) tt (awaits row [] 1 in_order tt) (tt, tt) (tt, (refl, tt)))
-    , runs_by (start 1 0 ∷ []) 1 0 false (0, lit< tt, refl) (tt, tt))
-    , starts_next row 1 (start 1 0 ∷ End 1 ∷ []) 0 0 tt (lit< tt) (lit< tt) ((tt, inl (1, lit< tt, refl)), (tt, tt)) (awaits row (start 1 0 ∷ End 1 ∷ []) 0 in_order tt) ((1, lit< tt, refl), tt) (refl, (tt, tt)))
-    , runs_by (start 1 0 ∷ End 1 ∷ start 0 0 ∷ []) 0 0 false (2, lit< tt, refl) (tt, (tt, (tt, tt))));
+  legal = (
+    (
+      (
+        (
+          tt,
+          starts_next row 1 [] 1 0 tt (lit< tt) (lit< tt) tt (awaits row [] 1 in_order tt) (tt, tt) (tt, (refl, tt)),
+        ),
+        runs_by (start 1 0 ∷ []) 1 0 false (0, lit< tt, refl) (tt, tt),
+      ),
+      starts_next row 1 (start 1 0 ∷ End 1 ∷ []) 0 0 tt (lit< tt) (lit< tt) ((tt, inl (1, lit< tt, refl)), (tt, tt)) (awaits row (start 1 0 ∷ End 1 ∷ []) 0 in_order tt) ((1, lit< tt, refl), tt) (refl, (tt, tt)),
+    ),
+    runs_by (start 1 0 ∷ End 1 ∷ start 0 0 ∷ []) 0 0 false (2, lit< tt, refl) (tt, (tt, (tt, tt))),
+  );
 }
 
 pub whole : IsWhole row writer_first
@@ -203,9 +195,10 @@ is_scenario = record {
   links = are_linked row.actions (((tt, (_, refl, tt)), tt), (((tt, tt), tt), tt));
   firsts = record {
     ascending = λ i j d less below. let under : j < 1 = below in absurd (omega arith);
-    used = λ pool.
-      ((each_contained (λ pool. (a : ℕ) × Uses row a pool) (0 ∷ []) ((1, (link.Initial, inr writes_object)), tt) pool),
-       (λ u. subst (Contains (0 ∷ [])) (sym (pool_of_use u.0 pool u.1)) (here 0 [])));
+    used = λ pool. (
+      (each_contained (λ pool. (a : ℕ) × Uses row a pool) (0 ∷ []) ((1, (link.Initial, inr writes_object)), tt) pool),
+      (λ u. subst (Contains (0 ∷ [])) (sym (pool_of_use u.0 pool u.1)) (here 0 [])),
+    );
   };
 }
   where
@@ -240,14 +233,24 @@ writer_reference = record { reference = output 0; is = refl; pool = refl; flow =
 
 is_reader : IsActOf one reader
 is_reader = record {
-  type = _; is = refl; fields = tt; many_references = refl; references = each (IsReferenceOf one reader) reader.references (reader_reference, tt);
-  many_claims = refl; claims = λ k claim claimed is. absurd (none_some claim is);
+  type = _;
+  is = refl;
+  fields = tt;
+  many_references = refl;
+  references = each (IsReferenceOf one reader) reader.references (reader_reference, tt);
+  many_claims = refl;
+  claims = λ k claim claimed is. absurd (none_some claim is);
 }
 
 is_writer : IsActOf one writer
 is_writer = record {
-  type = _; is = refl; fields = tt; many_references = refl; references = each (IsReferenceOf one writer) writer.references (writer_reference, tt);
-  many_claims = refl; claims = λ k claim claimed is. absurd (none_some claim is);
+  type = _;
+  is = refl;
+  fields = tt;
+  many_references = refl;
+  references = each (IsReferenceOf one writer) writer.references (writer_reference, tt);
+  many_claims = refl;
+  claims = λ k claim claimed is. absurd (none_some claim is);
 }
 
 fits : Fits one 2 row
@@ -269,10 +272,11 @@ not_writer is = false_true (ap writes is)
 
 one_writer : ArePreviousOnce row.actions
 one_writer a r b q first other is_first is_other writes also_writes pools links =
-    each_reference (λ a r first. (b q : ℕ) (other : Filled) → reference_at row.actions b q ≡ Some other → first.flow ≡ StateOut → other.flow ≡ StateOut → (a ≡ b) × (r ≡ q)) row.actions
-        (((λ b q other is_other writes. absurd (not_writer writes)), tt),
-          (((λ b q other is_other writes also. each_reference (λ b q other. other.flow ≡ StateOut → (1 ≡ b) × (0 ≡ q)) row.actions (((λ writes. absurd (not_writer writes)), tt), (((λ writes. (refl, refl)), tt), tt)) b q other is_other also), tt), tt))
-        a r first is_first b q other is_other writes also_writes
+    each_reference (λ a r first. (b q : ℕ) (other : Filled) → reference_at row.actions b q ≡ Some other → first.flow ≡ StateOut → other.flow ≡ StateOut → (a ≡ b) × (r ≡ q)) row.actions (
+      ((λ b q other is_other writes. absurd (not_writer writes)), tt),
+      (((λ b q other is_other writes also. each_reference (λ b q other. other.flow ≡ StateOut → (1 ≡ b) × (0 ≡ q)) row.actions (((λ writes. absurd (not_writer writes)), tt), (((λ writes. (refl, refl)), tt), tt)) b q other is_other also), tt), tt),
+    )
+    a r first is_first b q other is_other writes also_writes
 
 supplied : Supplied one row
 supplied = record {
@@ -313,7 +317,8 @@ before = record {
   sequence = 0;
   earlier = record {
     is_sequence = record { node = _; is = refl; in_order = tt };
-    earlier = 2; later = 3;
+    earlier = 2;
+    later = 3;
     earlier_child = record { node = _; is = refl; in_parent = refl };
     later_child = record { node = _; is = refl; in_parent = refl };
     order = lit< tt;
@@ -325,9 +330,12 @@ before = record {
 
 pub reader_before_second : Must replaced 2 1
 reader_before_second =
-    Directly 2 1 1 (differ 2 1 refl, Replaced 0 (link.Act 0 0)
-        (record { act = _; reference = 0; filled = _; is_act = refl; is = refl; of_flow = refl; of_pool = refl; linked = refl })
-        (record { act = _; reference = 0; filled = _; is_act = refl; is = refl; of_flow = refl; of_pool = refl; linked = refl })) Itself
+    Directly 2 1 1 (
+      differ 2 1 refl,
+      Replaced 0 (link.Act 0 0)
+          (record { act = _; reference = 0; filled = _; is_act = refl; is = refl; of_flow = refl; of_pool = refl; linked = refl })
+          (record { act = _; reference = 0; filled = _; is_act = refl; is = refl; of_flow = refl; of_pool = refl; linked = refl }),
+    ) Itself
 
 pub second_before_itself : Must replaced 1 1
 second_before_itself = Through 1 2 1 (Directly 1 2 2 (differ 1 2 refl, Sequence before) Itself) reader_before_second

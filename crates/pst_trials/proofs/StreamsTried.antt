@@ -1,53 +1,32 @@
 -- Facts: Two actions joined to partners by streams, where both partners are inferred.
-use Rattle.std.specs.Prelude.{◌≡◌, ℕ, List, [], ◌∷◌, Option, Some, None, true, false}
-use Rattle.pst_model.specs.declared.object.ObjectKind.TheVariants.{Stream}
-use Rattle.pst_model.specs.ModelTree.{ModelTree}
-use Rattle.pst_scen.specs.declared.tree.Fill.TheVariants as fill
+use Rattle.std.specs.Prelude.{◌≡◌, ℕ, List, [], ◌∷◌, Some, true, false}
 use Rattle.pst_scen.specs.declared.act.Flow.TheVariants.{StreamIn, StreamOut}
-use Rattle.pst_scen.specs.declared.act.Link.TheVariants.{Act}
-use Rattle.pst_scen.specs.declared.scenario.Scenario.{Scenario}
 use Rattle.pst_scen.specs.declared.event.Event.{Event}
 use Rattle.pst_scen.specs.declared.event.Event.TheVariants.{Start, End}
 use Rattle.pst_scen.specs.Order.{Must, Together}
 use Rattle.pst_scen.specs.Trace.{MayCome, Starts, IsWholeGroup, IsLegalTrace, IsWhole}
 use Rattle.pst_scen.specs.Supplied.{AreNumbered, linkings}
 use Rattle.pst_scen.specs.ValueReading.{Whole, read}
-use Rattle.pst_trials.specs.Parts.{compound, traverse, act_of, filled, root_node, node, scenario_of, places}
-use Rattle.pst_trials.specs.Inference.{flow_model}
-use Rattle.std.proofs.Common.{◌≡◌, ◌<◌, ◌⊎◌, suc, zero, inl, inr, false, true, nat_eq, refl, sym, ◌∙◌, lit<, lit≤, true≢false, length, get_or, arith, Contains, not-suc-le-zero, slice_get, replicate}
-use Rattle.pst_scen.specs.declared.act.Act.{Act as Acting}
-use Rattle.pst_scen.specs.declared.act.Filled.{Filled}
-use Rattle.pst_scen.specs.declared.act.Claimed.{Claimed}
-use Rattle.pst_model.specs.declared.action.Claim.{Claim}
-use Rattle.pst_scen.specs.Growing.{nothing_yet, most_levels, Inner, Leaf, Look}
-use Rattle.pst_scen.specs.Pieces.{Piece, Action, Statement, IsActionWay, IsWay}
-use Rattle.pst_scen.specs.Tree.{AtTop, Below, IsReleased}
-use Rattle.pst_scen.specs.Flows.{Claims, Feeds, Refers}
-use Rattle.pst_scen.specs.Order.{Cause, Before, Buffer, Sequence, Directly, Through, Itself, Linked}
-use Rattle.pst_scen.specs.Flows.{FromFirst, FromSecond}
-use Rattle.pst_scen.specs.Conflicts.{Conflict, Resource}
-use Rattle.pst_scen.specs.Trace.{Ends, Started, Ended, Runs, MayStart, AreFree, StartsOn}
+use Rattle.pst_trials.specs.Parts.{places}
+use Rattle.std.proofs.Common.{◌≡◌, ◌<◌, inl, inr, false, true, nat_eq, refl, sym, lit<, true≢false, get_or, Contains, not-suc-le-zero}
+use Rattle.pst_scen.specs.Tree.{AtTop}
+use Rattle.pst_scen.specs.Order.{Before, Sequence, Directly, Itself, Linked}
+use Rattle.pst_scen.specs.Flows.{FromFirst}
+use Rattle.pst_scen.specs.Conflicts.{Conflict}
+use Rattle.pst_scen.specs.Trace.{Ends, Ended, MayStart, StartsOn}
 use Rattle.pst_scen.specs.declared.act.Flow.TheVariants.{StateIn, StateOut}
 use Rattle.pst_scen.specs.SupplyReading.{is_state}
-use Rattle.std.proofs.Common.{◌≢◌, eq-eqb, subst}
+use Rattle.std.proofs.Common.{eq-eqb, subst}
 use Rattle.pst_scen.specs.Laws.{IsPreorder}
-use Rattle.pst_scen.specs.Scenarios.{IsScenario}
-use Rattle.pst_scen.specs.Plans.{StandParallel, ClashesAlone, KeepsParallel}
-use Rattle.pst_scen.specs.Fits.{Fills, FillsRoot, Fits, HasValues, IsActOf, IsReferenceOf, IsClaimOf, IsSameLeaf}
-use Rattle.pst_scen.specs.Supplied.{Supplied}
-use Rattle.pst_scen.specs.Binds.{bounds_of}
-use Rattle.pst_scen.specs.Constraints.{Holds}
-use Rattle.pst_trials.proofs.Cases.{each, each_both, each_contained, EachOf, none_some, false_true}
-use Rattle.pst_trials.proofs.Branches.{each_parallel}
-use Rattle.pst_trials.proofs.Orders.{each_conflict, each_contend, each_must, each_must_alone, each_cause, each_before, each_feeds, each_refers, each_together}
-use Rattle.pst_trials.proofs.Traces.{When, due, on_start, each_start, each_below, preorder_by, here, runs_by, starts_next, awaits, whole_by, no_joins}
-use Rattle.pst_trials.proofs.Legality.{differ, in_preorder, are_linked, no_firsts, no_previous, no_chains, sources_by, bounds_by, inferred_by, holds_by, none_clashes}
-use Rattle.pst_trials.specs.Parts.{input, output, claim}
+use Rattle.pst_trials.proofs.Cases.{each_contained, EachOf}
+use Rattle.pst_trials.proofs.Orders.{each_conflict, each_must, each_cause, each_before, each_feeds, each_refers, each_together}
+use Rattle.pst_trials.proofs.Traces.{When, due, on_start, each_start, each_below, preorder_by, here, runs_by, whole_by, no_joins}
+use Rattle.pst_trials.proofs.Legality.{differ}
 use Rattle.rand_core.specs.Steps.{u32_at, word_bytes}
 use Rattle.rand_core.specs.Pcg32Seed.{pcg32_seed}
 use Rattle.pst_rng.specs.Words.{generator_at}
 use Rattle.pst_expr.specs.Spans.{numbers_from}
-use Rattle.pst_trials.specs.Streams.{StreamsAreTried, model, scenario, in_pairs}
+use Rattle.pst_trials.specs.Streams.{model, scenario, in_pairs}
 
 pub reads : read model 2 1 2 (0 ∷ 0 ∷ 0 ∷ 0 ∷ 0 ∷ []) ≡ Whole scenario
 unfolding generator_at u32_at pcg32_seed word_bytes numbers_from
@@ -69,7 +48,7 @@ numbered = (lit< tt, lit< tt, (lit< tt, lit< tt, (lit< tt, lit< tt, (lit< tt, li
 two_ascending : (a b : ℕ) → a < b → (i j : ℕ) → i < j → j < 2 → get_or (a ∷ b ∷ []) i 0 < get_or (a ∷ b ∷ []) j 0
 two_ascending a b less i j order under =
     each_below (λ j. (i : ℕ) → i < j → get_or (a ∷ b ∷ []) i 0 < get_or (a ∷ b ∷ []) j 0) 2
-        ((λ i order. absurd (not-suc-le-zero order)), ((λ i order. each_below (λ i. get_or (a ∷ b ∷ []) i 0 < b) 1 (less, tt) i order), tt)) j under i order
+    ((λ i order. absurd (not-suc-le-zero order)), ((λ i order. each_below (λ i. get_or (a ∷ b ∷ []) i 0 < b) 1 (less, tt) i order), tt)) j under i order
 
 abbrev first_group : List ℕ
 first_group = 0 ∷ 2 ∷ []
@@ -137,7 +116,8 @@ before = record {
   sequence = 0;
   earlier = record {
     is_sequence = record { node = _; is = refl; in_order = tt };
-    earlier = 1; later = 2;
+    earlier = 1;
+    later = 2;
     earlier_child = record { node = _; is = refl; in_parent = refl };
     later_child = record { node = _; is = refl; in_parent = refl };
     order = lit< tt;
@@ -156,7 +136,7 @@ order_of_partner = Directly 0 1 3 (differ 0 1 refl, Sequence before) from_second
 from_first : (a b : ℕ) → Must scenario a b → a ≡ 0
 from_first =
     each_must (λ a b. a ≡ 0) scenario (λ a c b first second. first)
-        (λ a x b cause together. each_cause (λ a x. a ≡ 0) scenario (each_before (λ a x. a ≡ 0) scenario in_order (refl, tt)) tt a x cause)
+    (λ a x b cause together. each_cause (λ a x. a ≡ 0) scenario (each_before (λ a x. a ≡ 0) scenario in_order (refl, tt)) tt a x cause)
 
 pub partner_runs_on : Must scenario 2 1 → ⊥
 partner_runs_on must = differ 2 0 refl (from_first 2 1 must)
@@ -214,19 +194,31 @@ first_ended = (2, lit< tt, refl)
 both_of_second : MayStart scenario 2 after_first second_group (0 ∷ 1 ∷ [])
 both_of_second =
     start_pair after_first 1 3 group_of_second ((tt, tt, first_ended), ((tt, tt, (3, lit< tt, refl)), (tt, (tt, tt))))
-        (λ x c in_c before. subst (Ended after_first) (sym (waits after_first x c before).0) first_ended)
+    (λ x c in_c before. subst (Ended after_first) (sym (waits after_first x c before).0) first_ended)
 
 pub trace : IsLegalTrace scenario 2 in_pairs
 trace = record {
   blocks = Ends 1 ∷ Ends 3 ∷ Starts (1 ∷ 3 ∷ []) (0 ∷ 1 ∷ []) ∷ Ends 2 ∷ Ends 0 ∷ Starts (0 ∷ 2 ∷ []) (0 ∷ 1 ∷ []) ∷ [];
   are = refl;
-  legal = ((((((tt
-    , both)
-    , runs_by (Start 0 0 true ∷ Start 2 1 false ∷ []) 0 0 true (0, lit< tt, refl) (tt, (tt, tt)))
-    , runs_by (Start 0 0 true ∷ Start 2 1 false ∷ End 0 ∷ []) 2 1 false (1, lit< tt, refl) (tt, (tt, (tt, tt))))
-    , both_of_second)
-    , runs_by (Start 0 0 true ∷ Start 2 1 false ∷ End 0 ∷ End 2 ∷ Start 1 0 true ∷ Start 3 1 false ∷ []) 3 1 false (5, lit< tt, refl) (tt, (tt, (tt, (tt, (tt, (tt, tt)))))))
-    , runs_by (Start 0 0 true ∷ Start 2 1 false ∷ End 0 ∷ End 2 ∷ Start 1 0 true ∷ Start 3 1 false ∷ End 3 ∷ []) 1 0 true (4, lit< tt, refl) (tt, (tt, (tt, (tt, (tt, (tt, (tt, tt))))))));
+  legal = (
+    (
+      (
+        (
+          (
+            (
+              tt,
+              both,
+            ),
+            runs_by (Start 0 0 true ∷ Start 2 1 false ∷ []) 0 0 true (0, lit< tt, refl) (tt, (tt, tt)),
+          ),
+          runs_by (Start 0 0 true ∷ Start 2 1 false ∷ End 0 ∷ []) 2 1 false (1, lit< tt, refl) (tt, (tt, (tt, tt))),
+        ),
+        both_of_second,
+      ),
+      runs_by (Start 0 0 true ∷ Start 2 1 false ∷ End 0 ∷ End 2 ∷ Start 1 0 true ∷ Start 3 1 false ∷ []) 3 1 false (5, lit< tt, refl) (tt, (tt, (tt, (tt, (tt, (tt, tt)))))),
+    ),
+    runs_by (Start 0 0 true ∷ Start 2 1 false ∷ End 0 ∷ End 2 ∷ Start 1 0 true ∷ Start 3 1 false ∷ End 3 ∷ []) 1 0 true (4, lit< tt, refl) (tt, (tt, (tt, (tt, (tt, (tt, (tt, tt))))))),
+  );
 }
 
 pub whole : IsWhole scenario in_pairs

@@ -1,25 +1,24 @@
 -- Blocks that may come next, where the trace and the scenario are written out.
-use Rattle.std.proofs.Common.{◌≡◌, ◌≢◌, ℕ, zero, suc, ◌<◌, ◌≤◌, List, [], ◌∷◌, ◌++◌, ◌⊎◌, inl, inr, Option, Some, None, Bool, true, false, ◌&&◌, ◌||◌, not, nat_eq, nat_lt, if◌then◌else◌, slice_get, length, get_or, refl, sym, subst, ap, ◌∙◌, arith, Contains, T, lit<, ltb→lt, eq-eqb, le_of_suc-le-suc, not-suc-le-zero}
+use Rattle.std.proofs.Common.{◌≡◌, ℕ, zero, suc, ◌<◌, List, [], ◌∷◌, ◌⊎◌, inl, inr, Option, Some, None, Bool, true, false, ◌&&◌, nat_eq, nat_lt, length, refl, sym, subst, arith, Contains, T, lit<, ltb→lt, eq-eqb, le_of_suc-le-suc, not-suc-le-zero}
 use Rattle.pst_scen.specs.declared.tree.Node.{Node}
 use Rattle.pst_scen.specs.declared.tree.Fill.{Fill}
 use Rattle.pst_scen.specs.declared.tree.Fill.TheVariants.{Joined}
 use Rattle.pst_scen.specs.Tree.{IsReleased}
 use Rattle.pst_scen.specs.declared.act.Flow.{Flow}
-use Rattle.pst_scen.specs.declared.act.Flow.TheVariants.{BufferIn, StateIn, StateOut}
+use Rattle.pst_scen.specs.declared.act.Flow.TheVariants.{StateIn, StateOut}
 use Rattle.pst_scen.specs.declared.act.Link.{Link}
-use Rattle.pst_scen.specs.declared.act.Link.TheVariants as link
 use Rattle.pst_scen.specs.declared.scenario.Scenario.{Scenario}
 use Rattle.pst_scen.specs.declared.event.Event.{Event}
 use Rattle.pst_scen.specs.declared.event.Event.TheVariants.{Start, End}
 use Rattle.pst_scen.specs.Flows.{Refers, Feeds, Reads, Writes}
 use Rattle.pst_scen.specs.Order.{Before, Together, Itself}
 use Rattle.pst_scen.specs.Conflicts.{Conflict}
-use Rattle.pst_scen.specs.Trace.{Started, StartsOn, Ended, Runs, IsHeld, IsWholeGroup, AreFree, MayStart, IsWhole, Names, last_writer}
+use Rattle.pst_scen.specs.Trace.{Started, StartsOn, Ended, Runs, IsWholeGroup, MayStart, IsWhole, Names, last_writer}
 use Rattle.pst_scen.specs.Laws.{IsPreorder}
 use Rattle.pst_scen.specs.SupplyReading.{is_state}
-use Rattle.pst_trials.proofs.Cases.{Each, each, EachOf, each_contained, each_among, Among, false_true}
+use Rattle.pst_trials.proofs.Cases.{Each, each, EachOf, each_contained, false_true}
 use Rattle.pst_trials.proofs.Branches.{earliers}
-use Rattle.pst_trials.proofs.Orders.{EachPair, each_pair, each_before, streams, itself_alone, referrals, each_refers, suppliers, flow_causes, each_feeds}
+use Rattle.pst_trials.proofs.Orders.{EachPair, each_before, streams, itself_alone, referrals, each_refers, suppliers, each_feeds}
 
 -- a fact that is due where a test passes
 abbrev pub When : Bool → Type 0 → Type 0
@@ -154,8 +153,8 @@ pub starts_next : (s : Scenario) (lanes : ℕ) (trace : List Event) (a lane : �
     → MayStart s lanes trace (a ∷ []) (lane ∷ [])
 starts_next s lanes trace a lane none in_s below events sequence feeds state =
     starts_beside s lanes trace a lane (alone_group s a in_s (itself_alone s none a)) below events sequence
-        (λ x feed. due (nat_eq a a) (Ended trace x) (eq-eqb a a refl) (each_feeds (λ x b. When (nat_eq b a) (Ended trace x)) s feeds x a feed))
-        (λ flow pool to is refers. due (nat_eq a a && is_state flow) (Names to (last_writer s pool trace)) (both (eq-eqb a a refl) is) (each_refers (λ b flow pool to. When (nat_eq b a && is_state flow) (Names to (last_writer s pool trace))) s state a flow pool to refers))
+    (λ x feed. due (nat_eq a a) (Ended trace x) (eq-eqb a a refl) (each_feeds (λ x b. When (nat_eq b a) (Ended trace x)) s feeds x a feed))
+    (λ flow pool to is refers. due (nat_eq a a && is_state flow) (Names to (last_writer s pool trace)) (both (eq-eqb a a refl) is) (each_refers (λ b flow pool to. When (nat_eq b a && is_state flow) (Names to (last_writer s pool trace))) s state a flow pool to refers))
   where
     both : {x y : Bool} → x ≡ true → y ≡ true → (x && y) ≡ true
     both {x} {y} is_x is_y = subst (λ x. (x && y) ≡ true) (sym is_x) is_y

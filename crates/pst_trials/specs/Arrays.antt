@@ -1,18 +1,17 @@
 -- Values of one action: elements of an array, a divisor that is 0, and two constraints that never hold together.
-use Rattle.std.specs.Prelude.{◌≡◌, ◌+◌, ◌%◌, ◌<◌, ℕ, ℤ, pos, List, [], ◌∷◌, Bool, true, false, Option, Some, None}
+use Rattle.std.specs.Prelude.{◌≡◌, ℕ, ℤ, pos, List, [], ◌∷◌, true, Option, Some, None}
 use Rattle.pst_expr.specs.declared.tree.BinaryOp.TheVariants.{Implies, Equal, NotEqual, Add, Sub, Mul, Div, Rem, Greater}
 use Rattle.pst_expr.specs.Tree.{Expression, Variable, Element}
 use Rattle.pst_model.specs.declared.action.Field.{Field}
 use Rattle.pst_model.specs.ConstraintTree.{ConstraintTree, SlotTree, Own}
 use Rattle.pst_model.specs.ModelTree.{ModelTree}
-use Rattle.pst_scen.specs.declared.tree.Node.{Node}
 use Rattle.pst_scen.specs.declared.tree.Fill.TheVariants as fill
 use Rattle.pst_scen.specs.declared.act.Act.{Act}
 use Rattle.pst_scen.specs.declared.scenario.Scenario.{Scenario}
 use Rattle.pst_scen.specs.Slots.{act_slot}
-use Rattle.pst_scen.specs.Constraints.{HasConstraint, Holds, value_at, is_refused_at}
+use Rattle.pst_scen.specs.Constraints.{Holds, value_at, is_refused_at}
 use Rattle.pst_scen.specs.Legal.{Legal}
-use Rattle.pst_scen.specs.First.{IsFirst, IsLive}
+use Rattle.pst_scen.specs.First.{IsLive}
 use Rattle.pst_scen.specs.ValueReading.{Whole, read}
 use Rattle.pst_trials.specs.Parts.{span, name, field_to, atomic_with, top, number, by, constraint, act_with, scenario_of, places}
 

@@ -1,5 +1,5 @@
 -- A producer and a consumer whose ends an activity binds, in parallel and in any order.
-use Rattle.std.specs.Prelude.{◌≡◌, ℕ, List, [], ◌∷◌, Option, Some, None}
+use Rattle.std.specs.Prelude.{◌≡◌, ℕ, List, [], ◌∷◌, Some, None}
 use Rattle.pst_model.specs.declared.object.ObjectKind.TheVariants.{Buffer}
 use Rattle.pst_model.specs.ActivityTree.{StepTree, StepRow, Parallel, Schedule}
 use Rattle.pst_model.specs.ModelTree.{ModelTree}
@@ -29,9 +29,9 @@ both = row (traverse_by 0 0 ∷ traverse_by 1 1 ∷ [])
 
 abbrev pub scenario : Fill → Scenario
 scenario block = scenario_of 0
-  (root_node 2 [] ∷ node 0 block ∷ node 1 (fill.Leaf 0) ∷ node 1 (fill.Leaf 1) ∷ [])
-  (act_of 0 (Some 2) (filled BufferOut [] Nothing ∷ []) ∷ act_of 1 (Some 3) (filled BufferIn [] (Act 0 0) ∷ []) ∷ [])
-  []
+    (root_node 2 [] ∷ node 0 block ∷ node 1 (fill.Leaf 0) ∷ node 1 (fill.Leaf 1) ∷ [])
+    (act_of 0 (Some 2) (filled BufferOut [] Nothing ∷ []) ∷ act_of 1 (Some 3) (filled BufferIn [] (Act 0 0) ∷ []) ∷ [])
+    []
 
 abbrev pub choices : List ℕ
 choices = 0 ∷ 0 ∷ 0 ∷ 0 ∷ []

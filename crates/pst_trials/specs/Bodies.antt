@@ -1,11 +1,11 @@
 -- Bodies: what they come to, given the answers of their calls.
-use Rattle.std.specs.Prelude.{◌≡◌, ℕ, ℤ, pos, negsuc, List, [], ◌∷◌, Bool, true, false, Option, Some, None}
+use Rattle.std.specs.Prelude.{◌≡◌, ℕ, pos, negsuc, List, [], ◌∷◌, Option, Some, None}
 use Rattle.pst_expr.specs.declared.ranges.Span.{Span}
-use Rattle.pst_expr.specs.declared.tree.BinaryOp.TheVariants.{Sub, Div, Add, Equal}
+use Rattle.pst_expr.specs.declared.tree.BinaryOp.TheVariants.{Sub, Div, Add}
 use Rattle.pst_expr.specs.Tree.{Expression, Variable}
 use Rattle.pst_target.specs.declared.call.Call.{Call as Answered}
-use Rattle.pst_model.specs.ConstraintTree.{ConstraintTree, SlotTree, Local, Index, Own}
-use Rattle.pst_model.specs.BodyTree.{SourceTree, Value, Answer, BodyStepTree, Declare, Assign, Call, If, Repeat, BodyRow, NoBody, MoreBody}
+use Rattle.pst_model.specs.ConstraintTree.{ConstraintTree, Local, Index}
+use Rattle.pst_model.specs.BodyTree.{Value, Answer, BodyStepTree, Declare, Assign, Call, Repeat, NoBody, MoreBody}
 use Rattle.pst_model.specs.ModelTree.{ModelTree}
 use Rattle.pst_scen.specs.declared.tree.Fill.TheVariants as fill
 use Rattle.pst_scen.specs.declared.scenario.Scenario.{Scenario}

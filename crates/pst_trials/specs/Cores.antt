@@ -1,11 +1,11 @@
 -- Two actions in sequence, and what commands make of their trace on one lane.
-use Rattle.std.specs.Prelude.{◌≡◌, ℕ, List, [], ◌∷◌, Option, Some, None, true, false}
+use Rattle.std.specs.Prelude.{◌≡◌, List, [], ◌∷◌, Some}
 use Rattle.pst_model.specs.ModelTree.{ModelTree}
 use Rattle.pst_scen.specs.declared.tree.Fill.TheVariants as fill
 use Rattle.pst_scen.specs.declared.scenario.Scenario.{Scenario}
 use Rattle.pst_scen.specs.declared.event.Event.{Event}
-use Rattle.pst_scen.specs.declared.event.Event.TheVariants.{Start, End}
-use Rattle.pst_scen.specs.Core.{Command, Open, Close, Step, Core, commands_of}
+use Rattle.pst_scen.specs.declared.event.Event.TheVariants.{End}
+use Rattle.pst_scen.specs.Core.{Command, Open, Close, Core, commands_of}
 use Rattle.pst_scen.specs.Trace.{IsLegalTrace, Prefix}
 use Rattle.pst_scen.specs.ValueReading.{Whole, read}
 use Rattle.pst_trials.specs.Parts.{atomic, compound, top, traverse, act_of, root_node, node, scenario_of, start}
@@ -23,9 +23,9 @@ model = record {
 
 abbrev pub scenario : Scenario
 scenario = scenario_of 0
-  (root_node 2 [] ∷ node 0 (fill.Leaf 0) ∷ node 0 (fill.Leaf 1) ∷ [])
-  (act_of 0 (Some 1) [] ∷ act_of 1 (Some 2) [] ∷ [])
-  []
+    (root_node 2 [] ∷ node 0 (fill.Leaf 0) ∷ node 0 (fill.Leaf 1) ∷ [])
+    (act_of 0 (Some 1) [] ∷ act_of 1 (Some 2) [] ∷ [])
+    []
 
 -- commands of which half do nothing
 abbrev pub commands : List Command

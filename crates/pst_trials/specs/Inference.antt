@@ -1,5 +1,5 @@
 -- A consumer of a buffer, whose producer is inferred.
-use Rattle.std.specs.Prelude.{◌≡◌, ℕ, List, [], ◌∷◌, Option, Some, None}
+use Rattle.std.specs.Prelude.{◌≡◌, ℕ, List, [], ◌∷◌, Some, None}
 use Rattle.pst_model.specs.declared.object.ObjectKind.{ObjectKind}
 use Rattle.pst_model.specs.declared.object.ObjectKind.TheVariants.{Buffer}
 use Rattle.pst_model.specs.ModelTree.{ModelTree, ActionTree}
@@ -35,9 +35,9 @@ model = flow_model Buffer (compound [] (traverse 1 ∷ []) [])
 -- action 0 is the consumer, action 1 the inferred producer
 abbrev pub scenario : Scenario
 scenario = scenario_of 1
-  (root_node 2 [] ∷ node 0 (fill.Leaf 0) ∷ [])
-  (act_of 1 (Some 1) (filled BufferIn [] (Act 1 0) ∷ []) ∷ act_of 0 None (filled BufferOut [] Nothing ∷ []) ∷ [])
-  []
+    (root_node 2 [] ∷ node 0 (fill.Leaf 0) ∷ [])
+    (act_of 1 (Some 1) (filled BufferIn [] (Act 1 0) ∷ []) ∷ act_of 0 None (filled BufferOut [] Nothing ∷ []) ∷ [])
+    []
 
 abbrev pub producer_first : List Event
 producer_first = start 1 0 ∷ End 1 ∷ start 0 0 ∷ End 0 ∷ []

@@ -1,15 +1,14 @@
 -- Constraints on what a handle traverses, and constraints that stand at a traversal.
-use Rattle.std.specs.Prelude.{◌≡◌, ℕ, ℤ, pos, List, [], ◌∷◌, Bool, true, false, Option, Some, None}
-use Rattle.pst_expr.specs.declared.ranges.Span.{Span}
+use Rattle.std.specs.Prelude.{◌≡◌, ℕ, ℤ, pos, List, [], ◌∷◌, Some, None}
 use Rattle.pst_expr.specs.declared.tree.BinaryOp.TheVariants.{Equal, Add}
 use Rattle.pst_expr.specs.Tree.{Variable}
-use Rattle.pst_model.specs.ConstraintTree.{ConstraintTree, SlotTree, Own, Through, Outer}
-use Rattle.pst_model.specs.ActivityTree.{StepTree, Traverse}
+use Rattle.pst_model.specs.ConstraintTree.{ConstraintTree, Own, Through, Outer}
+use Rattle.pst_model.specs.ActivityTree.{Traverse}
 use Rattle.pst_model.specs.ModelTree.{ModelTree, ActionTree}
 use Rattle.pst_scen.specs.declared.tree.Fill.TheVariants as fill
 use Rattle.pst_scen.specs.declared.scenario.Scenario.{Scenario}
 use Rattle.pst_scen.specs.Standing.{handle_node}
-use Rattle.pst_scen.specs.Slots.{Standing, Known, Lacking, Between, node_slot, inline_slot}
+use Rattle.pst_scen.specs.Slots.{Known, Between, node_slot, inline_slot}
 use Rattle.pst_scen.specs.Constraints.{HasConstraint, Holds, value_at}
 use Rattle.pst_scen.specs.First.{IsLive}
 use Rattle.pst_scen.specs.ValueReading.{Whole, read}
@@ -45,9 +44,9 @@ model = record {
 -- the numbers n, a.v, and v at the two other traversals
 abbrev pub scenario : ℤ → ℤ → ℤ → ℤ → Scenario
 scenario n a b c = scenario_of 0
-  (root_node 1 (n ∷ []) ∷ node 0 (fill.Leaf 0) ∷ node 0 (fill.Leaf 1) ∷ node 0 (fill.Leaf 2) ∷ [])
-  (act_with 0 (Some 1) (a ∷ []) ∷ act_with 0 (Some 2) (b ∷ []) ∷ act_with 0 (Some 3) (c ∷ []) ∷ [])
-  []
+    (root_node 1 (n ∷ []) ∷ node 0 (fill.Leaf 0) ∷ node 0 (fill.Leaf 1) ∷ node 0 (fill.Leaf 2) ∷ [])
+    (act_with 0 (Some 1) (a ∷ []) ∷ act_with 0 (Some 2) (b ∷ []) ∷ act_with 0 (Some 3) (c ∷ []) ∷ [])
+    []
 
 abbrev pub row : Scenario
 row = scenario (pos 2) (pos 3) (pos 9) (pos 2)

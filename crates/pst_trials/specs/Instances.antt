@@ -1,5 +1,5 @@
 -- Component instances: where an action may run; and pools of more than one resource instance.
-use Rattle.std.specs.Prelude.{◌≡◌, ℕ, List, [], ◌∷◌, Bool, true, false, Option, Some, None}
+use Rattle.std.specs.Prelude.{◌≡◌, ℕ, List, [], ◌∷◌, true, false, Some, None}
 use Rattle.pst_model.specs.declared.model.Part.{Part}
 use Rattle.pst_model.specs.ModelTree.{ModelTree, ActionTree}
 use Rattle.pst_model.specs.ActivityTree.{Parallel}
@@ -41,9 +41,9 @@ act_in instance n = record { action = 0; instance = instance; node = Some n; fie
 -- M runs in e, and J with its M in d
 abbrev pub scenario : Scenario
 scenario = scenario_of 0
-  (root_node 2 [] ∷ node 0 (fill.Leaf 0) ∷ node 0 (fill.Compound 1 1 []) ∷ node 2 (fill.Leaf 1) ∷ [])
-  (act_in 2 1 ∷ act_in 1 3 ∷ [])
-  []
+    (root_node 2 [] ∷ node 0 (fill.Leaf 0) ∷ node 0 (fill.Compound 1 1 []) ∷ node 2 (fill.Leaf 1) ∷ [])
+    (act_in 2 1 ∷ act_in 1 3 ∷ [])
+    []
 
 -- two locks in parallel, with two instances of the resource
 abbrev pub two_resources : ModelTree
@@ -51,9 +51,9 @@ two_resources = record (claim_model true (Parallel twice)) { pools = pool_of 2 �
 
 abbrev pub apart : Scenario
 apart = scenario_of 0
-  (root_node 1 [] ∷ node 0 fill.Parallel ∷ node 1 (fill.Leaf 0) ∷ node 1 (fill.Leaf 1) ∷ [])
-  (act_claims 0 (Some 2) (claimed true 1 ∷ []) ∷ act_claims 0 (Some 3) (claimed true 0 ∷ []) ∷ [])
-  []
+    (root_node 1 [] ∷ node 0 fill.Parallel ∷ node 1 (fill.Leaf 0) ∷ node 1 (fill.Leaf 1) ∷ [])
+    (act_claims 0 (Some 2) (claimed true 1 ∷ []) ∷ act_claims 0 (Some 3) (claimed true 0 ∷ []) ∷ [])
+    []
 
 pub record InstancesAreTried : Type 0 where
   pub of_component : instances_of model (name 1) None ≡ 1 ∷ 2 ∷ []

@@ -1,9 +1,8 @@
 -- Blocks that wait for some of their branches, or for none.
-use Rattle.std.specs.Prelude.{◌≡◌, ℕ, List, [], ◌∷◌, Bool, true, false, Option, Some, None}
+use Rattle.std.specs.Prelude.{◌≡◌, ℕ, List, [], ◌∷◌, true, Some}
 use Rattle.pst_model.specs.declared.object.ObjectKind.TheVariants.{Buffer}
-use Rattle.pst_model.specs.declared.activity.Join.{Join}
 use Rattle.pst_model.specs.declared.activity.Join.TheVariants.{Fixed, Choose}
-use Rattle.pst_model.specs.ActivityTree.{StepTree, StepRow, Parallel, Joined}
+use Rattle.pst_model.specs.ActivityTree.{StepTree, StepRow, Joined}
 use Rattle.pst_model.specs.ModelTree.{ModelTree}
 use Rattle.pst_scen.specs.declared.tree.Fill.{Fill}
 use Rattle.pst_scen.specs.declared.tree.Fill.TheVariants as fill
@@ -15,8 +14,6 @@ use Rattle.pst_scen.specs.declared.event.Event.TheVariants.{End}
 use Rattle.pst_scen.specs.Binds.{bounds_of}
 use Rattle.pst_scen.specs.Order.{Before, Must}
 use Rattle.pst_scen.specs.Trace.{MayCome, Starts, IsLegalTrace, IsWhole}
-use Rattle.pst_scen.specs.Plans.{CanRun}
-use Rattle.pst_scen.specs.Legal.{Legal}
 use Rattle.pst_scen.specs.ValueReading.{Dead, Whole, read}
 use Rattle.pst_trials.specs.Parts.{atomic, compound, top, traverse, traverse_by, row, act_of, filled, root_node, node, scenario_of, start, places}
 use Rattle.pst_trials.specs.Inference.{flow_model}
@@ -39,9 +36,9 @@ branches = row (traverse 0 ∷ traverse 1 ∷ [])
 -- parallel .. { do A; do B; } do C;
 abbrev pub scenario : Fill → Scenario
 scenario block = scenario_of 0
-  (root_node 3 [] ∷ node 0 block ∷ node 1 (fill.Leaf 0) ∷ node 1 (fill.Leaf 1) ∷ node 0 (fill.Leaf 2) ∷ [])
-  (act_of 0 (Some 2) [] ∷ act_of 1 (Some 3) [] ∷ act_of 2 (Some 4) [] ∷ [])
-  []
+    (root_node 3 [] ∷ node 0 block ∷ node 1 (fill.Leaf 0) ∷ node 1 (fill.Leaf 1) ∷ node 0 (fill.Leaf 2) ∷ [])
+    (act_of 0 (Some 2) [] ∷ act_of 1 (Some 3) [] ∷ act_of 2 (Some 4) [] ∷ [])
+    []
 
 abbrev pub choices : List ℕ
 choices = 0 ∷ 0 ∷ 0 ∷ 0 ∷ []
@@ -55,9 +52,9 @@ across block = flow_model Buffer (compound (1 ∷ 0 ∷ []) (block ∷ traverse_
 
 abbrev pub crossed : Fill → Scenario
 crossed block = scenario_of 0
-  (root_node 2 [] ∷ node 0 block ∷ node 1 (fill.Leaf 0) ∷ node 0 (fill.Leaf 1) ∷ [])
-  (act_of 1 (Some 2) (filled BufferIn [] (Act 1 0) ∷ []) ∷ act_of 0 (Some 3) (filled BufferOut [] Nothing ∷ []) ∷ [])
-  []
+    (root_node 2 [] ∷ node 0 block ∷ node 1 (fill.Leaf 0) ∷ node 0 (fill.Leaf 1) ∷ [])
+    (act_of 1 (Some 2) (filled BufferIn [] (Act 1 0) ∷ []) ∷ act_of 0 (Some 3) (filled BufferOut [] Nothing ∷ []) ∷ [])
+    []
 
 abbrev pub second_first : List Event
 second_first = start 1 0 ∷ End 1 ∷ start 0 0 ∷ End 0 ∷ []

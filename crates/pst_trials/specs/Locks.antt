@@ -1,5 +1,5 @@
 -- Two actions that lock, or share, one resource instance, in parallel and in any order.
-use Rattle.std.specs.Prelude.{◌≡◌, ℕ, List, [], ◌∷◌, Bool, true, false, Option, Some, None}
+use Rattle.std.specs.Prelude.{◌≡◌, ℕ, List, [], ◌∷◌, Bool, true, false, Some}
 use Rattle.pst_model.specs.declared.object.ObjectKind.TheVariants.{Resource}
 use Rattle.pst_model.specs.ActivityTree.{StepTree, StepRow, Parallel, Schedule}
 use Rattle.pst_model.specs.ModelTree.{ModelTree}
@@ -8,7 +8,7 @@ use Rattle.pst_scen.specs.declared.tree.Fill.TheVariants as fill
 use Rattle.pst_scen.specs.declared.act.Act.{Act}
 use Rattle.pst_scen.specs.declared.scenario.Scenario.{Scenario}
 use Rattle.pst_scen.specs.declared.event.Event.{Event}
-use Rattle.pst_scen.specs.declared.event.Event.TheVariants.{Start, End}
+use Rattle.pst_scen.specs.declared.event.Event.TheVariants.{End}
 use Rattle.pst_scen.specs.Conflicts.{Conflict}
 use Rattle.pst_scen.specs.Trace.{MayCome, Starts, IsLegalTrace, IsWhole}
 use Rattle.pst_scen.specs.Plans.{KeepsParallel}

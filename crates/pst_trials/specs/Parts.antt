@@ -1,10 +1,10 @@
 -- Short words for writing models, scenarios and events out.
-use Rattle.std.specs.Prelude.{ℕ, ◌+◌, ℤ, pos, List, [], ◌∷◌, map, length, take, Bool, true, false, Option, Some, None}
+use Rattle.std.specs.Prelude.{ℕ, ℤ, pos, List, [], ◌∷◌, map, length, take, Bool, true, false, Option, Some, None}
 use Rattle.std.specs.List.{range_with_len}
 use Rattle.pst_base.specs.declared.table.NameId.{NameId}
 use Rattle.pst_expr.specs.declared.ranges.Span.{Span}
 use Rattle.pst_expr.specs.declared.tree.BinaryOp.{BinaryOp}
-use Rattle.pst_expr.specs.Tree.{Expression, Constant, Variable, Binary}
+use Rattle.pst_expr.specs.Tree.{Expression, Constant, Binary}
 use Rattle.pst_model.specs.declared.action.Field.{Field}
 use Rattle.pst_model.specs.declared.action.Reference.{Reference}
 use Rattle.pst_model.specs.declared.action.Claim.{Claim}
@@ -15,7 +15,7 @@ use Rattle.pst_model.specs.declared.model.Serve.{Serve}
 use Rattle.pst_model.specs.declared.activity.Tie.{Tie}
 use Rattle.pst_model.specs.ConstraintTree.{ConstraintTree, SlotTree}
 use Rattle.pst_model.specs.BodyTree.{BodyStepTree}
-use Rattle.pst_model.specs.ActivityTree.{ActivityTree, StepTree, StepRow, Traverse, NoSteps, MoreSteps}
+use Rattle.pst_model.specs.ActivityTree.{StepTree, StepRow, Traverse, NoSteps, MoreSteps}
 use Rattle.pst_model.specs.ModelTree.{ModelTree, ActionTree, ObjectTree, Atomic, Compound}
 use Rattle.pst_scen.specs.declared.tree.Node.{Node}
 use Rattle.pst_scen.specs.declared.tree.Fill.{Fill}
@@ -28,7 +28,7 @@ use Rattle.pst_scen.specs.declared.act.Link.{Link}
 use Rattle.pst_scen.specs.declared.scenario.First.{First}
 use Rattle.pst_scen.specs.declared.scenario.Scenario.{Scenario}
 use Rattle.pst_scen.specs.declared.event.Event.{Event}
-use Rattle.pst_scen.specs.declared.event.Event.TheVariants.{Start, End}
+use Rattle.pst_scen.specs.declared.event.Event.TheVariants.{Start}
 use Rattle.pst_scen.specs.ValueReading.{Answer, Options, Dead, Whole, read}
 
 -- ---- models
@@ -60,8 +60,14 @@ bare kind = record { name = name 9; kind = kind; fields = []; constraints = [] }
 -- an atomic action type of pss_top
 abbrev pub atomic : List Reference → List Claim → ActionTree
 atomic references claims = record {
-  name = name 9; component = name 0; is_abstract = false; fields = []; references = references; claims = claims;
-  constraints = []; content = Atomic [];
+  name = name 9;
+  component = name 0;
+  is_abstract = false;
+  fields = [];
+  references = references;
+  claims = claims;
+  constraints = [];
+  content = Atomic [];
 }
 
 -- an atomic action type of pss_top with fields and constraints

@@ -1,5 +1,5 @@
 -- Why scenarios of the other trials have no plan.
-use Rattle.std.specs.Prelude.{true, false}
+use Rattle.std.specs.Prelude.{true}
 use Rattle.pst_scen.specs.declared.tree.Fill.TheVariants as fill
 use Rattle.pst_scen.specs.Refusals.{IsRefused, IsUnrefused, Cycle, GroupClash, ParallelOrder, ParallelClash}
 use Rattle.pst_trials.specs.Locks.{scenario as claiming}

@@ -1,8 +1,8 @@
 -- Repetitions with the numbers of their turns, and conditional statements.
-use Rattle.std.specs.Prelude.{◌≡◌, ℕ, ℤ, pos, List, [], ◌∷◌, Bool, true, false, Option, Some, None}
+use Rattle.std.specs.Prelude.{◌≡◌, pos, [], ◌∷◌, true, false, Some, None}
 use Rattle.pst_expr.specs.declared.tree.BinaryOp.TheVariants.{Equal, Add, Sub}
 use Rattle.pst_expr.specs.Tree.{Expression, Variable}
-use Rattle.pst_model.specs.ConstraintTree.{ConstraintTree, SlotTree, Own, Index}
+use Rattle.pst_model.specs.ConstraintTree.{ConstraintTree, Own, Index}
 use Rattle.pst_model.specs.ActivityTree.{StepTree, Traverse, Sequence, Repeat, If, NoStep}
 use Rattle.pst_model.specs.ModelTree.{ModelTree}
 use Rattle.pst_scen.specs.declared.tree.Fill.TheVariants as fill
@@ -51,19 +51,19 @@ three = model (Repeat (plain (number 3)) body)
 -- three turns, of which the second has the action
 abbrev pub scenario : Scenario
 scenario = scenario_of 0
-  (root_node 1 [] ∷ node 0 fill.Repeat
+    (root_node 1 [] ∷ node 0 fill.Repeat
     ∷ node 1 (fill.Turn 0) ∷ node 2 fill.Sequence ∷ node 3 (fill.If false)
     ∷ node 1 (fill.Turn 1) ∷ node 5 fill.Sequence ∷ node 6 (fill.If true) ∷ node 7 (fill.Leaf 0)
     ∷ node 1 (fill.Turn 2) ∷ node 9 fill.Sequence ∷ node 10 (fill.If false) ∷ [])
-  (act_with 0 (Some 8) (pos 2 ∷ []) ∷ [])
-  []
+    (act_with 0 (Some 8) (pos 2 ∷ []) ∷ [])
+    []
 
 -- repeat (2) do A;
 abbrev pub two_turns : Scenario
 two_turns = scenario_of 0
-  (root_node 1 [] ∷ node 0 fill.Repeat ∷ node 1 (fill.Turn 0) ∷ node 2 (fill.Leaf 0) ∷ node 1 (fill.Turn 1) ∷ node 4 (fill.Leaf 1) ∷ [])
-  (act_with 0 (Some 3) (pos 0 ∷ []) ∷ act_with 0 (Some 5) (pos 3 ∷ []) ∷ [])
-  []
+    (root_node 1 [] ∷ node 0 fill.Repeat ∷ node 1 (fill.Turn 0) ∷ node 2 (fill.Leaf 0) ∷ node 1 (fill.Turn 1) ∷ node 4 (fill.Leaf 1) ∷ [])
+    (act_with 0 (Some 3) (pos 0 ∷ []) ∷ act_with 0 (Some 5) (pos 3 ∷ []) ∷ [])
+    []
 
 pub record RepeatsAreTried : Type 0 where
   -- The word of seed 1 at place 2 leaves 0 at 16 values.

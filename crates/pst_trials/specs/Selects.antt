@@ -1,12 +1,11 @@
 -- A choice among branches with guards and weights, and a choice by value.
-use Rattle.std.specs.Prelude.{◌≡◌, ℕ, ℤ, pos, List, [], ◌∷◌, Bool, true, false, Option, Some, None}
-use Rattle.pst_expr.specs.declared.ranges.Span.{Span}
+use Rattle.std.specs.Prelude.{◌≡◌, ℕ, pos, List, [], ◌∷◌, Option, Some, None}
 use Rattle.pst_expr.specs.declared.tree.BinaryOp.TheVariants.{Equal, Greater, Less}
 use Rattle.pst_expr.specs.Tree.{Variable}
 use Rattle.pst_rng.specs.Words.{word_of}
 use Rattle.pst_rng.specs.Weights.{weighted_start_of}
 use Rattle.pst_model.specs.ConstraintTree.{ConstraintTree, Own}
-use Rattle.pst_model.specs.ActivityTree.{StepTree, BranchTree, ArmTree, BranchRow, ArmRow, Select, Match, MakeBranch, MakeArm, NoBranches, MoreBranches, NoArms, MoreArms, NoStep}
+use Rattle.pst_model.specs.ActivityTree.{StepTree, ArmRow, Select, Match, MakeBranch, MakeArm, NoBranches, MoreBranches, NoArms, MoreArms, NoStep}
 use Rattle.pst_model.specs.ModelTree.{ModelTree}
 use Rattle.pst_scen.specs.declared.tree.Fill.TheVariants as fill
 use Rattle.pst_scen.specs.declared.scenario.Scenario.{Scenario}
@@ -52,9 +51,9 @@ model steps = record {
 -- branch 1 of the first, arm 1 of the second
 abbrev pub scenario : Scenario
 scenario = scenario_of 0
-  (root_node 2 (pos 3 ∷ []) ∷ node 0 (fill.Select 1) ∷ node 1 (fill.Leaf 0) ∷ node 0 (fill.Match (Some 1)) ∷ node 3 (fill.Leaf 1) ∷ [])
-  (act_of 1 (Some 2) [] ∷ act_of 1 (Some 4) [] ∷ [])
-  []
+    (root_node 2 (pos 3 ∷ []) ∷ node 0 (fill.Select 1) ∷ node 1 (fill.Leaf 0) ∷ node 0 (fill.Match (Some 1)) ∷ node 3 (fill.Leaf 1) ∷ [])
+    (act_of 1 (Some 2) [] ∷ act_of 1 (Some 4) [] ∷ [])
+    []
 
 -- two branches that may both be taken
 abbrev pub both : StepTree
@@ -63,9 +62,9 @@ both = Select (MoreBranches (MakeBranch None 1 (traverse 0)) (MoreBranches (Make
 -- the root's number is 3, and the place of select is place 2
 abbrev pub taken : ℕ → ℕ → Scenario
 taken branch action = scenario_of 0
-  (root_node 2 (pos 3 ∷ []) ∷ node 0 (fill.Select branch) ∷ node 1 (fill.Leaf 0) ∷ [])
-  (act_of action (Some 2) [] ∷ [])
-  []
+    (root_node 2 (pos 3 ∷ []) ∷ node 0 (fill.Select branch) ∷ node 1 (fill.Leaf 0) ∷ [])
+    (act_of action (Some 2) [] ∷ [])
+    []
 
 pub record SelectsAreTried : Type 0 where
   -- Word 1 of seed 1 is 319104231195455319, which leaves 7 at the 16 values of n: digit 12 is 3.

@@ -1,12 +1,12 @@
 -- A state with a first object, whose writer is inferred; and two writers, of which a reader wants the first one's object.
-use Rattle.std.specs.Prelude.{◌≡◌, ℕ, ℤ, pos, List, [], ◌∷◌, Bool, true, false, Option, Some, None}
+use Rattle.std.specs.Prelude.{◌≡◌, ℕ, ℤ, pos, List, [], ◌∷◌, Option, Some, None}
 use Rattle.pst_expr.specs.declared.tree.BinaryOp.TheVariants.{Implies, Equal, Add}
 use Rattle.pst_expr.specs.declared.tree.UnaryOp.TheVariants.{Not}
 use Rattle.pst_expr.specs.Tree.{Variable, Unary}
 use Rattle.pst_model.specs.declared.object.ObjectKind.TheVariants.{State}
-use Rattle.pst_model.specs.ConstraintTree.{ConstraintTree, SlotTree, Own, Object, Prev, IsFirst}
+use Rattle.pst_model.specs.ConstraintTree.{ConstraintTree, Own, Object, Prev, IsFirst}
 use Rattle.pst_model.specs.ActivityTree.{StepTree}
-use Rattle.pst_model.specs.ModelTree.{ModelTree, ActionTree, ObjectTree}
+use Rattle.pst_model.specs.ModelTree.{ModelTree, ObjectTree}
 use Rattle.pst_scen.specs.declared.tree.Fill.TheVariants as fill
 use Rattle.pst_scen.specs.declared.act.Act.{Act}
 use Rattle.pst_scen.specs.declared.act.Filled.{Filled}
@@ -15,14 +15,14 @@ use Rattle.pst_scen.specs.declared.act.Link.TheVariants as link
 use Rattle.pst_scen.specs.declared.scenario.Scenario.{Scenario}
 use Rattle.pst_scen.specs.declared.event.Event.{Event}
 use Rattle.pst_scen.specs.declared.event.Event.TheVariants.{End}
-use Rattle.pst_scen.specs.Slots.{Standing, Known, Lacking, act_slot, output_slot, first_object_slot}
+use Rattle.pst_scen.specs.Slots.{Known, Lacking, act_slot, output_slot, first_object_slot}
 use Rattle.pst_scen.specs.Constraints.{HasConstraint, value_at}
 use Rattle.pst_scen.specs.Order.{Must}
 use Rattle.pst_scen.specs.Conflicts.{Conflict}
 use Rattle.pst_scen.specs.Trace.{MayCome, Starts, IsLegalTrace, IsWhole, last_writer}
 use Rattle.pst_scen.specs.Plans.{CanRun}
 use Rattle.pst_scen.specs.Legal.{Legal}
-use Rattle.pst_scen.specs.ValueReading.{Dead, Whole, read}
+use Rattle.pst_scen.specs.ValueReading.{Whole, read}
 use Rattle.pst_trials.specs.Parts.{name, field_to, atomic, compound, top, pool_of, serve, traverse, input, output, number, by, constraint, act_of, filled, root_node, node, scenario_of, start, places}
 
 -- initial -> x == 0
@@ -62,9 +62,9 @@ reader = act_of 1 (Some 1) (filled StateIn [] (link.Act 1 0) ∷ [])
 -- do R; with the first object's and the written object's values
 abbrev pub scenario : ℤ → ℤ → Scenario
 scenario first x = scenario_of 1
-  (root_node 2 [] ∷ node 0 (fill.Leaf 0) ∷ [])
-  (reader ∷ act_of 0 None (written x ∷ []) ∷ [])
-  (record { pool = 0; values = first ∷ [] } ∷ [])
+    (root_node 2 [] ∷ node 0 (fill.Leaf 0) ∷ [])
+    (reader ∷ act_of 0 None (written x ∷ []) ∷ [])
+    (record { pool = 0; values = first ∷ [] } ∷ [])
 
 abbrev pub one : ModelTree
 one = model (traverse 1 ∷ [])
@@ -92,10 +92,10 @@ writer_first = start 1 0 ∷ End 1 ∷ start 0 0 ∷ End 0 ∷ []
 -- do W; do W; do R; where the reader reads what the first writer wrote
 abbrev pub replaced : Scenario
 replaced = scenario_of 0
-  (root_node 2 [] ∷ node 0 (fill.Leaf 0) ∷ node 0 (fill.Leaf 1) ∷ node 0 (fill.Leaf 2) ∷ [])
-  (act_of 0 (Some 1) (filled StateOut (pos 1 ∷ []) link.Initial ∷ []) ∷ act_of 0 (Some 2) (filled StateOut (pos 2 ∷ []) (link.Act 0 0) ∷ [])
+    (root_node 2 [] ∷ node 0 (fill.Leaf 0) ∷ node 0 (fill.Leaf 1) ∷ node 0 (fill.Leaf 2) ∷ [])
+    (act_of 0 (Some 1) (filled StateOut (pos 1 ∷ []) link.Initial ∷ []) ∷ act_of 0 (Some 2) (filled StateOut (pos 2 ∷ []) (link.Act 0 0) ∷ [])
     ∷ act_of 1 (Some 3) (filled StateIn [] (link.Act 0 0) ∷ []) ∷ [])
-  (record { pool = 0; values = pos 0 ∷ [] } ∷ [])
+    (record { pool = 0; values = pos 0 ∷ [] } ∷ [])
 
 pub record StatesAreTried : Type 0 where
   -- a reader may read the first object or a new writer's; then the writer's previous one, and two values

@@ -1,5 +1,5 @@
 -- Two actions joined to partners by streams, where both partners are inferred.
-use Rattle.std.specs.Prelude.{◌≡◌, ℕ, List, [], ◌∷◌, Option, Some, None, true, false}
+use Rattle.std.specs.Prelude.{◌≡◌, List, [], ◌∷◌, Some, None, true, false}
 use Rattle.pst_model.specs.declared.object.ObjectKind.TheVariants.{Stream}
 use Rattle.pst_model.specs.ModelTree.{ModelTree}
 use Rattle.pst_scen.specs.declared.tree.Fill.TheVariants as fill
@@ -22,10 +22,10 @@ model = flow_model Stream (compound [] (traverse 0 ∷ traverse 1 ∷ []) [])
 -- 0 with the inferred consumer 2, then 1 with the inferred producer 3
 abbrev pub scenario : Scenario
 scenario = scenario_of 2
-  (root_node 2 [] ∷ node 0 (fill.Leaf 0) ∷ node 0 (fill.Leaf 1) ∷ [])
-  (act_of 0 (Some 1) (filled StreamOut [] (Act 2 0) ∷ []) ∷ act_of 1 (Some 2) (filled StreamIn [] (Act 3 0) ∷ [])
+    (root_node 2 [] ∷ node 0 (fill.Leaf 0) ∷ node 0 (fill.Leaf 1) ∷ [])
+    (act_of 0 (Some 1) (filled StreamOut [] (Act 2 0) ∷ []) ∷ act_of 1 (Some 2) (filled StreamIn [] (Act 3 0) ∷ [])
     ∷ act_of 1 None (filled StreamIn [] (Act 0 0) ∷ []) ∷ act_of 0 None (filled StreamOut [] (Act 1 0) ∷ []) ∷ [])
-  []
+    []
 
 abbrev pub in_pairs : List Event
 in_pairs = Start 0 0 true ∷ Start 2 1 false ∷ End 0 ∷ End 2 ∷ Start 1 0 true ∷ Start 3 1 false ∷ End 3 ∷ End 1 ∷ []

@@ -2,8 +2,6 @@
 //! compute or are short. Each fact is part of the contract of a function that does nothing.
 #![tactic(auto)]
 
-use pst_order::whole_is_sound;
-
 ghost use Rattle.pst_trials.specs.Locks.{LocksAreTried};
 ghost use Rattle.pst_trials.specs.Inference.{InferenceIsTried};
 ghost use Rattle.pst_trials.specs.Streams.{StreamsAreTried};
@@ -19,6 +17,8 @@ ghost use Rattle.pst_trials.specs.Repeats.{RepeatsAreTried};
 ghost use Rattle.pst_trials.specs.Instances.{InstancesAreTried};
 ghost use Rattle.pst_trials.specs.Cores.{CoresAreTried};
 ghost use Rattle.pst_trials.specs.Bodies.{BodiesAreTried};
+
+use pst_order::whole_is_sound;
 
 /// Two actions that lock, or share, the one instance of a resource, in parallel and in any order.
 pub fn locks_are_tried()
