@@ -34,6 +34,33 @@ use Rattle.pst_trials.proofs.Cases.{EachOf}
 use Rattle.pst_trials.proofs.Orders.{each_before}
 use Rattle.pst_trials.proofs.Traces.{When, due, each_below, preorder_by, here, runs_by, starts_next, whole_by, no_joins}
 use Rattle.pst_trials.proofs.Legality.{differ}
+use Rattle.std.proofs.Common.{◌≢◌, ◌⊎◌, suc, zero, inr, ◌∙◌, lit≤, true≢false, length, get_or, arith, Contains, not-suc-le-zero, replicate}
+use Rattle.pst_scen.specs.declared.act.Act.{Act as Acting}
+use Rattle.pst_scen.specs.declared.act.Filled.{Filled}
+use Rattle.pst_scen.specs.declared.act.Claimed.{Claimed}
+use Rattle.pst_model.specs.declared.action.Claim.{Claim}
+use Rattle.pst_model.specs.ModelTree.{ModelTree}
+use Rattle.pst_scen.specs.Growing.{nothing_yet, most_levels, Inner, Leaf, Look}
+use Rattle.pst_scen.specs.Pieces.{Piece, Action, Statement, IsActionWay, IsWay}
+use Rattle.pst_scen.specs.Flows.{Claims, Refers, FromFirst, FromSecond}
+use Rattle.pst_scen.specs.Order.{Cause, Linked, Together}
+use Rattle.pst_scen.specs.Conflicts.{Conflict, Resource}
+use Rattle.pst_scen.specs.Trace.{Started, Runs, MayStart, AreFree, StartsOn}
+use Rattle.pst_scen.specs.Scenarios.{IsScenario}
+use Rattle.pst_scen.specs.Plans.{StandParallel, ClashesAlone, KeepsParallel}
+use Rattle.pst_scen.specs.Fits.{Fills, FillsRoot, Fits, HasValues, IsActOf, IsReferenceOf, IsClaimOf, IsSameLeaf}
+use Rattle.pst_scen.specs.Supplied.{Supplied}
+use Rattle.pst_scen.specs.Constraints.{Holds}
+use Rattle.pst_trials.proofs.Cases.{each, each_both, each_contained, none_some, false_true}
+use Rattle.pst_trials.proofs.Branches.{each_parallel}
+use Rattle.pst_trials.proofs.Orders.{each_conflict, each_contend, each_must, each_must_alone, each_cause, each_feeds, each_refers, each_together}
+use Rattle.pst_trials.proofs.Traces.{on_start, each_start, awaits}
+use Rattle.pst_trials.proofs.Legality.{in_preorder, are_linked, no_firsts, no_previous, no_chains, sources_by, bounds_by, inferred_by, holds_by, none_clashes}
+use Rattle.pst_trials.specs.Parts.{input, output, claim}
+use Rattle.pst_model.specs.declared.activity.Join.{Join}
+use Rattle.pst_scen.specs.Pieces.{IsJoin}
+use Rattle.std.proofs.Common.{None, pos}
+use Rattle.pst_model.specs.ActivityTree.{StepTree}
 
 pub reads_named : read (model (Joined true (Fixed 1) branches)) 3 1 0 choices ≡ Whole (scenario (fill.Joined true 1))
 unfolding generator_at u32_at pcg32_seed word_bytes numbers_from
@@ -253,3 +280,37 @@ plain_crossed_before = record {
 pub plain_crossed_cycle : Must (crossed fill.Parallel) 0 0
 plain_crossed_cycle =
     Through 0 1 0 (Directly 0 1 1 (differ 0 1 refl, Sequence plain_crossed_before) Itself) (Directly 1 0 0 (differ 1 0 refl, Buffer (crossed_feeds fill.Parallel)) Itself)
+
+-- ---- blocks as fills
+
+way : (block : StepTree) (action : ℕ) → action < 3 → IsActionWay (model block) action (Some 0) (Leaf action 0) []
+way block action below = each_below (λ action. IsActionWay (model block) action (Some 0) (Leaf action 0) []) 3 (first, (second, (third, tt))) action below
+  where
+    first : IsActionWay (model block) 0 (Some 0) (Leaf 0 0) []
+    first = record { type = _; is = refl; instance = 0; inside = (0, lit< tt, refl); content = (refl, refl) }
+
+    second : IsActionWay (model block) 1 (Some 0) (Leaf 1 0) []
+    second = record { type = _; is = refl; instance = 0; inside = (0, lit< tt, refl); content = (refl, refl) }
+
+    third : IsActionWay (model block) 2 (Some 0) (Leaf 2 0) []
+    third = record { type = _; is = refl; instance = 0; inside = (0, lit< tt, refl); content = (refl, refl) }
+
+fills_of : (join : Join) (joined : ℕ) → IsJoin join 2 joined → Fills (model (Joined true join branches)) most_levels (Action 3 None) None (nothing_yet 0) (scenario (fill.Joined true joined))
+fills_of join joined is_join =
+    (_, _, record { type = _; is = refl; instance = 0; inside = (0, lit< tt, refl); content = ([], tt, refl, refl) },
+      (_, (_, _, (joined, is_join, refl, refl), (_, (_, _, way (Joined true join branches) 0 (lit< tt), refl), (_, (_, _, way (Joined true join branches) 1 (lit< tt), refl), refl))),
+        (_, (_, _, way (Joined true join branches) 2 (lit< tt), refl), refl)))
+
+root_of : (join : Join) (joined : ℕ) → IsJoin join 2 joined → FillsRoot (model (Joined true join branches)) 3 (scenario (fill.Joined true joined))
+root_of join joined is_join = record {
+  tree = scenario (fill.Joined true joined);
+  fills = fills_of join joined is_join;
+  nodes = refl;
+  leaves = (record { action = refl; instance = refl; node = refl }, (record { action = refl; instance = refl; node = refl }, (record { action = refl; instance = refl; node = refl }, tt)));
+}
+
+pub named_fills : FillsRoot (model (Joined true (Fixed 1) branches)) 3 (scenario (fill.Joined true 1))
+named_fills = root_of (Fixed 1) 1 refl
+
+pub chosen_fills : FillsRoot (model (Joined true (Choose 1) branches)) 3 (scenario (fill.Joined true 2))
+chosen_fills = root_of (Choose 1) 2 (false ∷ true ∷ [], refl, refl, refl)

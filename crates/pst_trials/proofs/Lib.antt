@@ -19,3 +19,4 @@ mod InlinesTried
 mod RepeatsTried
 mod InstancesTried
 mod CoresTried
+mod ClaimValuesTried

@@ -12,6 +12,7 @@ use Rattle.pst_scen.specs.declared.scenario.Scenario.{Scenario}
 use Rattle.pst_scen.specs.declared.event.Event.{Event}
 use Rattle.pst_scen.specs.declared.event.Event.TheVariants.{End}
 use Rattle.pst_scen.specs.Binds.{bounds_of}
+use Rattle.pst_scen.specs.Fits.{FillsRoot}
 use Rattle.pst_scen.specs.Order.{Before, Must}
 use Rattle.pst_scen.specs.Trace.{MayCome, Starts, IsLegalTrace, IsWhole}
 use Rattle.pst_scen.specs.ValueReading.{Dead, Whole, read}
@@ -84,3 +85,6 @@ pub record JoinsAreTried : Type 0 where
   pub crossed_whole : IsWhole (crossed (fill.Joined true 0)) second_first
   -- and across a plain block, which is a cycle
   pub plain_crossed_cycle : Must (crossed fill.Parallel) 0 0
+  -- the blocks fill their statements
+  pub named_fills : FillsRoot (model (Joined true (Fixed 1) branches)) 3 (scenario (fill.Joined true 1))
+  pub chosen_fills : FillsRoot (model (Joined true (Choose 1) branches)) 3 (scenario (fill.Joined true 2))

@@ -14,3 +14,4 @@ pub mod Inlines
 pub mod Repeats
 pub mod Instances
 pub mod Cores
+pub mod ClaimValues

@@ -10,6 +10,7 @@ use Rattle.pst_scen.specs.declared.scenario.Scenario.{Scenario}
 use Rattle.pst_scen.specs.Slots.{Known, inline_slot}
 use Rattle.pst_scen.specs.Standing.{StandsFor}
 use Rattle.pst_scen.specs.Constraints.{HasConstraint, value_at}
+use Rattle.pst_scen.specs.Fits.{FillsRoot}
 use Rattle.pst_scen.specs.Order.{Before}
 use Rattle.pst_scen.specs.ValueReading.{Dead, Whole, read}
 use Rattle.pst_trials.specs.Parts.{field_to, atomic_with, compound, top, traverse, row, number, by, constraint, act_with, root_node, node, scenario_of, places}
@@ -80,3 +81,5 @@ pub record RepeatsAreTried : Type 0 where
   -- turns run one after another; the words of seed 1 at places 3 and 4 leave 3 and 0 at 16 values
   pub reads_two : read (model (Repeat (plain (number 2)) (traverse 0))) 1 1 0 (0 ∷ 0 ∷ 0 ∷ 13 ∷ 3 ∷ []) ≡ Whole two_turns
   pub turns_in_order : Before two_turns 0 1
+  -- the turns and the parts of the conditional statement fill their statements
+  pub fills : FillsRoot three 1 scenario

@@ -9,6 +9,7 @@ use Rattle.pst_model.specs.ActivityTree.{StepTree, ArmRow, Select, Match, MakeBr
 use Rattle.pst_model.specs.ModelTree.{ModelTree}
 use Rattle.pst_scen.specs.declared.tree.Fill.TheVariants as fill
 use Rattle.pst_scen.specs.declared.scenario.Scenario.{Scenario}
+use Rattle.pst_scen.specs.Legal.{Legal}
 use Rattle.pst_scen.specs.ValueReading.{Dead, Whole, read}
 use Rattle.pst_trials.specs.Parts.{span, field_to, atomic, compound, top, traverse, number, by, constraint, act_of, root_node, node, scenario_of, places}
 
@@ -83,3 +84,5 @@ pub record SelectsAreTried : Type 0 where
   pub first_second : read (model (both ∷ [])) 2 1 0 (0 ∷ 12 ∷ 1 ∷ 0 ∷ []) ≡ Whole (taken 0 0)
   pub no_third : read (model (both ∷ [])) 2 1 0 (0 ∷ 12 ∷ 2 ∷ 0 ∷ []) ≡ Dead
   pub no_choice_left : read (model (both ∷ [])) 2 1 0 (0 ∷ 12 ∷ 0 ∷ 0 ∷ 0 ∷ []) ≡ Dead
+  -- the scenario is legal
+  pub legal : Legal (model (branches None ∷ arms arm_of_three ∷ [])) 2 scenario

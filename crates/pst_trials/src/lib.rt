@@ -16,6 +16,7 @@ ghost use Rattle.pst_trials.specs.Inlines.{InlinesAreTried};
 ghost use Rattle.pst_trials.specs.Repeats.{RepeatsAreTried};
 ghost use Rattle.pst_trials.specs.Instances.{InstancesAreTried};
 ghost use Rattle.pst_trials.specs.Cores.{CoresAreTried};
+ghost use Rattle.pst_trials.specs.ClaimValues.{ClaimValuesAreTried};
 ghost use Rattle.pst_trials.specs.Bodies.{BodiesAreTried};
 
 use pst_order::whole_is_sound;
@@ -95,4 +96,9 @@ pub fn instances_are_tried()
 /// What commands make of a trace on one lane.
 pub fn cores_are_tried()
     ensures { CoresAreTried }
+{}
+
+/// The number of a claimed resource instance, and the values of its fields.
+pub fn claim_values_are_tried()
+    ensures { ClaimValuesAreTried }
 {}

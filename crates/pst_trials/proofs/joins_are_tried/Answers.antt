@@ -1,4 +1,4 @@
-use Rattle.pst_trials.proofs.JoinsTried.{reads_named, awaited, released, trace, whole, plain_awaited, plain_waits, plain_trace, chosen_options, chosen_second, chosen_first, too_many, crossed_reads, crossed_bound, crossed_released, crossed_order, crossed_trace, crossed_whole, plain_crossed_cycle}
+use Rattle.pst_trials.proofs.JoinsTried.{reads_named, awaited, released, trace, whole, plain_awaited, plain_waits, plain_trace, chosen_options, chosen_second, chosen_first, too_many, crossed_reads, crossed_bound, crossed_released, crossed_order, crossed_trace, crossed_whole, plain_crossed_cycle, named_fills, chosen_fills}
 use Rattle.pst_trials.proofs.joins_are_tried.Goals as goal
 
 pub returns : goal.returns
@@ -22,4 +22,6 @@ returns c = record {
   crossed_trace = crossed_trace;
   crossed_whole = crossed_whole;
   plain_crossed_cycle = plain_crossed_cycle;
+  named_fills = named_fills;
+  chosen_fills = chosen_fills;
 }

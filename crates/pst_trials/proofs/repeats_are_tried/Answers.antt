@@ -1,4 +1,4 @@
-use Rattle.pst_trials.proofs.RepeatsTried.{reads, options, no_turn, negative_count, stands, has, turn, holds, reads_two, turns_in_order}
+use Rattle.pst_trials.proofs.RepeatsTried.{reads, options, no_turn, negative_count, stands, has, turn, holds, reads_two, turns_in_order, fills}
 use Rattle.pst_trials.proofs.repeats_are_tried.Goals as goal
 
 pub returns : goal.returns
@@ -13,4 +13,5 @@ returns c = record {
   holds = holds;
   reads_two = reads_two;
   turns_in_order = turns_in_order;
+  fills = fills;
 }

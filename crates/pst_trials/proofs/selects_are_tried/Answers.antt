@@ -1,4 +1,4 @@
-use Rattle.pst_trials.proofs.SelectsTried.{word_one, reads, options, reads_with_guard, dead_without_arm, two_at_seven, none_at_three, word_two, weighted, second_first, first_second, no_third, no_choice_left}
+use Rattle.pst_trials.proofs.SelectsTried.{word_one, reads, options, reads_with_guard, dead_without_arm, two_at_seven, none_at_three, word_two, weighted, second_first, first_second, no_third, no_choice_left, legal}
 use Rattle.pst_trials.proofs.selects_are_tried.Goals as goal
 
 pub returns : goal.returns
@@ -16,4 +16,5 @@ returns c = record {
   first_second = first_second;
   no_third = no_third;
   no_choice_left = no_choice_left;
+  legal = legal;
 }
