@@ -6,3 +6,4 @@ mod Idle
 mod Starting
 mod Openings
 mod Steps
+mod RowPlanned

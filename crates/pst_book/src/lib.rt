@@ -6,6 +6,11 @@
 
 mod book;
 mod open;
+#[cfg(test)]
+mod row;
 mod scan;
 
 pub use book::{Book, Opened};
+
+#[cfg(test)]
+mod tests;
