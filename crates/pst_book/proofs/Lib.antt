@@ -7,3 +7,6 @@ mod Starting
 mod Openings
 mod Steps
 mod RowPlanned
+mod Numbers
+mod Changing
+mod Ties

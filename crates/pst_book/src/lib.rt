@@ -8,7 +8,10 @@ mod book;
 mod open;
 #[cfg(test)]
 mod row;
+mod rows;
+mod run;
 mod scan;
+
 
 pub use book::{Book, Opened};
 
