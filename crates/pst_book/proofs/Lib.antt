@@ -10,3 +10,6 @@ mod RowPlanned
 mod Numbers
 mod Changing
 mod Ties
+mod Pushes
+mod Going
+mod Founding

@@ -1,5 +1,5 @@
 -- How many numbers have a property.
-use Rattle.std.proofs.Common.{◌≡◌, ◌≢◌, ◌⊎◌, ◌↔◌, ℕ, zero, suc, ◌+◌, ◌-◌, ◌<◌, ◌≤◌, List, [], ◌∷◌, ◌++◌, length, get_or, refl, sym, ap, ◌∙◌, subst, inl, inr, ⊎_elim, arith}
+use Rattle.std.proofs.Common.{◌≡◌, ◌≢◌, ◌⊎◌, ℕ, zero, suc, ◌+◌, ◌<◌, ◌≤◌, List, [], ◌∷◌, length, refl, sym, ◌∙◌, subst, inl, inr, ⊎_elim, arith}
 use Rattle.std.specs.Prelude.{Contains}
 use Rattle.std.proofs.lemmas.List.Elements.{Contains-get_or}
 use Rattle.std.proofs.lemmas.Bool.{cases_eq}
@@ -130,3 +130,10 @@ at_most_bound n f s =
     let l = at_most (numbers 0 n) (λ x p. let q = f x p in in_numbers 0 n x (omega arith) (omega (arith, q))) s in
     let e = length-numbers 0 n in
     omega (arith, l, e)
+
+pub numbers_below : (n : ℕ) → AreSoManyOf (λ x. x < n) n
+numbers_below zero = none_of_them (λ x l. omega (arith, l))
+numbers_below (suc n) =
+    let e : n + 1 ≡ suc n = omega arith in
+    subst (λ k. AreSoManyOf (λ x. x < suc n) k) e
+    (one_more_has n (λ l. omega (arith, l)) (λ y l. omega (arith, l)) (omega arith) (λ y l. ⊎_elim (λ q. inl q) (λ q. inr (omega (arith, l, q))) (cases_eq y n)) (numbers_below n))

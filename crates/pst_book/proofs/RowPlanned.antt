@@ -1,5 +1,5 @@
 -- The worked row has its plan.
-use Rattle.std.proofs.Common.{◌≡◌, ◌≢◌, ◌⊎◌, ◌↔◌, ℕ, zero, suc, ◌<◌, ◌≤◌, List, [], ◌∷◌, length, get_or, Option, Some, None, refl, sym, ap, ◌∙◌, subst, inl, inr, ⊎_elim, arith}
+use Rattle.std.proofs.Common.{◌≡◌, ◌↔◌, ℕ, zero, suc, ◌<◌, List, [], ◌∷◌, length, get_or, Some, refl, sym, ap, ◌∙◌, subst, arith}
 use Rattle.std.specs.Prelude.{slice_get}
 use Rattle.std.proofs.lemmas.Option.{slice_get_within, get_or_from_slice_get}
 use Rattle.pst_scen.specs.declared.act.Act.{Act}
@@ -8,17 +8,16 @@ use Rattle.pst_scen.specs.declared.act.Claimed.{Claimed}
 use Rattle.pst_scen.specs.declared.act.Flow.{Flow}
 use Rattle.pst_scen.specs.declared.act.Link.{Link}
 use Rattle.pst_scen.specs.declared.tree.Node.{Node}
-use Rattle.pst_scen.specs.declared.tree.Fill.{Fill}
-use Rattle.pst_scen.specs.declared.tree.Fill.TheVariants.{Compound, Leaf, Joined}
+use Rattle.pst_scen.specs.declared.tree.Fill.TheVariants.{Leaf, Joined}
 use Rattle.pst_scen.specs.declared.scenario.Scenario.{Scenario}
 use Rattle.pst_scen.specs.Tree.{IsChild, StandsUnder, AtTop, Below, Contains-act, IsReleased}
 use Rattle.pst_scen.specs.Flows.{Refers, Streams, FromFirst, FromSecond, IsClaim}
 use Rattle.pst_scen.specs.Order.{Before, Cause, Sequence, Buffer, Source, Previous, Replaced, Together, Itself, Linked, Must, Directly, Through}
 use Rattle.pst_scen.specs.Conflicts.{Conflict, Clash, Resource, FirstWrites, SecondWrites}
 use Rattle.pst_scen.specs.Rows.{Has}
-use Rattle.pst_scen.specs.Plans.{ClashesAlone, IsParallel, StandParallel, IsGroupNumber, AreEntriesOf}
+use Rattle.pst_scen.specs.Plans.{IsParallel, StandParallel, IsGroupNumber, AreEntriesOf}
 use Rattle.pst_scen.specs.Refusals.{GroupClashes, Two, One, IsUnrefused}
-use Rattle.pst_order.specs.Facts.{IsLinked, LinksStates, IsOutput}
+use Rattle.pst_order.specs.Facts.{IsLinked, LinksStates}
 use Rattle.pst_book.specs.Row.{the_root, the_leaf, the_act, IsRow, the_plan}
 
 module _ (s : Scenario) (row : IsRow s) where

@@ -1,8 +1,8 @@
 -- What a start and an end make of the tables.
-use Rattle.std.proofs.Common.{◌≡◌, ◌≢◌, ◌⊎◌, ◌↔◌, ℕ, ◌+◌, ◌-◌, ◌<◌, ◌≤◌, List, [], ◌∷◌, ◌++◌, take, drop, length, get_or, Bool, true, false, Option, Some, None, refl, sym, ap, ◌∙◌, subst, inl, inr, ⊎_elim, arith, append-nil, take_all, slice_set}
-use Rattle.std.specs.Prelude.{Contains, MatchOption}
-use Rattle.std.proofs.lemmas.Bool.{cases_eq}
-use Rattle.std.proofs.lemmas.List.{drop_all, get_or-set_same, get_or-set_other, length-set}
+use Rattle.std.proofs.Common.{◌≡◌, ◌≢◌, ◌⊎◌, ◌↔◌, ℕ, ◌+◌, ◌-◌, ◌<◌, ◌≤◌, List, [], ◌∷◌, ◌++◌, take, drop, length, get_or, Bool, true, false, Option, Some, None, refl, sym, ap, ◌∙◌, subst, inl, inr, ⊎_elim, arith, append-nil, take_all, slice_set, replicate}
+use Rattle.std.specs.Prelude.{MatchOption}
+use Rattle.std.proofs.lemmas.Bool.{cases_eq, cases_lt}
+use Rattle.std.proofs.lemmas.List.{drop_all, get_or-set_same, get_or-set_other, length-set, get_or-replicate, length-replicate}
 use Rattle.std.proofs.lemmas.List.Elements.{Contains-append_left, Contains-push, Contains-push_cases}
 use Rattle.std.proofs.lemmas.Option.{get_or_from_slice_get, slice_get_read}
 use Rattle.pst_scen.specs.declared.rows.Rows.{Rows}
@@ -11,15 +11,16 @@ use Rattle.pst_scen.specs.declared.event.Event.TheVariants.{Start, End}
 use Rattle.pst_scen.specs.Trace.{StartsOn, Started, Ended, Runs, IsHeld}
 use Rattle.pst_scen.specs.Rows.{Has}
 use Rattle.pst_scen.specs.Plan.{Entries}
-use Rattle.pst_book.specs.Tables.{AreSoManyOf, IsAwaited, IsInTheWay, IsLeft, HoldsAlone, IsInside, AreTied, AreRaised, AreLowered, AreFreed}
-use Rattle.pst_book.proofs.Numbers.{the_same, one_more_has, one_less_has, some_has, at_most_bound}
+use Rattle.pst_book.specs.Tables.{AreSoManyOf, IsAwaited, IsInTheWay, HoldsAlone, IsInside, AreTied, AreRaised, AreLowered, AreFreed, AreNext, AreAllAwaited}
+use Rattle.pst_book.proofs.Elements.{none_in}
+use Rattle.pst_book.proofs.Numbers.{none_of_them, numbers_below, the_same, one_more_has, one_less_has, some_has, at_most_bound}
 
 -- a slice of a whole list, put back
 pub put_back : {X : Type 0} (k : ℕ) (new old : List X) → length new ≡ length old → k ≡ length old → take k (new ++ drop (length new) old) ≡ new
 put_back k new old e l =
     ap (λ t. take k (new ++ t)) (drop_all (length new) old (omega (arith, e))) ∙ ap (λ t. take k t) (append-nil new) ∙ take_all k new (omega (arith, e, l))
 
-has_or : (rows : Rows) (a b : ℕ) → Has rows a b ⊎ (Has rows a b → ⊥)
+pub has_or : (rows : Rows) (a b : ℕ) → Has rows a b ⊎ (Has rows a b → ⊥)
 has_or rows a b = decide _ _
   where
     decide : (x y : ℕ) → (x ≡ y → ⊥) ⊎ ((x ≡ y → ⊥) → ⊥)
@@ -301,3 +302,60 @@ module _ (p : Entries) (lanes : ℕ) (t : List Event) (started ended : List Bool
 -- an element that was read, by any default
 pub read : {X : Type 0} (xs : List X) (i : ℕ) (x d : X) → i < length xs → x ≡ get_or xs i x → get_or xs i d ≡ x
 read xs i x d l e = get_or_from_slice_get xs i x d (slice_get_read xs (length xs) i x refl l e)
+
+-- a greater first number
+pub move_first : (p : Entries) (lanes : ℕ) (t : List Event) (started ended : List Bool) (awaited in_the_way next : List ℕ) (holders : List (Option ℕ)) (first left to : ℕ) → AreTied p lanes t started ended awaited in_the_way next holders first left → ((a : ℕ) → first ≤ a → a < to → get_or started a false ≡ true) → to ≤ length p.groups → AreTied p lanes t started ended awaited in_the_way next holders to left
+move_first p lanes t started ended awaited in_the_way next holders first left to tied marked l =
+    record {
+      many_started = tied.many_started;
+      many_ended = tied.many_ended;
+      many_awaited = tied.many_awaited;
+      many_in_the_way = tied.many_in_the_way;
+      many_next = tied.many_next;
+      many_holders = tied.many_holders;
+      inside = tied.inside;
+      started_is = tied.started_is;
+      ended_is = tied.ended_is;
+      awaited_is = tied.awaited_is;
+      in_the_way_is = tied.in_the_way_is;
+      next_is = tied.next_is;
+      holders_are = tied.holders_are;
+      first_is = λ a m. ⊎_elim (λ k. tied.first_is a k) (λ k. (tied.started_is a (omega (arith, m, l))).0 (marked a k m)) (cases_lt a first);
+      first_in = l;
+      left_is = tied.left_is;
+    }
+
+-- nothing has started
+new_tied_at : (p : Entries) (lanes : ℕ) (started ended : List Bool) (awaited in_the_way next : List ℕ) (holders : List (Option ℕ)) → started ≡ replicate (length p.groups) false → ended ≡ replicate (length p.groups) false → AreAllAwaited p awaited → in_the_way ≡ replicate (length p.groups) 0 → AreNext p.groups next → holders ≡ replicate lanes None → AreTied p lanes [] started ended awaited in_the_way next holders 0 (length p.groups)
+new_tied_at p lanes started ended awaited in_the_way next holders s e w y n h =
+    record {
+      many_started = ap (λ (xs : List Bool). length xs) s ∙ length-replicate (length p.groups) false;
+      many_ended = ap (λ (xs : List Bool). length xs) e ∙ length-replicate (length p.groups) false;
+      many_awaited = w.many;
+      many_in_the_way = ap (λ (xs : List ℕ). length xs) y ∙ length-replicate (length p.groups) 0;
+      many_next = n.many;
+      many_holders = ap (λ (xs : List (Option ℕ)). length xs) h ∙ length-replicate lanes None;
+      inside = record { acts = λ a q. absurd (none_in _ q.1.1); on_lanes = λ a l q. absurd (none_in _ q.1); begun = λ a q. absurd (none_in _ q) };
+      started_is = λ a l. ((λ t. absurd (unmarked started s a l t)), (λ q. absurd (none_in _ q.1.1)));
+      ended_is = λ a l. ((λ t. absurd (unmarked ended e a l t)), (λ q. absurd (none_in _ q)));
+      awaited_is = λ a l. the_same (λ b q. (q.0, q.1, none_in (End b))) (λ b q. (q.0, q.1)) (w.each a l);
+      in_the_way_is = λ a l. subst (λ k. AreSoManyOf (IsInTheWay p [] a) k) (sym (ap (λ (xs : List ℕ). get_or xs a 0) y ∙ get_or-replicate (length p.groups) a 0 0 l)) (none_of_them (λ b q. none_in _ q.2.0.1.1));
+      next_is = n.each;
+      holders_are = λ l k. subst (λ o. MatchOption o (IsHeld [] l → ⊥) (λ a. HoldsAlone [] l a)) (sym (ap (λ (xs : List (Option ℕ)). get_or xs l None) h ∙ get_or-replicate lanes l None None k)) (λ q. none_in _ q.1.1);
+      first_is = λ a l. absurd (omega (arith, l));
+      first_in = omega arith;
+      left_is = all_below (length p.groups);
+    }
+  where
+    unmarked : (xs : List Bool) → xs ≡ replicate (length p.groups) false → (a : ℕ) → a < length p.groups → get_or xs a false ≡ true → ⊥
+    unmarked xs q a l t = let both : false ≡ true = sym (ap (λ (ys : List Bool). get_or ys a false) q ∙ get_or-replicate (length p.groups) a false false l) ∙ t in cc
+
+    all_below : (n : ℕ) → AreSoManyOf (λ a. (a < n) × (Ended [] a → ⊥)) n
+    all_below n = the_same (λ a q. (q, none_in (End a))) (λ a q. q.0) (numbers_below n)
+
+pub new_tied : (p : Entries) (lanes : ℕ) (t : List Event) (started ended : List Bool) (awaited in_the_way next : List ℕ) (holders : List (Option ℕ)) (left n : ℕ) → n ≡ length p.groups → left ≡ length p.groups → t ≡ [] → started ≡ replicate n false → ended ≡ replicate n false → AreAllAwaited p awaited → in_the_way ≡ replicate n 0 → AreNext p.groups next → holders ≡ replicate lanes None → AreTied p lanes t started ended awaited in_the_way next holders 0 left
+new_tied p lanes t started ended awaited in_the_way next holders left n many all none s e w y x h =
+    subst (λ v. AreTied p lanes v started ended awaited in_the_way next holders 0 left) (sym none)
+    (subst (λ v. AreTied p lanes [] started ended awaited in_the_way next holders 0 v) (sym all)
+    (new_tied_at p lanes started ended awaited in_the_way next holders
+    (s ∙ ap (λ v. replicate v false) many) (e ∙ ap (λ v. replicate v false) many) w (y ∙ ap (λ v. replicate v 0) many) x h))

@@ -45,6 +45,15 @@ pub record IsNext (groups : List ℕ) (a next : ℕ) : Type 0 where
   pub none_between : (b : ℕ) → a < b → b < next → get_or groups b 0 ≡ get_or groups a 0 → ⊥
   pub same : next < length groups → get_or groups next 0 ≡ get_or groups a 0
 
+pub record AreNext (groups next : List ℕ) : Type 0 where
+  pub many : length next ≡ length groups
+  pub each : (a : ℕ) → a < length groups → IsNext groups a (get_or next a 0)
+
+-- how many must come before each
+pub record AreAllAwaited (p : Entries) (awaited : List ℕ) : Type 0 where
+  pub many : length awaited ≡ length p.groups
+  pub each : (a : ℕ) → a < length p.groups → AreSoManyOf (λ b. (b < length p.groups) × Has p.must b a) (get_or awaited a 0)
+
 -- what a trace shows of actions and lanes that there are
 pub record IsInside (p : Entries) (lanes : ℕ) (trace : List Event) : Type 0 where
   pub acts : (a : ℕ) → Started trace a → a < length p.groups

@@ -9,8 +9,8 @@ ghost use Rattle.pst_order.specs.Facts.{LinksStates};
 ghost use Rattle.pst_order.specs.Rule.{open_count, close_count};
 ghost use Rattle.pst_book.specs.Books.{with_trace, IsShut, DidOpen};
 
-use crate::open::{candidate, count_members, note, start};
-use crate::scan::{all_ended, holder, runs};
+use crate::open::{candidate, count_members, start};
+use crate::run::Run;
 use pst_base::NoMemory;
 use pst_order::{
     core_is_by_rule, core_is_one, groups_are_whole, members_are_those, rule_fits, rule_goes_on,
@@ -34,9 +34,7 @@ pub struct Opened {
 #[derive(Drop)]
 pub struct Book<'a> {
     scenario: &'a Scenario,
-    plan: &'a Plan,
-    lanes: u32,
-    trace: Vec<Event>,
+    run: Run<'a>,
 }
 
 impl<'a> Model for Book<'a> {
@@ -67,19 +65,15 @@ impl<'a> Book<'a> {
         requires wide { widest plan.now.groups ≤ lanes }
         ensures { IfOk result (λ b. b ≡ record { scenario = scenario.now; plan = plan.now; lanes = lanes; trace = [] }) }
     {
-        Ok(Book {
-            scenario,
-            plan,
-            lanes,
-            trace: Vec::with_capacity(alloc, 2 * plan.len() as usize)?,
-        })
+        let run = Run::new(alloc, plan, lanes)?;
+        Ok(Book { scenario, run })
     }
 
     /// The number of lanes.
     pub fn lanes(&self) -> u32
         ensures { result ≡ self.now.lanes }
     {
-        self.lanes
+        self.run.lanes()
     }
 
     /// The trace. It begins a whole legal trace on the book's lanes, has at most two events for each
@@ -97,7 +91,7 @@ impl<'a> Book<'a> {
         core_is_one();
         rule_is_prefix();
         rule_fits();
-        &self.trace
+        self.run.trace()
     }
 
     /// Starts the least startable group on the least idle lanes, its members ascending, and tells
@@ -115,10 +109,10 @@ impl<'a> Book<'a> {
         whole_is_sound();
         members_are_those();
         groups_are_whole();
-        let group = candidate(self.plan, &self.trace, self.lanes)?;
-        let first = self.trace.len();
-        let count = count_members(self.plan, group);
-        start(&mut self.trace, self.plan, group, count, self.lanes);
+        let group = candidate(&self.run)?;
+        let first = self.run.trace().len();
+        let count = count_members(&self.run, group);
+        start(&mut self.run, group, count);
         Some(Opened { first, count })
     }
 
@@ -133,10 +127,10 @@ impl<'a> Book<'a> {
     {
         core_is_by_rule();
         rule_fits();
-        if !runs(&self.trace, act) {
+        if !self.run.runs(act) {
             return false;
         }
-        note(&mut self.trace, Event::End { act });
+        self.run.end(act);
         true
     }
 
@@ -144,13 +138,13 @@ impl<'a> Book<'a> {
     pub fn finished(&self) -> bool
         ensures { IsTrue result ↔ IsWhole self.now.scenario self.now.trace }
     {
-        all_ended(&self.trace, self.plan.len())
+        self.run.all_ended()
     }
 
     /// The action that runs on the lane.
     pub fn running_on(&self, lane: u32) -> Option<u32>
         ensures { MatchOption result (IsHeld self.now.trace lane → ⊥) (λ a. StartsOn self.now.trace a lane × (Ended self.now.trace a → ⊥)) }
     {
-        holder(&self.trace, lane)
+        self.run.holder(lane)
     }
 }

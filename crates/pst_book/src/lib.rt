@@ -10,8 +10,6 @@ mod open;
 mod row;
 mod rows;
 mod run;
-mod scan;
-
 
 pub use book::{Book, Opened};
 

@@ -1,8 +1,8 @@
 //! A run: its trace, with tables that spare the reading of it.
-ghost use Rattle.std.specs.Prelude.{◌≡◌, ◌≢◌, ◌↔◌, ◌+◌, ◌*◌, ◌<◌, ◌≤◌, ◌++◌, ◌∷◌, [], ℕ, length, get_or, IsTrue, IfOk, MatchOption, vec_capacity};
+ghost use Rattle.std.specs.Prelude.{◌≡◌, ◌≢◌, ◌↔◌, ◌+◌, ◌*◌, ◌<◌, ◌≤◌, ◌++◌, ◌∷◌, [], ℕ, length, get_or, IsTrue, IfOk, MatchOption, vec_capacity, replicate, true, false};
 ghost use Rattle.pst_scen.specs.Trace.{StartsOn, Started, Ended, Runs, IsHeld};
 ghost use Rattle.pst_book.specs.Books.{MayJoin};
-ghost use Rattle.pst_book.specs.Tables.{IsNext, AreFreed};
+ghost use Rattle.pst_book.specs.Tables.{IsNext, AreNext, AreAllAwaited, AreFreed};
 
 use crate::rows::{lower, raise};
 use pst_base::NoMemory;
@@ -47,6 +47,72 @@ impl<'a> Model for Run<'a> {
     ghost invariant = { IsTied };
 }
 
+/// So many numbers, each the given one.
+fn numbers(alloc: Global, value: u32, count: usize) -> Result<Vec<u32>, NoMemory>
+    ensures { IfOk result (λ v. v.items ≡ replicate count value) }
+{
+    Ok(Vec::from_elem(alloc, value, count)?)
+}
+
+/// So many marks, none of them set.
+fn marks(alloc: Global, count: usize) -> Result<Vec<bool>, NoMemory>
+    ensures { IfOk result (λ v. v.items ≡ replicate count false) }
+{
+    Ok(Vec::from_elem(alloc, false, count)?)
+}
+
+/// So many lanes, each without an action.
+fn free_lanes(alloc: Global, count: usize) -> Result<Vec<Option<u32>>, NoMemory>
+    ensures { IfOk result (λ v. v.items ≡ replicate count None) }
+{
+    Ok(Vec::from_elem(alloc, None, count)?)
+}
+
+/// The next action of the same group, for each action.
+fn next_members(alloc: Global, plan: &Plan) -> Result<Vec<u32>, NoMemory>
+    ensures { IfOk result (λ v. AreNext plan.now.groups v.items) }
+{
+    let count = plan.len();
+    let mut next = numbers(alloc, count, count as usize)?;
+    let mut seen = numbers(alloc, count, count as usize)?;
+    let mut left = count;
+    'acts: while left > 0 {
+        left -= 1;
+        let group = plan.group(left) as usize;
+        next[left as usize] = seen[group];
+        seen[group] = left;
+    }
+    Ok(next)
+}
+
+/// How many actions must come before each action.
+fn all_awaited(alloc: Global, plan: &Plan) -> Result<Vec<u32>, NoMemory>
+    ensures { IfOk result (λ v. AreAllAwaited plan.now v.items) }
+{
+    let count = plan.len();
+    let must = plan.must_rows();
+    let mut awaited = numbers(alloc, 0, count as usize)?;
+    for act in 0..count {
+        raise(&mut awaited, must, act);
+    }
+    Ok(awaited)
+}
+
+/// The least number from the given one on that isn't marked, or the number of marks.
+fn first_unmarked(marks: &[bool], from: u32, count: u32) -> u32
+    requires from { from ≤ count }
+    requires many { count ≡ length marks.now }
+    ensures inside { (from ≤ result) × (result ≤ count) }
+    ensures marked { (a : ℕ) → from ≤ a → a < result → get_or marks.now a false ≡ true }
+{
+    for act in from..count {
+        if !marks[act as usize] {
+            return act;
+        }
+    }
+    count
+}
+
 /// Writes an event, for which there is room.
 fn note(trace: &mut Vec<Event>, event: Event)
     requires { length trace.old.items < vec_capacity trace.old }
@@ -77,6 +143,40 @@ fn free(holders: &mut [Option<u32>], act: u32)
 }
 
 impl<'a> Run<'a> {
+    /// The run in which nothing has started, with room for the whole trace.
+    pub(crate) fn new(alloc: Global, plan: &'a Plan, lanes: u32) -> Result<Run<'a>, NoMemory>
+        ensures { IfOk result (λ r. (r.plan ≡ plan.now) × (r.lanes ≡ lanes) × (r.trace ≡ []) × (2 * length plan.now.groups ≤ r.room)) }
+    {
+        let count = plan.len() as usize;
+        let trace = Vec::with_capacity(alloc, 2 * count)?;
+        let started = marks(alloc, count)?;
+        let ended = marks(alloc, count)?;
+        let awaited = all_awaited(alloc, plan)?;
+        let in_the_way = numbers(alloc, 0, count)?;
+        let next = next_members(alloc, plan)?;
+        let holders = free_lanes(alloc, lanes as usize)?;
+        Ok(Run {
+            plan,
+            lanes,
+            trace,
+            started,
+            ended,
+            awaited,
+            in_the_way,
+            next,
+            holders,
+            first: 0,
+            left: plan.len(),
+        })
+    }
+
+    /// Looks on for the first action that hasn't started.
+    pub(crate) fn skip_started(&mut self)
+        ensures { self.new ≡ self.old }
+    {
+        self.first = first_unmarked(&self.started, self.first, self.plan.len());
+    }
+
     /// The plan of the run.
     pub(crate) fn plan(&self) -> &Plan
         ensures { result.now ≡ self.now.plan }

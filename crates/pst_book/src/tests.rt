@@ -33,6 +33,13 @@ fn runs_a_row(rt: HostRuntime) -> Result<(), Fail> {
     assert!(rt; book.finished());
     assert_eq!(rt; book.open(), None);
     assert_eq!(rt; book.trace().len(), 4);
-    assert_eq!(rt; book.trace()[2], Event::Start { act: 1, lane: 0, more: false });
+    assert_eq!(rt;
+        book.trace()[2],
+        Event::Start {
+            act: 1,
+            lane: 0,
+            more: false
+        }
+    );
     Ok(())
 }

@@ -73,9 +73,10 @@ impl Plan {
         }
     }
 
-    /// The number of actions.
+    /// The number of actions. The number of each group is its least member.
     pub fn len(&self) -> u32
-        ensures { result ≡ length self.now.groups }
+        ensures is { result ≡ length self.now.groups }
+        ensures numbered { AreNumbered self.now.groups }
     {
         self.must.size
     }

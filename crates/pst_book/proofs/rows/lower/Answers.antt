@@ -1,6 +1,6 @@
-use Rattle.std.proofs.Common.{◌≡◌, ◌+◌, ◌<◌, ◌^◌, ℕ, List, length, get_or, subst, sym, arith}
+use Rattle.std.proofs.Common.{◌≡◌, ◌+◌, ◌<◌, subst, sym, arith}
 use Rattle.pst_scen.specs.Rows.{Has}
-use Rattle.pst_book.proofs.Changing.{Changed, change_more}
+use Rattle.pst_book.proofs.Changing.{change_more}
 use Rattle.pst_book.proofs.rows.lower.Goals as goal
 
 pub loop-other-preserved : goal.loop-other-preserved

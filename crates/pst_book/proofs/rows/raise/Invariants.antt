@@ -1,4 +1,4 @@
-use Rattle.std.proofs.Common.{◌≡◌, ◌+◌, ℕ}
+use Rattle.std.proofs.Common.{◌≡◌, ◌+◌}
 use Rattle.pst_scen.specs.Rows.{Has}
 use Rattle.pst_book.proofs.Changing.{Changed}
 use Rattle.pst_book.proofs.rows.raise.Given as goal

@@ -1,5 +1,5 @@
-use Rattle.std.proofs.Common.{◌≡◌, ◌≢◌, ◌<◌, ℕ, None, Some, length, arith}
-use Rattle.pst_book.proofs.Changing.{Changed, change_more}
+use Rattle.std.proofs.Common.{◌≡◌, ◌≢◌, None, Some, arith}
+use Rattle.pst_book.proofs.Changing.{change_more}
 use Rattle.pst_book.proofs.run.free.Goals as goal
 
 pub loop-lane-preserved : goal.loop-lane-preserved

@@ -1,4 +1,4 @@
-use Rattle.std.proofs.Common.{◌≡◌, ◌≢◌, ℕ, None, Some}
+use Rattle.std.proofs.Common.{◌≡◌, ◌≢◌, None, Some}
 use Rattle.pst_book.proofs.Changing.{Changed}
 use Rattle.pst_book.proofs.run.free.Given as goal
 

@@ -1,4 +1,4 @@
-use Rattle.std.proofs.Common.{◌≡◌, ◌<◌, ℕ, length, subst, ⊎_elim}
+use Rattle.std.proofs.Common.{◌<◌, ℕ, length, subst, ⊎_elim}
 use Rattle.std.specs.Prelude.{IsTrue, nat_eq, ◌↔◌}
 use Rattle.std.proofs.lemmas.Bool.{eqb-true, eq-eqb}
 use Rattle.pst_scen.specs.Trace.{Ended}

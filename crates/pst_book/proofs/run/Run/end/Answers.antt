@@ -1,9 +1,8 @@
-use Rattle.std.proofs.Common.{◌≡◌, ◌+◌, ◌<◌, ◌≤◌, ◌∙◌, ℕ, List, Option, length, get_or, subst, sym, ap, arith}
+use Rattle.std.proofs.Common.{◌<◌, ℕ, List, Option, get_or, subst, sym, arith}
 use Rattle.pst_scen.specs.declared.rows.Rows.{Rows}
-use Rattle.pst_scen.specs.declared.event.Event.{Event}
 use Rattle.pst_scen.specs.Trace.{Runs}
 use Rattle.pst_scen.specs.Rows.{Has}
-use Rattle.pst_book.specs.Tables.{RunView, AreTied, AreLowered, AreFreed}
+use Rattle.pst_book.specs.Tables.{RunView, AreLowered, AreFreed}
 use Rattle.pst_book.proofs.Ties.{put_back, end_tied, awaited_some, in_the_way_some, left_some, it_is_below}
 use Rattle.pst_book.proofs.run.Run.end.Goals as goal
 
@@ -21,7 +20,7 @@ lower-requires-clause-some c =
     let size = c.must_rows-must.ensures.size in
     subst (λ (xs : List ℕ). (m : ℕ) → m < c.must_rows-must.result.now.size → Has c.must_rows-must.result.now c.args.act m → 0 < get_or xs m 0) (sym c.deref_mut.ensures.value)
     (λ m l h. awaited_some r.plan.now r.lanes r.trace.items r.started.items r.ended.items r.awaited.items r.in_the_way.items r.next.items r.holders.items r.first r.left c.self.invariant c.args.act runs m (omega (arith, l, size))
-        (subst (λ (rows : Rows). Has rows c.args.act m) c.must_rows-must.ensures.is h))
+    (subst (λ (rows : Rows). Has rows c.args.act m) c.must_rows-must.ensures.is h))
 
 pub lower-requires-2-clause-a_in : goal.lower-requires-2-clause-a_in
 lower-requires-2-clause-a_in c =
@@ -37,7 +36,7 @@ lower-requires-2-clause-some c =
     let size = c.conflict_rows-conflict.ensures.size in
     subst (λ (xs : List ℕ). (m : ℕ) → m < c.conflict_rows-conflict.result.now.size → Has c.conflict_rows-conflict.result.now c.args.act m → 0 < get_or xs m 0) (sym c.deref_mut-2.ensures.value)
     (λ m l h. in_the_way_some r.plan.now r.lanes r.trace.items r.started.items r.ended.items r.awaited.items r.in_the_way.items r.next.items r.holders.items r.first r.left c.self.invariant c.args.act runs m (omega (arith, l, size))
-        (subst (λ (rows : Rows). Has rows c.args.act m) c.conflict_rows-conflict.ensures.is h))
+    (subst (λ (rows : Rows). Has rows c.args.act m) c.conflict_rows-conflict.ensures.is h))
 
 pub index_mut-requires : goal.index_mut-requires
 index_mut-requires c =

@@ -1,4 +1,4 @@
-use Rattle.std.proofs.Common.{◌≡◌, ◌<◌, ◌≤◌, ◌∙◌, ℕ, Option, None, length, get_or, subst, sym, arith}
+use Rattle.std.proofs.Common.{ℕ, Option, None, get_or, subst, sym, arith}
 use Rattle.std.specs.Prelude.{MatchOption}
 use Rattle.pst_scen.specs.Trace.{StartsOn, Ended, IsHeld}
 use Rattle.pst_book.specs.Tables.{RunView}

@@ -1,10 +1,8 @@
-use Rattle.std.proofs.Common.{◌≡◌, ◌+◌, ◌<◌, ◌≤◌, ◌∙◌, ℕ, List, length, get_or, subst, sym, arith}
+use Rattle.std.proofs.Common.{◌≡◌, ◌+◌, ◌<◌, ℕ, List, length, get_or, subst, sym, arith}
 use Rattle.pst_scen.specs.declared.rows.Rows.{Rows}
-use Rattle.pst_scen.specs.declared.event.Event.{Event}
 use Rattle.pst_scen.specs.Trace.{Started, IsHeld}
 use Rattle.pst_scen.specs.Rows.{Has}
-use Rattle.pst_scen.specs.Plan.{Entries}
-use Rattle.pst_book.specs.Tables.{RunView, AreTied, AreRaised}
+use Rattle.pst_book.specs.Tables.{RunView, AreRaised}
 use Rattle.pst_book.proofs.Ties.{put_back, start_tied, start_room}
 use Rattle.pst_book.proofs.run.Run.start.Goals as goal
 
@@ -20,7 +18,7 @@ raise-requires-clause-room c =
     let many = c.len.ensures in
     subst (λ (xs : List ℕ). (m : ℕ) → m < c.conflict_rows-rows.result.now.size → Has c.conflict_rows-rows.result.now c.args.act m → get_or xs m 0 + 1 < 4294967296) (sym c.deref_mut.ensures.value)
     (λ m l h. let k = start_room r.plan.now r.lanes r.trace.items r.started.items r.ended.items r.awaited.items r.in_the_way.items r.next.items r.holders.items r.first r.left c.self.invariant c.args.act c.args.lane c.args.more act_in fresh lane_in idle m (omega (arith, l, size))
-        (subst (λ (rows : Rows). Has rows c.args.act m) c.conflict_rows-rows.ensures.is h) in
+    (subst (λ (rows : Rows). Has rows c.args.act m) c.conflict_rows-rows.ensures.is h) in
     omega (arith, k, fits, many))
 
 pub invariant_of-self : goal.invariant_of-self
