@@ -24,7 +24,7 @@ module _ (s : Scenario) (row : IsRow s) where
   abbrev nodes : List Node
   nodes = the_root ∷ the_leaf 0 ∷ the_leaf 1 ∷ []
 
-  two : length s.actions ≡ 2
+  pub two : length s.actions ≡ 2
   two = ap (λ (xs : List Act). length xs) row.actions
 
   -- NODES

@@ -56,6 +56,7 @@ module _ (by_rule : CoreIsByRule) (rule_fits : RuleFits) (b : Inside) (kept : Is
         plan = subst (λ (p : Entries). IsPlanOf b.scenario.now p) (sym on.plan) kept.plan;
         wide = subst (λ (p : Entries). widest p.groups ≤ r.lanes) (sym on.plan) (subst (λ n. widest b.run.plan.groups ≤ n) (sym on.lanes) wide);
         core = subst (λ n. IsByCore b.scenario.now n r.trace) (sym on.lanes) (subst (λ u. IsByCore b.scenario.now b.run.lanes u) (sym on.trace_is) core);
+        small = kept.small;
         room = omega (arith, kept.room, room);
       }
 

@@ -1,5 +1,5 @@
 -- The invariant of a book.
-use Rattle.std.specs.Prelude.{◌*◌, ◌≤◌, length}
+use Rattle.std.specs.Prelude.{◌*◌, ◌^◌, ◌<◌, ◌≤◌, length}
 use Rattle.pst_book.specs.declared.book.Book.TheInside.{Inside}
 use Rattle.pst_scen.specs.Plan.{widest}
 use Rattle.pst_scen.specs.Plans.{IsPlanOf}
@@ -16,4 +16,5 @@ pub record IsKept (b : Inside) : Type 0 where
   pub plan : IsPlanOf b.scenario.now b.run.plan
   pub wide : widest b.run.plan.groups ≤ b.run.lanes
   pub core : IsByCore b.scenario.now b.run.lanes b.run.trace
+  pub small : length b.scenario.now.actions < 2 ^ 31
   pub room : 2 * length b.scenario.now.actions ≤ b.run.room

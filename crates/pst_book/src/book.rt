@@ -1,5 +1,5 @@
 //! The book of a run.
-ghost use Rattle.std.specs.Prelude.{◌≡◌, length, ◌*◌, ◌↔◌, ◌<◌, ◌≤◌, ◌∷◌, ◌++◌, [], ℕ, List, IfOk, IsTrue, IsSome, MatchOption};
+ghost use Rattle.std.specs.Prelude.{◌≡◌, length, ◌*◌, ◌^◌, ◌↔◌, ◌<◌, ◌≤◌, ◌∷◌, ◌++◌, [], ℕ, List, IfOk, IsTrue, IsSome, MatchOption};
 ghost use Rattle.std.specs.Bool.{OnTrue, OnFalse};
 ghost use Rattle.pst_scen.specs.Trace.{StartsOn, Ended, Runs, IsHeld, IsWhole, Prefix};
 ghost use Rattle.pst_scen.specs.Plan.{widest};
@@ -23,7 +23,7 @@ use std::marker::Model;
 /// A block of starts in the trace: the place of its first event, and the number of its events.
 #[derive(Clone, Copy, Debug, PartialEq, Eq)]
 pub struct Opened {
-    pub first: usize,
+    pub first: u32,
     pub count: u32,
 }
 
@@ -51,7 +51,8 @@ impl<'a> Model for Book<'a> {
 
 impl<'a> Book<'a> {
     /// The book of a run in which nothing has started. It reserves the whole trace, so no later
-    /// call takes memory. The lanes, from 1 to 16, are enough for the widest group.
+    /// call takes memory. The scenario has fewer than 2^31 actions, and the lanes, from 1 to 16, are
+    /// enough for the widest group.
     pub fn new(
         alloc: Global,
         scenario: &'a Scenario,
@@ -60,6 +61,7 @@ impl<'a> Book<'a> {
     ) -> Result<Book<'a>, NoMemory>
         requires links { LinksStates scenario.now }
         requires planned { IsPlanOf scenario.now plan.now }
+        requires small { length scenario.now.actions < 2 ^ 31 }
         requires some { 1 ≤ lanes }
         requires few { lanes ≤ 16 }
         requires wide { widest plan.now.groups ≤ lanes }
@@ -110,7 +112,7 @@ impl<'a> Book<'a> {
         members_are_those();
         groups_are_whole();
         let group = candidate(&self.run)?;
-        let first = self.run.trace().len();
+        let first = self.run.trace().len() as u32;
         let count = count_members(&self.run, group);
         start(&mut self.run, group, count);
         Some(Opened { first, count })

@@ -1,5 +1,5 @@
 //! A worked row: two actions in sequence, and their plan.
-ghost use Rattle.std.specs.Prelude.{◌≡◌, IfOk};
+ghost use Rattle.std.specs.Prelude.{◌≡◌, ◌<◌, ◌^◌, length, IfOk};
 ghost use Rattle.pst_scen.specs.Plans.{IsPlanOf};
 ghost use Rattle.pst_order.specs.Facts.{LinksStates};
 ghost use Rattle.pst_book.specs.Row.{IsRow, the_leaf, the_act, the_plan};
@@ -73,6 +73,7 @@ pub(crate) fn meets(scenario: &Scenario, plan: &Plan)
     requires plan { plan.now ≡ the_plan }
     ensures links { LinksStates scenario.now }
     ensures planned { IsPlanOf scenario.now plan.now }
+    ensures small { length scenario.now.actions < 2 ^ 31 }
 {
     unrefused_is_planned();
 }

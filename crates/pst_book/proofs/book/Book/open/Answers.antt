@@ -1,4 +1,4 @@
-use Rattle.std.proofs.Common.{◌*◌, ◌≡◌, ◌<◌, ◌≤◌, ◌+◌, ℕ, List, length, Option, refl, subst, sym, ap}
+use Rattle.std.proofs.Common.{◌*◌, ◌≡◌, ◌<◌, ◌≤◌, ◌+◌, ℕ, List, length, Option, refl, subst, sym, ap, arith}
 use Rattle.std.specs.Prelude.{MatchOption}
 use Rattle.pst_scen.specs.declared.event.Event.{Event}
 use Rattle.pst_book.specs.declared.book.Opened.{Opened}
@@ -35,6 +35,14 @@ returns-in_err-group-clause-fits c =
 
 -- A GROUP STARTS
 
+pub overflow_cast-first : goal.overflow_cast-first
+overflow_cast-first c =
+    let b = c.self.inside in
+    let l = trace_fits c.core_is_by_rule.ensures c.rule_fits.ensures.fits b c.self.invariant in
+    let e : length c.trace.result.now ≡ length b.run.trace = ap (λ (t : List Event). length t) c.trace.ensures in
+    let small : length b.scenario.now.actions < 2147483648 = c.self.invariant.small in
+    record { fits = let m : length c.trace.result.now < 4294967296 = omega (arith, l, e, small) in m }
+
 pub start-requires-clause-room : goal.start-requires-clause-room
 start-requires-clause-room c =
     let b = c.self.inside in
@@ -51,10 +59,10 @@ pub returns-clause-step : goal.returns-clause-step
 returns-clause-step c =
     let b = c.self.inside in
     let e = c.start.ensures in
-    subst (λ (v : View). DidOpen v (view_of (record b { run = c.start.new.run })) (length c.trace-first.result.now) c.count_members-count.result) c.self.view_is
+    subst (λ (v : View). DidOpen v (view_of (record b { run = c.start.new.run })) (length c.trace.result.now) c.count_members-count.result) c.self.view_is
     (did_open c.core_is_by_rule.ensures c.rule_fits.ensures.fits b c.self.invariant c.members_are_those.ensures c.groups_are_whole.ensures.whole c.groups_are_whole.ensures.one c.whole_is_sound.ensures.inside
-    c.start.new.run c.in_ok-group.group (length c.trace-first.result.now) c.count_members-count.result c.in_ok-group.ensures e.started e.plan e.lanes e.room
-    (ap (λ (t : List Event). length t) c.trace-first.ensures) c.count_members-count.ensures)
+    c.start.new.run c.in_ok-group.group (length c.trace.result.now) c.count_members-count.result c.in_ok-group.ensures e.started e.plan e.lanes e.room
+    (ap (λ (t : List Event). length t) c.trace.ensures) c.count_members-count.ensures)
 
 pub returns-clause-core : goal.returns-clause-core
 returns-clause-core c =
