@@ -6,3 +6,10 @@ mod Idle
 mod Starting
 mod Openings
 mod Steps
+mod RowPlanned
+mod Numbers
+mod Changing
+mod Ties
+mod Pushes
+mod Going
+mod Founding

@@ -1,12 +1,13 @@
 -- The start of a group, one member after another.
-use Rattle.std.proofs.Common.{◌≡◌, lt-ltb, ℕ, suc, ◌+◌, ◌-◌, ◌<◌, ◌≤◌, List, [], ◌∷◌, ◌++◌, drop, length, get_or, take, Bool, true, false, refl, sym, ap, ap₂, ◌∙◌, subst, ⊎_elim, arith, append_assoc, append-nil, length-append, drop-cons}
+use Rattle.std.proofs.Common.{◌≡◌, zero, lt-ltb, ℕ, suc, ◌+◌, ◌-◌, ◌<◌, ◌≤◌, List, [], ◌∷◌, ◌++◌, drop, length, get_or, take, Bool, true, false, refl, sym, ap, ap₂, ◌∙◌, subst, ⊎_elim, arith, append_assoc, append-nil, length-append, drop-cons}
 use Rattle.std.specs.Prelude.{nat_eq, nat_lt, if◌then◌else◌}
 use Rattle.std.proofs.lemmas.Bool.{cases_Bool, eqb-true, eq-eqb}
 use Rattle.std.proofs.lemmas.List.{drop_all}
 use Rattle.pst_scen.specs.declared.event.Event.{Event}
 use Rattle.pst_scen.specs.declared.event.Event.TheVariants.{Start}
 use Rattle.pst_scen.specs.Trace.{IsHeld, starts_of}
-use Rattle.pst_scen.specs.Plan.{places_from, members}
+use Rattle.pst_scen.specs.Plan.{places_from, members, AreNumbered}
+use Rattle.pst_book.specs.Tables.{IsNext}
 use Rattle.pst_book.specs.Books.{AreIdle, AreSoMany, AreStarted}
 use Rattle.pst_book.proofs.Elements.{cons_first}
 use Rattle.pst_book.proofs.Idle.{first_is, idle_tail}
@@ -161,3 +162,49 @@ first_same old now more k e l = ap (λ v. take v now) l ∙ ap (λ t. take (leng
 pub more_is : (left : ℕ) (P : List ℕ) → left ≡ suc (length P) → nat_lt 1 left ≡ some_more P
 more_is left [] e = ap (λ v. nat_lt 1 v) (let one : left ≡ 1 = omega (arith, e) in one)
 more_is left (x ∷ P) e = lt-ltb 1 left (omega (arith, e))
+
+-- no member stands between two places
+pub places_between : (groups : List ℕ) (i k group : ℕ) → i ≤ k → k ≤ length groups → ((x : ℕ) → i ≤ x → x < k → get_or groups x 0 ≡ group → ⊥) → places_from (drop i groups) i group ≡ places_from (drop k groups) k group
+places_between groups i k group l m n = by_steps (k - i) i (omega (arith, l)) n
+  where
+    by_steps : (j i : ℕ) → i + j ≡ k → ((x : ℕ) → i ≤ x → x < k → get_or groups x 0 ≡ group → ⊥) → places_from (drop i groups) i group ≡ places_from (drop k groups) k group
+    by_steps zero i e n = let same : i ≡ k = omega (arith, e) in ap (λ v. places_from (drop v groups) v group) same
+    by_steps (suc j) i e n =
+        places_no groups i group (omega (arith, e, m)) (n i (omega arith) (omega (arith, e)))
+        ∙ by_steps j (i + 1) (omega (arith, e)) (λ x a b. n x (omega (arith, a)) b)
+
+-- the members of a group begin with its number
+pub members_begin : (groups : List ℕ) (group : ℕ) → AreNumbered groups → group < length groups → members groups group ≡ places_from (drop group groups) group group
+members_begin groups group numbered l =
+    ap (λ xs. places_from xs 0 group) (sym (drop_none groups))
+    ∙ places_between groups 0 group group (omega arith) (omega (arith, l)) (λ x a b e. let k = numbered.least x (omega (arith, b, l)) in omega (arith, k, e, b))
+  where
+    drop_none : (xs : List ℕ) → drop 0 xs ≡ xs
+    drop_none xs = refl
+
+-- behind a member come those from the next one on
+pub places_next : (groups : List ℕ) (act next group : ℕ) → act < length groups → get_or groups act 0 ≡ group → IsNext groups act next → places_from (drop act groups) act group ≡ act ∷ places_from (drop next groups) next group
+places_next groups act next group l e n =
+    places_yes groups act group l e
+    ∙ ap (λ xs. act ∷ xs) (places_between groups (act + 1) next group (let b = n.behind in omega (arith, b)) n.inside (λ x a b f. n.none_between x (omega (arith, a)) b (f ∙ sym e)))
+
+pub places_end : (groups : List ℕ) (act group : ℕ) → length groups ≤ act → places_from (drop act groups) act group ≡ []
+places_end groups act group l = ap (λ xs. places_from xs act group) (drop_all act groups l)
+
+-- the same at another place
+pub starting_move : (old now : List Event) (groups : List ℕ) (group lanes act next left lane old_room room : ℕ) → places_from (drop act groups) act group ≡ places_from (drop next groups) next group → Starting old now groups group lanes act left lane old_room room → Starting old now groups group lanes next left lane old_room room
+starting_move old now groups group lanes act next left lane old_room room e r =
+    record {
+      idle = r.idle;
+      are = r.are;
+      rest = r.rest;
+      rest_are = r.rest_are;
+      lane_in = r.lane_in;
+      left_is = r.left_is ∙ ap (λ (xs : List ℕ). length xs) e;
+      enough = r.enough;
+      now_is = ap (λ xs. now ++ starts_of xs r.rest) (sym e) ∙ r.now_is;
+      begun = r.begun;
+      begins = r.begins;
+      some = r.some;
+      grows = r.grows;
+    }

@@ -1,5 +1,5 @@
 //! The book of a run.
-ghost use Rattle.std.specs.Prelude.{◌≡◌, length, ◌*◌, ◌↔◌, ◌<◌, ◌≤◌, ◌∷◌, ◌++◌, [], ℕ, List, IfOk, IsTrue, IsSome, MatchOption};
+ghost use Rattle.std.specs.Prelude.{◌≡◌, length, ◌*◌, ◌^◌, ◌↔◌, ◌<◌, ◌≤◌, ◌∷◌, ◌++◌, [], ℕ, List, IfOk, IsTrue, IsSome, MatchOption};
 ghost use Rattle.std.specs.Bool.{OnTrue, OnFalse};
 ghost use Rattle.pst_scen.specs.Trace.{StartsOn, Ended, Runs, IsHeld, IsWhole, Prefix};
 ghost use Rattle.pst_scen.specs.Plan.{widest};
@@ -9,8 +9,8 @@ ghost use Rattle.pst_order.specs.Facts.{LinksStates};
 ghost use Rattle.pst_order.specs.Rule.{open_count, close_count};
 ghost use Rattle.pst_book.specs.Books.{with_trace, IsShut, DidOpen};
 
-use crate::open::{candidate, count_members, note, start};
-use crate::scan::{all_ended, holder, runs};
+use crate::open::{candidate, count_members, start};
+use crate::run::Run;
 use pst_base::NoMemory;
 use pst_order::{
     core_is_by_rule, core_is_one, groups_are_whole, members_are_those, rule_fits, rule_goes_on,
@@ -23,7 +23,7 @@ use std::marker::Model;
 /// A block of starts in the trace: the place of its first event, and the number of its events.
 #[derive(Clone, Copy, Debug, PartialEq, Eq)]
 pub struct Opened {
-    pub first: usize,
+    pub first: u32,
     pub count: u32,
 }
 
@@ -34,9 +34,7 @@ pub struct Opened {
 #[derive(Drop)]
 pub struct Book<'a> {
     scenario: &'a Scenario,
-    plan: &'a Plan,
-    lanes: u32,
-    trace: Vec<Event>,
+    run: Run<'a>,
 }
 
 impl<'a> Model for Book<'a> {
@@ -53,7 +51,8 @@ impl<'a> Model for Book<'a> {
 
 impl<'a> Book<'a> {
     /// The book of a run in which nothing has started. It reserves the whole trace, so no later
-    /// call takes memory. The lanes, from 1 to 16, are enough for the widest group.
+    /// call takes memory. The scenario has fewer than 2^31 actions, and the lanes, from 1 to 16, are
+    /// enough for the widest group.
     pub fn new(
         alloc: Global,
         scenario: &'a Scenario,
@@ -62,24 +61,21 @@ impl<'a> Book<'a> {
     ) -> Result<Book<'a>, NoMemory>
         requires links { LinksStates scenario.now }
         requires planned { IsPlanOf scenario.now plan.now }
+        requires small { length scenario.now.actions < 2 ^ 31 }
         requires some { 1 ≤ lanes }
         requires few { lanes ≤ 16 }
         requires wide { widest plan.now.groups ≤ lanes }
         ensures { IfOk result (λ b. b ≡ record { scenario = scenario.now; plan = plan.now; lanes = lanes; trace = [] }) }
     {
-        Ok(Book {
-            scenario,
-            plan,
-            lanes,
-            trace: Vec::with_capacity(alloc, 2 * plan.len() as usize)?,
-        })
+        let run = Run::new(alloc, plan, lanes)?;
+        Ok(Book { scenario, run })
     }
 
     /// The number of lanes.
     pub fn lanes(&self) -> u32
         ensures { result ≡ self.now.lanes }
     {
-        self.lanes
+        self.run.lanes()
     }
 
     /// The trace. It begins a whole legal trace on the book's lanes, has at most two events for each
@@ -97,7 +93,7 @@ impl<'a> Book<'a> {
         core_is_one();
         rule_is_prefix();
         rule_fits();
-        &self.trace
+        self.run.trace()
     }
 
     /// Starts the least startable group on the least idle lanes, its members ascending, and tells
@@ -115,10 +111,10 @@ impl<'a> Book<'a> {
         whole_is_sound();
         members_are_those();
         groups_are_whole();
-        let group = candidate(self.plan, &self.trace, self.lanes)?;
-        let first = self.trace.len();
-        let count = count_members(self.plan, group);
-        start(&mut self.trace, self.plan, group, count, self.lanes);
+        let group = candidate(&self.run)?;
+        let first = self.run.trace().len() as u32;
+        let count = count_members(&self.run, group);
+        start(&mut self.run, group, count);
         Some(Opened { first, count })
     }
 
@@ -133,10 +129,10 @@ impl<'a> Book<'a> {
     {
         core_is_by_rule();
         rule_fits();
-        if !runs(&self.trace, act) {
+        if !self.run.runs(act) {
             return false;
         }
-        note(&mut self.trace, Event::End { act });
+        self.run.end(act);
         true
     }
 
@@ -144,13 +140,13 @@ impl<'a> Book<'a> {
     pub fn finished(&self) -> bool
         ensures { IsTrue result ↔ IsWhole self.now.scenario self.now.trace }
     {
-        all_ended(&self.trace, self.plan.len())
+        self.run.all_ended()
     }
 
     /// The action that runs on the lane.
     pub fn running_on(&self, lane: u32) -> Option<u32>
         ensures { MatchOption result (IsHeld self.now.trace lane → ⊥) (λ a. StartsOn self.now.trace a lane × (Ended self.now.trace a → ⊥)) }
     {
-        holder(&self.trace, lane)
+        self.run.holder(lane)
     }
 }

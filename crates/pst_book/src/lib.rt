@@ -6,6 +6,12 @@
 
 mod book;
 mod open;
-mod scan;
+#[cfg(test)]
+mod row;
+mod rows;
+mod run;
 
 pub use book::{Book, Opened};
+
+#[cfg(test)]
+mod tests;

@@ -1,164 +1,126 @@
 //! Which group starts, and its start.
-ghost use Rattle.std.specs.Prelude.{◌≡◌, ◌↔◌, ◌+◌, ◌<◌, ◌≤◌, ◌++◌, ◌∷◌, [], ℕ, length, take, get_or, IsTrue, MatchOption, vec_capacity};
+ghost use Rattle.std.specs.Prelude.{◌≡◌, ◌↔◌, ◌+◌, ◌<◌, ◌≤◌, ◌++◌, ◌∷◌, [], ℕ, length, get_or, IsTrue, MatchOption, Contains};
 ghost use Rattle.pst_scen.specs.Plan.{members};
-ghost use Rattle.pst_scen.specs.Trace.{IsHeld};
+ghost use Rattle.pst_scen.specs.Trace.{Started, IsHeld};
 ghost use Rattle.pst_book.specs.Books.{MayJoin, AllMayJoin, AreSoMany, CanStart, StartsFirst, NoneStarts, AreStarted};
 
-use crate::scan::{is_awaited, is_clear, is_held, is_started};
-use pst_scen::{Event, Plan};
+use crate::run::Run;
 
-/// Whether the action may start, as to what started, ended and runs.
-fn may_join(plan: &Plan, trace: &[Event], act: u32) -> bool
-    requires { act < length plan.now.groups }
-    ensures { IsTrue result ↔ MayJoin plan.now trace.now act }
+/// Whether each member of the group of that number may start.
+fn all_may_join(run: &Run<'_>, group: u32) -> bool
+    requires group_in { group < length run.now.plan.groups }
+    requires number { get_or run.now.plan.groups group 0 ≡ group }
+    ensures { IsTrue result ↔ AllMayJoin run.now.plan run.now.trace group }
 {
-    if is_started(trace, act) {
-        return false;
-    }
-    if !is_awaited(plan, trace, act) {
-        return false;
-    }
-    is_clear(plan, trace, act)
-}
-
-/// Whether the action is of another group, or may start.
-fn stands_by(plan: &Plan, trace: &[Event], group: u32, act: u32) -> bool
-    requires { act < length plan.now.groups }
-    ensures { IsTrue result ↔ (get_or plan.now.groups act 0 ≡ group → MayJoin plan.now trace.now act) }
-{
-    plan.group(act) != group || may_join(plan, trace, act)
-}
-
-/// Whether each member of the group may start.
-fn all_may_join(plan: &Plan, trace: &[Event], group: u32) -> bool
-    ensures { IsTrue result ↔ AllMayJoin plan.now trace.now group }
-{
-    for act in 0..plan.len() {
-        if !stands_by(plan, trace, group, act) {
+    let count = run.plan().len();
+    let mut act = group;
+    'members: while act < count {
+        if !run.may_join(act) {
             return false;
         }
+        act = run.next(act);
     }
     true
 }
 
-/// The number of members of the group.
-pub(crate) fn count_members(plan: &Plan, group: u32) -> u32
-    ensures { result ≡ length (members plan.now.groups group) }
+/// The number of members of the group of that number.
+pub(crate) fn count_members(run: &Run<'_>, group: u32) -> u32
+    requires group_in { group < length run.now.plan.groups }
+    requires number { get_or run.now.plan.groups group 0 ≡ group }
+    ensures { result ≡ length (members run.now.plan.groups group) }
 {
-    let mut count = 0;
-    for act in 0..plan.len() {
-        if plan.group(act) == group {
-            count += 1;
-        }
+    let count = run.plan().len();
+    let mut total = 0;
+    let mut act = group;
+    'members: while act < count {
+        total += 1;
+        act = run.next(act);
     }
-    count
+    total
 }
 
 /// The number of idle lanes.
-fn count_idle(trace: &[Event], lanes: u32) -> u32
-    ensures { AreSoMany trace.now lanes result }
+fn count_idle(run: &Run<'_>) -> u32
+    ensures { AreSoMany run.now.trace run.now.lanes result }
 {
     let mut count = 0;
-    for lane in 0..lanes {
-        if !is_held(trace, lane) {
+    for lane in 0..run.lanes() {
+        if !run.is_held(lane) {
             count += 1;
         }
     }
     count
 }
 
-/// Whether the group of that number can start.
-fn can_start(plan: &Plan, trace: &[Event], lanes: u32, group: u32) -> bool
-    requires { group < length plan.now.groups }
-    ensures { IsTrue result ↔ CanStart plan.now lanes trace.now group }
+/// Whether the group of that number can start, where so many lanes are idle.
+fn can_start(run: &Run<'_>, group: u32, idle: u32) -> bool
+    requires group_in { group < length run.now.plan.groups }
+    requires idle { AreSoMany run.now.trace run.now.lanes idle }
+    ensures { IsTrue result ↔ CanStart run.now.plan run.now.lanes run.now.trace group }
 {
-    if plan.group(group) != group {
+    if run.plan().group(group) != group {
         return false;
     }
-    if !all_may_join(plan, trace, group) {
+    if !all_may_join(run, group) {
         return false;
     }
-    count_members(plan, group) <= count_idle(trace, lanes)
+    count_members(run, group) <= idle
 }
 
-/// The least group that can start.
-pub(crate) fn candidate(plan: &Plan, trace: &[Event], lanes: u32) -> Option<u32>
-    ensures { MatchOption result (NoneStarts plan.now lanes trace.now) (StartsFirst plan.now lanes trace.now) }
+/// The least group that can start. Those below the run's first number have started.
+pub(crate) fn candidate(run: &Run<'_>) -> Option<u32>
+    ensures { MatchOption result (NoneStarts run.now.plan run.now.lanes run.now.trace) (StartsFirst run.now.plan run.now.lanes run.now.trace) }
 {
-    for group in 0..plan.len() {
-        if can_start(plan, trace, lanes, group) {
+    let idle = count_idle(run);
+    for group in run.first()..run.plan().len() {
+        if can_start(run, group, idle) {
             return Some(group);
         }
     }
     None
 }
 
-/// Writes an event, for which there is room.
-pub(crate) fn note(trace: &mut Vec<Event>, event: Event)
-    requires { length trace.old.items < vec_capacity trace.old }
-    ensures items { trace.new.items ≡ trace.old.items ++ event ∷ [] }
-    ensures capacity { vec_capacity trace.old ≤ vec_capacity trace.new }
-{
-    let _pushed = trace.push(event);
-}
-
 /// The least idle lane from a number on, or the number of lanes.
-fn next_idle(trace: &[Event], from: u32, lanes: u32) -> u32
-    requires { from ≤ lanes }
-    ensures inside { (from ≤ result) × (result ≤ lanes) }
-    ensures held { (l : ℕ) → from ≤ l → l < result → IsHeld trace.now l }
-    ensures idle { result < lanes → IsHeld trace.now result → ⊥ }
+fn next_idle(run: &Run<'_>, from: u32, lanes: u32) -> u32
+    requires from { from ≤ lanes }
+    requires lanes { lanes ≡ run.now.lanes }
+    ensures inside { (from ≤ result) × (result ≤ run.now.lanes) }
+    ensures held { (l : ℕ) → from ≤ l → l < result → IsHeld run.now.trace l }
+    ensures idle { result < run.now.lanes → IsHeld run.now.trace result → ⊥ }
 {
     for lane in from..lanes {
-        if !is_held(trace, lane) {
+        if !run.is_held(lane) {
             return lane;
         }
     }
     lanes
 }
 
-/// Starts the action on the least idle lane from a number on, where one is idle, and tells the lane.
-/// Lanes are idle as they were before the block, the place of whose first event is given.
-fn start_one(
-    trace: &mut Vec<Event>,
-    first: usize,
-    act: u32,
-    from: u32,
-    lanes: u32,
-    more: bool,
-) -> u32
-    requires first { first ≤ length trace.old.items }
-    requires from { from ≤ lanes }
-    requires room { length trace.old.items < vec_capacity trace.old }
-    ensures inside { (from ≤ result) × (result ≤ lanes) }
-    ensures held { (l : ℕ) → from ≤ l → l < result → IsHeld (take first trace.old.items) l }
-    ensures idle { result < lanes → IsHeld (take first trace.old.items) result → ⊥ }
-    ensures items { trace.new.items ≡ trace.old.items ++ Event.Start act result more ∷ [] }
-    ensures capacity { vec_capacity trace.old ≤ vec_capacity trace.new }
+/// Starts the members of the group of that number, of which there are so many and none has
+/// started, on the least idle lanes.
+pub(crate) fn start(run: &mut Run<'_>, group: u32, count: u32)
+    requires group_in { group < length run.old.plan.groups }
+    requires number { get_or run.old.plan.groups group 0 ≡ group }
+    requires many { count ≡ length (members run.old.plan.groups group) }
+    requires fresh { (a : ℕ) → a < length run.old.plan.groups → get_or run.old.plan.groups a 0 ≡ group → Started run.old.trace a → ⊥ }
+    requires idle { (idle : ℕ) × AreSoMany run.old.trace run.old.lanes idle × (count ≤ idle) }
+    requires room { length run.old.trace + count ≤ run.old.room }
+    ensures plan { run.new.plan ≡ run.old.plan }
+    ensures lanes { run.new.lanes ≡ run.old.lanes }
+    ensures started { AreStarted run.old.trace run.new.trace (members run.old.plan.groups group) run.old.lanes }
+    ensures room { run.old.room ≤ run.new.room }
 {
-    let lane = next_idle(&trace[..first], from, lanes);
-    note(trace, Event::Start { act, lane, more });
-    lane
-}
-
-/// Starts the members of the group, of which there are so many, on the least idle lanes.
-pub(crate) fn start(trace: &mut Vec<Event>, plan: &Plan, group: u32, count: u32, lanes: u32)
-    requires many { count ≡ length (members plan.now.groups group) }
-    requires idle { (idle : ℕ) × AreSoMany trace.old.items lanes idle × (count ≤ idle) }
-    requires room { length trace.old.items + count ≤ vec_capacity trace.old }
-    ensures started { AreStarted trace.old.items trace.new.items (members plan.now.groups group) lanes }
-    ensures capacity { vec_capacity trace.old ≤ vec_capacity trace.new }
-{
-    let first = trace.len();
+    let all = run.plan().len();
+    let lanes = run.lanes();
     let mut left = count;
     let mut lane = 0;
-    for act in 0..plan.len() {
-        if plan.group(act) != group {
-            continue;
-        }
-        let more = left > 1;
-        let used = start_one(trace, first, act, lane, lanes, more);
+    let mut act = group;
+    'members: while act < all {
+        let used = next_idle(run, lane, lanes);
+        run.start(act, used, left > 1);
         left -= 1;
         lane = used + 1;
+        act = run.next(act);
     }
+    run.skip_started();
 }

@@ -1,6 +1,6 @@
 //! Plans: the groups and the order of a scenario's actions, and their conflicts.
 ghost use Rattle.std.specs.Prelude.{◌≡◌, ◌≤◌, ◌<◌, ◌↔◌, ℕ, length, get_or, IsTrue};
-ghost use Rattle.pst_scen.specs.Rows.{Has};
+ghost use Rattle.pst_scen.specs.Rows.{IsSquare, Has};
 ghost use Rattle.pst_scen.specs.Plan.{AreNumbered, AreSized, member_count, widest};
 
 use crate::rows::Rows;
@@ -73,9 +73,10 @@ impl Plan {
         }
     }
 
-    /// The number of actions.
+    /// The number of actions. The number of each group is its least member.
     pub fn len(&self) -> u32
-        ensures { result ≡ length self.now.groups }
+        ensures is { result ≡ length self.now.groups }
+        ensures numbered { AreNumbered self.now.groups }
     {
         self.must.size
     }
@@ -106,6 +107,24 @@ impl Plan {
         ensures { IsTrue result ↔ Has self.now.conflict a b }
     {
         self.conflict.has(a, b)
+    }
+
+    /// The square of the pairs of which the first action must end before the second starts.
+    pub fn must_rows(&self) -> &Rows
+        ensures is { result.now ≡ self.now.must }
+        ensures square { IsSquare result.now }
+        ensures size { result.now.size ≡ length self.now.groups }
+    {
+        &self.must
+    }
+
+    /// The square of the pairs that can't run at one time.
+    pub fn conflict_rows(&self) -> &Rows
+        ensures is { result.now ≡ self.now.conflict }
+        ensures square { IsSquare result.now }
+        ensures size { result.now.size ≡ length self.now.groups }
+    {
+        &self.conflict
     }
 
     /// The number of members of the widest group, 0 where there is none.

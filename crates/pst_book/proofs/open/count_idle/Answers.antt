@@ -7,9 +7,9 @@ pub loop-lane-preserved : goal.loop-lane-preserved
 loop-lane-preserved c =
     elim c.if-not-is_held.branch [
       | then-not-is_held w ↦
-          subst (λ n. Counted c.args.trace.now (c.loop-lane.lane + 1) n) (sym w.count-is)
-          (counted_next c.args.trace.now c.loop-lane.lane c.loop-lane.count c.loop-lane.invariant (λ h. let both : true ≡ false = sym (c.is_held.ensures.1 h) ∙ w.if-not-is_held.true in cc))
+          subst (λ n. Counted c.args.run.now.trace (c.loop-lane.lane + 1) n) (sym w.count-is)
+          (counted_next c.args.run.now.trace c.loop-lane.lane c.loop-lane.count c.loop-lane.invariant (λ h. let both : true ≡ false = sym (c.is_held.ensures.1 h) ∙ w.if-not-is_held.true in cc))
       | else-not-is_held w ↦
-          subst (λ n. Counted c.args.trace.now (c.loop-lane.lane + 1) n) (sym w.count-is)
-          (counted_same c.args.trace.now c.loop-lane.lane c.loop-lane.count c.loop-lane.invariant (c.is_held.ensures.0 w.if-not-is_held.false))
+          subst (λ n. Counted c.args.run.now.trace (c.loop-lane.lane + 1) n) (sym w.count-is)
+          (counted_same c.args.run.now.trace c.loop-lane.lane c.loop-lane.count c.loop-lane.invariant (c.is_held.ensures.0 w.if-not-is_held.false))
     ]
