@@ -38,8 +38,8 @@ pairs_join : {X : Type 0} (R : X → X → Type 0) (xs ys : List X) → AllPairs
 pairs_join R [] ys own across others = others
 pairs_join R (x ∷ xs) ys own across others =
     AllPairs-cons R x (xs ++ ys)
-      (All-append (R x) xs ys (pairs_head R x xs own) (All-head (λ y. All (R y) ys) x xs across))
-      (pairs_join R xs ys (pairs_tail R x xs own) (All-tail (λ y. All (R y) ys) x xs across) others)
+    (All-append (R x) xs ys (pairs_head R x xs own) (All-head (λ y. All (R y) ys) x xs across))
+    (pairs_join R xs ys (pairs_tail R x xs own) (All-tail (λ y. All (R y) ys) x xs across) others)
 
 -- each two items of two lists in a row
 pub pairs_append : {X : Type 0} (R : X → X → Type 0) (xs ys : List X) → AllPairs R (xs ++ ys) ↔ AllPairs R xs × All (λ x. All (R x) ys) xs × AllPairs R ys

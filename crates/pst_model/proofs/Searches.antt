@@ -43,6 +43,7 @@ entry_rises a i r s t (inr more) = then_rises a s.action t.action (ordering_then
   where
     last : s.reference < t.reference → ordering_index (nat_cmp s.reference r) ≤ ordering_index (nat_cmp t.reference r)
     last below = grind (arith, nat_tests, below)
+
     second : (s.instance < t.instance) ⊎ ((s.instance ≡ t.instance) × (s.reference < t.reference)) → ordering_index (ordering_then (nat_cmp s.instance i) (nat_cmp s.reference r)) ≤ ordering_index (ordering_then (nat_cmp t.instance i) (nat_cmp t.reference r))
     second (inl below) = then_rises i s.instance t.instance (nat_cmp s.reference r) (nat_cmp t.reference r) (inl below)
     second (inr ends) = then_rises i s.instance t.instance (nat_cmp s.reference r) (nat_cmp t.reference r) (inr (ends.0, last ends.1))

@@ -25,17 +25,17 @@ pub sound_joined : (model : ModelTree) (action : ActionTree) (handles : List ℕ
 sound_joined model action handles levels parallel join v R h =
     let same : length v.items ≡ length (steps_of (step_row (map view_step v.items))) = sym (ap length (steps_of_row (map view_step v.items)) ∙ length-map v.items view_step) in
     subst (λ (s : StepTree). R ↔ IsSoundStep model action handles levels s) (sym (joined_is parallel join v))
-      (subst (λ (n : ℕ). R ↔ (n ≤ most_branches) × IsJoin join n) same h)
+    (subst (λ (n : ℕ). R ↔ (n ≤ most_branches) × IsJoin join n) same h)
 
 pub sound_select : (model : ModelTree) (action : ActionTree) (handles : List ℕ) (levels : ℕ) (v : Vec Branch) (R : Type 0) → (R ↔ All (IsSoundBranch action levels) (map view_branch v.items)) → (R ↔ IsSoundStep model action handles levels (view_step (the_step.Select v)))
 sound_select model action handles levels v R h =
     subst (λ (s : StepTree). R ↔ IsSoundStep model action handles levels s) (sym (select_is v))
-      (subst (λ (bs : List BranchTree). R ↔ All (IsSoundBranch action levels) bs) (sym (branches_of_row (map view_branch v.items))) h)
+    (subst (λ (bs : List BranchTree). R ↔ All (IsSoundBranch action levels) bs) (sym (branches_of_row (map view_branch v.items))) h)
 
 pub sound_match : (model : ModelTree) (action : ActionTree) (handles : List ℕ) (levels : ℕ) (value : Constraint) (v : Vec Arm) (other : Option (Box Step)) (R : Type 0) → (R ↔ IsCondition action levels (view_constraint value) × AllPairs AreApart (flat_map spans_of (map view_arm v.items))) → (R ↔ IsSoundStep model action handles levels (view_step (the_step.Match value v other)))
 sound_match model action handles levels value v other R h =
     subst (λ (s : StepTree). R ↔ IsSoundStep model action handles levels s) (sym (match_is value v other))
-      (subst (λ (arms : List ArmTree). R ↔ IsCondition action levels (view_constraint value) × AllPairs AreApart (flat_map spans_of arms)) (sym (arms_of_row (map view_arm v.items))) h)
+    (subst (λ (arms : List ArmTree). R ↔ IsCondition action levels (view_constraint value) × AllPairs AreApart (flat_map spans_of arms)) (sym (arms_of_row (map view_arm v.items))) h)
 
 -- ---- a step and its parts
 

@@ -21,11 +21,11 @@ mod site;
 mod slots;
 mod soundness;
 mod steps;
+#[cfg(test)]
+mod tests;
 mod ties;
 mod traversals;
 mod types;
-#[cfg(test)]
-mod tests;
 
 pub use action::{ActionType, Claim, Content, Field, Reference};
 pub use activity::{Activity, Arm, Branch, Join, Step, Tie};
