@@ -1,10 +1,10 @@
 -- What the next number behind locals tells.
-use Rattle.std.proofs.Common.{◌≡◌, ◌≤◌, ◌<◌, ◌+◌, ◌↔◌, ℕ, zero, suc, List, [], ◌∷◌, length, Option, Some, None, IsTrue, Bool, true, false, ◌&&◌, nat_eq, nat_lt, slice_get, refl, subst, ap, sym, ◌∙◌, arith, cond, All}
+use Rattle.std.proofs.Common.{◌≡◌, ◌≤◌, ◌<◌, ◌+◌, ◌↔◌, ℕ, zero, suc, List, [], ◌∷◌, length, Some, None, Bool, true, false, ◌&&◌, nat_eq, nat_lt, slice_get, refl, subst, sym, ◌∙◌, arith, cond, All}
 use Rattle.pst_model.specs.BodyTree.{BodyStepTree}
 use Rattle.pst_model.specs.ModelTree.{ActionTree, ModelTree}
 use Rattle.pst_model.specs.SoundBody.{locals_of, EachBodyStep, IsSoundBodyStep, IsSoundBody}
 use Rattle.pst_model.specs.Limits.{most_locals}
-use Rattle.pst_model.specs.Numbered.{behind_local, behind_locals}
+use Rattle.pst_model.specs.Numbered.{behind_locals}
 
 -- locals are numbered from n on, and there are at most most_locals with those before
 pub record AreNumbered (n : ℕ) (ls : List ℕ) : Type 0 where

@@ -1,5 +1,5 @@
 -- What a search finds among entries in order.
-use Rattle.std.proofs.Common.{◌≡◌, ◌<◌, ◌≤◌, ◌+◌, ◌↔◌, ◌⊎◌, inl, inr, ℕ, zero, suc, List, [], ◌∷◌, length, drop, get_or, All, AllPairs, Bool, true, false, ◌&&◌, nat_eq, IsTrue, Result, Ok, Err, IfOk, IfErr, Ordering, Less, Equal, Greater, Option, Some, None, cond, refl, ap, subst, sym, ◌∙◌, arith}
+use Rattle.std.proofs.Common.{◌≡◌, ◌<◌, ◌≤◌, ◌+◌, ◌↔◌, ◌⊎◌, inl, inr, ℕ, zero, suc, List, [], ◌∷◌, length, drop, get_or, All, Bool, true, false, IsTrue, Result, Ok, Err, IfOk, IfErr, Ordering, Less, Equal, Greater, Some, None, cond, refl, ap, subst, sym, ◌∙◌, arith}
 use Rattle.std.specs.List.{HoldsAt}
 use Rattle.std.specs.List.Sorted.{IsSearchInRange, IsBinarySearchResult, IsNonDecreasingBy}
 use Rattle.std.specs.Ordering.{nat_cmp, ordering_index, ordering_then}

@@ -1,10 +1,9 @@
 -- What is asked of a step, in terms of its lists.
-use Rattle.std.proofs.Common.{◌≡◌, ◌≤◌, ◌+◌, ℕ, ◌↔◌, All, AllPairs, List, [], ◌∷◌, length, map, subst, sym, ap, ◌∙◌, Bool, Option}
+use Rattle.std.proofs.Common.{◌≡◌, ◌≤◌, ℕ, ◌↔◌, All, AllPairs, List, [], ◌∷◌, length, map, subst, sym, ap, ◌∙◌, Bool, Option}
 use Rattle.std.specs.List.{flat_map}
 use Rattle.std.specs.Global.{Vec, Box}
 use Rattle.std.proofs.lemmas.List.{length-map}
 use Rattle.std.proofs.lemmas.List.Elements.{All-cons, All-head, All-tail, All-nil}
-use Rattle.pst_expr.specs.declared.ranges.Span.{Span}
 use Rattle.pst_model.specs.Limits.{most_branches}
 use Rattle.pst_model.specs.declared.activity.Step.{Step}
 use Rattle.pst_model.specs.declared.activity.Step.TheVariants as the_step
@@ -12,7 +11,7 @@ use Rattle.pst_model.specs.declared.activity.Join.{Join}
 use Rattle.pst_model.specs.declared.activity.Branch.{Branch}
 use Rattle.pst_model.specs.declared.activity.Arm.{Arm}
 use Rattle.pst_model.specs.declared.constraint.Constraint.{Constraint}
-use Rattle.pst_model.specs.ActivityTree.{StepTree, BranchTree, ArmTree, Traverse, Sequence, Parallel, Schedule, Joined, Select, Repeat, If, Match, steps_of, branches_of, arms_of, spans_of}
+use Rattle.pst_model.specs.ActivityTree.{StepTree, BranchTree, ArmTree, Traverse, Sequence, Parallel, Schedule, Joined, Select, Repeat, If, Match, steps_of, spans_of}
 use Rattle.pst_model.specs.ConstraintTree.{view_constraint}
 use Rattle.pst_model.specs.ModelTree.{ActionTree, ModelTree}
 use Rattle.pst_model.specs.ModelView.{view_step, view_branch, view_arm, maybe_step}

@@ -1,15 +1,15 @@
 -- Which instances stand under others.
-use Rattle.std.proofs.Common.{◌≡◌, ◌≢◌, ◌<◌, ◌≤◌, ◌+◌, ◌↔◌, ◌⊎◌, inl, inr, ℕ, List, length, slice_get, get_or, map, Option, Some, None, option_map, refl, ap, subst, sym, ◌∙◌, arith}
+use Rattle.std.proofs.Common.{◌≡◌, ◌<◌, ◌≤◌, ◌+◌, ◌↔◌, ◌⊎◌, inl, inr, ℕ, List, length, slice_get, get_or, map, Option, Some, None, option_map, refl, ap, subst, sym, ◌∙◌, arith}
 use Rattle.std.proofs.lemmas.Option.{slice_get-get_or, slice_get-map, slice_get_read}
 use Rattle.std.proofs.lemmas.Bool.{cases_lt}
 use Rattle.pst_model.specs.declared.model.Part.{Part}
 use Rattle.pst_model.specs.Preorder.{StandsUnder, AtTop, Below, IsParent}
 
-up : (parts : List Part) (top n : ℕ) → StandsUnder parts top n → (top ≡ n) ⊎ ((parent : ℕ) × (part : Part) × (slice_get parts n ≡ Some part) × (part.parent ≡ Some parent) × StandsUnder parts top parent)
+pub up : (parts : List Part) (top n : ℕ) → StandsUnder parts top n → (top ≡ n) ⊎ ((parent : ℕ) × (part : Part) × (slice_get parts n ≡ Some part) × (part.parent ≡ Some parent) × StandsUnder parts top parent)
 up parts top _ AtTop = inl refl
 up parts top _ (Below n parent part is in_parent under) = inr (parent, part, is, in_parent, under)
 
-same_some : {X : Type 0} (x y : X) → Some x ≡ Some y → x ≡ y
+pub same_some : {X : Type 0} (x y : X) → Some x ≡ Some y → x ≡ y
 same_some x y e = ap (λ o. elim o [ Some z ↦ z | None ↦ x ]) e
 
 -- below the top, an instance stands under it where its parent does

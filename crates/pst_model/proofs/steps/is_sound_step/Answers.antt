@@ -1,11 +1,11 @@
-use Rattle.std.proofs.Common.{◌≡◌, ◌≤◌, IsTrue, ◌↔◌, All, AllPairs, List, length, map, subst, sym, ap, ◌∙◌}
+use Rattle.std.proofs.Common.{◌≤◌, IsTrue, ◌↔◌, All, AllPairs, List, length, map, subst, sym}
 use Rattle.std.specs.List.{flat_map}
 use Rattle.pst_model.specs.Depth.{depth}
 use Rattle.pst_model.specs.Limits.{most_branches}
 use Rattle.pst_model.specs.declared.activity.Step.{Step}
 use Rattle.pst_model.specs.declared.activity.Branch.{Branch}
 use Rattle.pst_model.specs.declared.activity.Arm.{Arm}
-use Rattle.pst_model.specs.ActivityTree.{StepTree, BranchTree, ArmTree, spans_of}
+use Rattle.pst_model.specs.ActivityTree.{spans_of}
 use Rattle.pst_model.specs.ConstraintTree.{view_constraint}
 use Rattle.pst_model.specs.ModelView.{view_model, view_action, view_step, view_branch, view_arm}
 use Rattle.pst_model.specs.SoundActivity.{IsSoundStep, IsSoundBranch, IsCondition, IsJoin, AreApart}
