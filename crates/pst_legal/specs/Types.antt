@@ -1,17 +1,17 @@
 -- What a model says of its types, instances and pools.
 use Rattle.std.specs.Prelude.{ℕ, ◌+◌, List, [], map, length, Bool, true, false, ◌&&◌, nat_eq, nat_le, Option, None, Some, slice_get}
-use Rattle.std.specs.List.{enumerate_from, filter, find}
-use Rattle.std.specs.Option.{option_map, option_and_then}
+use Rattle.std.specs.List.{enumerate_from, filter}
+use Rattle.std.specs.Option.{option_and_then}
 use Rattle.pst_base.specs.declared.table.NameId.{NameId}
 use Rattle.pst_model.specs.declared.action.Field.{Field}
 use Rattle.pst_model.specs.declared.action.Reference.{Reference}
 use Rattle.pst_model.specs.declared.action.Claim.{Claim}
 use Rattle.pst_model.specs.declared.model.Part.{Part}
 use Rattle.pst_model.specs.declared.model.Pool.{Pool}
-use Rattle.pst_model.specs.declared.model.Serve.{Serve}
 use Rattle.pst_model.specs.declared.object.ObjectKind.{ObjectKind}
 use Rattle.pst_model.specs.declared.object.ObjectKind.TheVariants.{Buffer, Stream, State, Resource}
 use Rattle.pst_model.specs.ActivityTree.{ActivityTree}
+use Rattle.pst_model.specs.Served.{pool_in}
 use Rattle.pst_model.specs.ModelTree.{ModelTree, ActionTree, ObjectTree, ContentTree, Atomic, Compound}
 use Rattle.pst_scen.specs.declared.act.Flow.{Flow}
 use Rattle.pst_scen.specs.declared.act.Flow.TheVariants.{BufferIn, BufferOut, StreamIn, StreamOut, StateIn, StateOut}
@@ -89,12 +89,9 @@ action_instances m (Some type) top = instances_of m type.component top
 
 -- ---- pools
 
-abbrev pub serves : ℕ → ℕ → ℕ → Serve → Bool
-serves action instance reference serve = nat_eq serve.action action && (nat_eq serve.instance instance && nat_eq serve.reference reference)
-
 -- the pool that serves a reference, or a claim, of an action type in an instance; claims are numbered behind the references
 abbrev pub served : ModelTree → ℕ → ℕ → ℕ → Option ℕ
-served m action instance reference = option_map (λ serve. serve.pool) (find (serves action instance reference) m.served)
+served m action instance reference = pool_in m.served action instance reference
 
 -- the pool of a claim
 abbrev pub served_claim : ModelTree → ℕ → ℕ → ℕ → Option ℕ

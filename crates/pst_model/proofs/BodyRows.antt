@@ -1,5 +1,5 @@
 -- The rows of a body step's tree are those of its lists.
-use Rattle.std.proofs.Common.{◌≡◌, ◌++◌, ◌+◌, ◌↔◌, ℕ, List, [], ◌∷◌, map, All, Option, Some, None, option_and_then, Bool, true, false, ◌&&◌, nat_eq, nat_lt, refl, ap, subst, sym, ◌∙◌}
+use Rattle.std.proofs.Common.{◌≡◌, ◌++◌, ◌+◌, ◌↔◌, ℕ, List, [], ◌∷◌, map, All, Option, refl, ap, subst, sym, ◌∙◌}
 use Rattle.std.specs.List.{flat_map}
 use Rattle.std.specs.Global.{Vec}
 use Rattle.std.proofs.lemmas.List.Elements.{All-cons, All-head, All-tail, All-nil}

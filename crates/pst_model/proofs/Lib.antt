@@ -8,3 +8,4 @@ mod BodyRows
 mod Locals
 mod Searches
 mod Under
+mod TrialLemmas

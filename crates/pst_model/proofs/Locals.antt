@@ -1,10 +1,10 @@
 -- What the next number behind locals tells.
-use Rattle.std.proofs.Common.{◌≡◌, ◌≤◌, ◌<◌, ◌+◌, ◌↔◌, ℕ, zero, suc, List, [], ◌∷◌, length, Option, Some, None, IsTrue, Bool, true, false, ◌&&◌, nat_eq, nat_lt, slice_get, refl, subst, ap, sym, ◌∙◌, arith, cond, All}
+use Rattle.std.proofs.Common.{◌≡◌, ◌≤◌, ◌<◌, ◌+◌, ◌↔◌, ℕ, zero, suc, List, [], ◌∷◌, length, Some, None, Bool, true, false, ◌&&◌, nat_eq, nat_lt, slice_get, refl, subst, sym, ◌∙◌, arith, cond, All}
 use Rattle.pst_model.specs.BodyTree.{BodyStepTree}
 use Rattle.pst_model.specs.ModelTree.{ActionTree, ModelTree}
 use Rattle.pst_model.specs.SoundBody.{locals_of, EachBodyStep, IsSoundBodyStep, IsSoundBody}
 use Rattle.pst_model.specs.Limits.{most_locals}
-use Rattle.pst_model.specs.Numbered.{behind_local, behind_locals}
+use Rattle.pst_model.specs.Numbered.{behind_locals}
 
 -- locals are numbered from n on, and there are at most most_locals with those before
 pub record AreNumbered (n : ℕ) (ls : List ℕ) : Type 0 where
@@ -30,15 +30,17 @@ counted n (l ∷ ls) m e small = go (nat_eq l n && nat_lt n most_locals) refl (�
   where
     first : (b : Bool) → (nat_eq l n && nat_lt n most_locals) ≡ b → behind_locals (cond b (Some (n + 1)) None) ls ≡ Some m
     first b t = subst (λ (c : Bool). behind_locals (cond c (Some (n + 1)) None) ls ≡ Some m) t e
+
     rest : (l ≡ n) → AreNumbered (n + 1) ls → (k local : ℕ) → slice_get (l ∷ ls) k ≡ Some local → local ≡ n + k
     rest same more zero local g = let own = some_same l local g in omega (arith, same, own)
     rest same more (suc k) local g = let later = more.numbered k local g in omega (arith, later)
+
     go : (b : Bool) → (nat_eq l n && nat_lt n most_locals) ≡ b → (behind_locals (Some (n + 1)) ls ≡ Some m → n + 1 ≤ most_locals → (m ≡ (n + 1) + length ls) × AreNumbered (n + 1) ls) → (m ≡ n + length (l ∷ ls)) × AreNumbered n (l ∷ ls)
     go true t rec =
-      let tests = passed l n t in
-      let more = rec (first true t) (omega (arith, tests.1)) in
-      let few = more.1.few in
-      (omega (arith, more.0), record { few = omega (arith, few); numbered = rest tests.0 more.1 })
+        let tests = passed l n t in
+        let more = rec (first true t) (omega (arith, tests.1)) in
+        let few = more.1.few in
+        (omega (arith, more.0), record { few = omega (arith, few); numbered = rest tests.0 more.1 })
     go false t rec = let nothing = sym (none_behind ls) ∙ first false t in absurd cc
 
 pub uncounted : (n : ℕ) (ls : List ℕ) → behind_locals (Some n) ls ≡ None → AreNumbered n ls → ⊥
@@ -47,6 +49,7 @@ uncounted n (l ∷ ls) e are = go (nat_eq l n && nat_lt n most_locals) refl (unc
   where
     first : (b : Bool) → (nat_eq l n && nat_lt n most_locals) ≡ b → behind_locals (cond b (Some (n + 1)) None) ls ≡ None
     first b t = subst (λ (c : Bool). behind_locals (cond c (Some (n + 1)) None) ls ≡ None) t e
+
     go : (b : Bool) → (nat_eq l n && nat_lt n most_locals) ≡ b → (behind_locals (Some (n + 1)) ls ≡ None → AreNumbered (n + 1) ls → ⊥) → ⊥
     go true t rec = let few = are.few in rec (first true t) record { few = omega (arith, few); numbered = λ k local g. let later = are.numbered (suc k) local g in omega (arith, later) }
     go false t rec = let few = are.few in let same = are.numbered zero l refl in failed l n t (omega (arith, same)) (omega (arith, few))

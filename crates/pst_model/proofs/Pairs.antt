@@ -1,5 +1,5 @@
 -- Properties of each two items of a list.
-use Rattle.std.proofs.Common.{◌≡◌, ◌<◌, ◌↔◌, ℕ, zero, suc, List, [], ◌∷◌, ◌++◌, length, All, AllPairs, ◌+◌, ◌-◌, take, drop, get_or, map, subst, sym, ap, ◌∙◌, Bool, false, not, IsTrue, arith}
+use Rattle.std.proofs.Common.{◌≡◌, ◌<◌, ◌↔◌, ℕ, zero, suc, List, [], ◌∷◌, ◌++◌, length, All, AllPairs, ◌+◌, ◌-◌, take, drop, get_or, map, subst, sym, ap, ◌∙◌, Bool, false, IsTrue, arith}
 use Rattle.std.proofs.lemmas.List.Elements.{All-append, All-cons, All-head, All-tail, All-nil}
 use Rattle.std.specs.List.{flat_map}
 use Rattle.std.proofs.lemmas.List.Kept.{AllPairs-cons}
@@ -38,8 +38,8 @@ pairs_join : {X : Type 0} (R : X → X → Type 0) (xs ys : List X) → AllPairs
 pairs_join R [] ys own across others = others
 pairs_join R (x ∷ xs) ys own across others =
     AllPairs-cons R x (xs ++ ys)
-      (All-append (R x) xs ys (pairs_head R x xs own) (All-head (λ y. All (R y) ys) x xs across))
-      (pairs_join R xs ys (pairs_tail R x xs own) (All-tail (λ y. All (R y) ys) x xs across) others)
+    (All-append (R x) xs ys (pairs_head R x xs own) (All-head (λ y. All (R y) ys) x xs across))
+    (pairs_join R xs ys (pairs_tail R x xs own) (All-tail (λ y. All (R y) ys) x xs across) others)
 
 -- each two items of two lists in a row
 pub pairs_append : {X : Type 0} (R : X → X → Type 0) (xs ys : List X) → AllPairs R (xs ++ ys) ↔ AllPairs R xs × All (λ x. All (R x) ys) xs × AllPairs R ys

@@ -1,5 +1,5 @@
 -- What a search finds among entries in order.
-use Rattle.std.proofs.Common.{◌≡◌, ◌<◌, ◌≤◌, ◌+◌, ◌↔◌, ◌⊎◌, inl, inr, ℕ, zero, suc, List, [], ◌∷◌, length, drop, get_or, All, AllPairs, Bool, true, false, ◌&&◌, nat_eq, IsTrue, Result, Ok, Err, IfOk, IfErr, Ordering, Less, Equal, Greater, Option, Some, None, cond, refl, ap, subst, sym, ◌∙◌, arith}
+use Rattle.std.proofs.Common.{◌≡◌, ◌<◌, ◌≤◌, ◌+◌, ◌↔◌, ◌⊎◌, inl, inr, ℕ, zero, suc, List, [], ◌∷◌, length, drop, get_or, All, Bool, true, false, IsTrue, Result, Ok, Err, IfOk, IfErr, Ordering, Less, Equal, Greater, Some, None, cond, refl, ap, subst, sym, ◌∙◌, arith}
 use Rattle.std.specs.List.{HoldsAt}
 use Rattle.std.specs.List.Sorted.{IsSearchInRange, IsBinarySearchResult, IsNonDecreasingBy}
 use Rattle.std.specs.Ordering.{nat_cmp, ordering_index, ordering_then}
@@ -43,6 +43,7 @@ entry_rises a i r s t (inr more) = then_rises a s.action t.action (ordering_then
   where
     last : s.reference < t.reference → ordering_index (nat_cmp s.reference r) ≤ ordering_index (nat_cmp t.reference r)
     last below = grind (arith, nat_tests, below)
+
     second : (s.instance < t.instance) ⊎ ((s.instance ≡ t.instance) × (s.reference < t.reference)) → ordering_index (ordering_then (nat_cmp s.instance i) (nat_cmp s.reference r)) ≤ ordering_index (ordering_then (nat_cmp t.instance i) (nat_cmp t.reference r))
     second (inl below) = then_rises i s.instance t.instance (nat_cmp s.reference r) (nat_cmp t.reference r) (inl below)
     second (inr ends) = then_rises i s.instance t.instance (nat_cmp s.reference r) (nat_cmp t.reference r) (inr (ends.0, last ends.1))

@@ -1,10 +1,9 @@
 -- What is asked of a step, in terms of its lists.
-use Rattle.std.proofs.Common.{◌≡◌, ◌≤◌, ◌+◌, ℕ, ◌↔◌, All, AllPairs, List, [], ◌∷◌, length, map, subst, sym, ap, ◌∙◌, Bool, Option}
+use Rattle.std.proofs.Common.{◌≡◌, ◌≤◌, ℕ, ◌↔◌, All, AllPairs, List, [], ◌∷◌, length, map, subst, sym, ap, ◌∙◌, Bool, Option}
 use Rattle.std.specs.List.{flat_map}
 use Rattle.std.specs.Global.{Vec, Box}
 use Rattle.std.proofs.lemmas.List.{length-map}
 use Rattle.std.proofs.lemmas.List.Elements.{All-cons, All-head, All-tail, All-nil}
-use Rattle.pst_expr.specs.declared.ranges.Span.{Span}
 use Rattle.pst_model.specs.Limits.{most_branches}
 use Rattle.pst_model.specs.declared.activity.Step.{Step}
 use Rattle.pst_model.specs.declared.activity.Step.TheVariants as the_step
@@ -12,7 +11,7 @@ use Rattle.pst_model.specs.declared.activity.Join.{Join}
 use Rattle.pst_model.specs.declared.activity.Branch.{Branch}
 use Rattle.pst_model.specs.declared.activity.Arm.{Arm}
 use Rattle.pst_model.specs.declared.constraint.Constraint.{Constraint}
-use Rattle.pst_model.specs.ActivityTree.{StepTree, BranchTree, ArmTree, Traverse, Sequence, Parallel, Schedule, Joined, Select, Repeat, If, Match, steps_of, branches_of, arms_of, spans_of}
+use Rattle.pst_model.specs.ActivityTree.{StepTree, BranchTree, ArmTree, Traverse, Sequence, Parallel, Schedule, Joined, Select, Repeat, If, Match, steps_of, spans_of}
 use Rattle.pst_model.specs.ConstraintTree.{view_constraint}
 use Rattle.pst_model.specs.ModelTree.{ActionTree, ModelTree}
 use Rattle.pst_model.specs.ModelView.{view_step, view_branch, view_arm, maybe_step}
@@ -25,17 +24,17 @@ pub sound_joined : (model : ModelTree) (action : ActionTree) (handles : List ℕ
 sound_joined model action handles levels parallel join v R h =
     let same : length v.items ≡ length (steps_of (step_row (map view_step v.items))) = sym (ap length (steps_of_row (map view_step v.items)) ∙ length-map v.items view_step) in
     subst (λ (s : StepTree). R ↔ IsSoundStep model action handles levels s) (sym (joined_is parallel join v))
-      (subst (λ (n : ℕ). R ↔ (n ≤ most_branches) × IsJoin join n) same h)
+    (subst (λ (n : ℕ). R ↔ (n ≤ most_branches) × IsJoin join n) same h)
 
 pub sound_select : (model : ModelTree) (action : ActionTree) (handles : List ℕ) (levels : ℕ) (v : Vec Branch) (R : Type 0) → (R ↔ All (IsSoundBranch action levels) (map view_branch v.items)) → (R ↔ IsSoundStep model action handles levels (view_step (the_step.Select v)))
 sound_select model action handles levels v R h =
     subst (λ (s : StepTree). R ↔ IsSoundStep model action handles levels s) (sym (select_is v))
-      (subst (λ (bs : List BranchTree). R ↔ All (IsSoundBranch action levels) bs) (sym (branches_of_row (map view_branch v.items))) h)
+    (subst (λ (bs : List BranchTree). R ↔ All (IsSoundBranch action levels) bs) (sym (branches_of_row (map view_branch v.items))) h)
 
 pub sound_match : (model : ModelTree) (action : ActionTree) (handles : List ℕ) (levels : ℕ) (value : Constraint) (v : Vec Arm) (other : Option (Box Step)) (R : Type 0) → (R ↔ IsCondition action levels (view_constraint value) × AllPairs AreApart (flat_map spans_of (map view_arm v.items))) → (R ↔ IsSoundStep model action handles levels (view_step (the_step.Match value v other)))
 sound_match model action handles levels value v other R h =
     subst (λ (s : StepTree). R ↔ IsSoundStep model action handles levels s) (sym (match_is value v other))
-      (subst (λ (arms : List ArmTree). R ↔ IsCondition action levels (view_constraint value) × AllPairs AreApart (flat_map spans_of arms)) (sym (arms_of_row (map view_arm v.items))) h)
+    (subst (λ (arms : List ArmTree). R ↔ IsCondition action levels (view_constraint value) × AllPairs AreApart (flat_map spans_of arms)) (sym (arms_of_row (map view_arm v.items))) h)
 
 -- ---- a step and its parts
 

@@ -15,3 +15,4 @@ pub mod Sound
 pub mod Seen
 pub mod Depth
 pub mod Numbered
+pub mod Trials

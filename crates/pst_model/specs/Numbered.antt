@@ -1,5 +1,5 @@
 -- Locals that are numbered in order of declaration, and aren't too many.
-use Rattle.std.specs.Prelude.{ℕ, ◌+◌, List, [], ◌∷◌, Option, Some, None, Bool, ◌&&◌, nat_eq, nat_lt, if◌then◌else◌}
+use Rattle.std.specs.Prelude.{ℕ, ◌+◌, List, [], ◌∷◌, Option, Some, None, ◌&&◌, nat_eq, nat_lt, if◌then◌else◌}
 use Rattle.pst_model.specs.Limits.{most_locals}
 
 -- the next number behind a local, none where it doesn't have the next number or is one too many

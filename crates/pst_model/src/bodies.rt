@@ -37,7 +37,10 @@ fn behind_step(step: &BodyStep, next: Option<u32>) -> Option<u32>
         BodyStep::Declare { local, .. } => behind_local(next, *local),
         BodyStep::Assign { .. } => next,
         BodyStep::Call { .. } => next,
-        BodyStep::If { yes, no, .. } => behind_steps(no.as_slice(), behind_steps(yes.as_slice(), next)),
+        BodyStep::If { yes, no, .. } => behind_steps(
+            no.as_slice(),
+            behind_steps(yes.as_slice(), next),
+        ),
         BodyStep::Repeat { body, .. } => behind_steps(body.as_slice(), next),
     }
 }
@@ -55,7 +58,13 @@ pub fn behind_steps(steps: &[BodyStep], next: Option<u32>) -> Option<u32>
 }
 
 // Whether an expression of a body is sound.
-fn is_expression(model: &Model, action: &ActionType, locals: u32, repeats: &Repeats, constraint: &Constraint) -> bool
+fn is_expression(
+    model: &Model,
+    action: &ActionType,
+    locals: u32,
+    repeats: &Repeats,
+    constraint: &Constraint,
+) -> bool
     ensures { IsTrue result ↔ IsBodyExpression (view_model model.now) (view_action action.now) locals (depth repeats.now) (view_constraint constraint.now) }
 {
     let site = BodySite {
@@ -68,7 +77,14 @@ fn is_expression(model: &Model, action: &ActionType, locals: u32, repeats: &Repe
 }
 
 // Whether the arguments of a call are sound, one for each parameter.
-fn is_call(model: &Model, action: &ActionType, locals: u32, repeats: &Repeats, arguments: &[Constraint], function: &Function) -> bool
+fn is_call(
+    model: &Model,
+    action: &ActionType,
+    locals: u32,
+    repeats: &Repeats,
+    arguments: &[Constraint],
+    function: &Function,
+) -> bool
     ensures { IsTrue result ↔ IsCall (view_model model.now) (view_action action.now) locals (depth repeats.now) (map view_constraint arguments.now) (view_function function.now) }
 {
     if arguments.len() != function.parameters.len() {
@@ -84,7 +100,14 @@ fn is_call(model: &Model, action: &ActionType, locals: u32, repeats: &Repeats, a
 }
 
 // Whether a call of the function of that number is sound.
-fn is_call_of(model: &Model, action: &ActionType, locals: u32, repeats: &Repeats, arguments: &[Constraint], function: u32) -> bool
+fn is_call_of(
+    model: &Model,
+    action: &ActionType,
+    locals: u32,
+    repeats: &Repeats,
+    arguments: &[Constraint],
+    function: u32,
+) -> bool
     ensures { IsTrue result ↔ IsSomeAnd (slice_get (map view_function model.now.functions.items) function) (IsCall (view_model model.now) (view_action action.now) locals (depth repeats.now) (map view_constraint arguments.now)) }
 {
     match model.functions.get(function as usize) {
@@ -94,7 +117,14 @@ fn is_call_of(model: &Model, action: &ActionType, locals: u32, repeats: &Repeats
 }
 
 // Whether a call is sound of the function of that number, which gives an answer.
-fn is_answer_of(model: &Model, action: &ActionType, locals: u32, repeats: &Repeats, arguments: &[Constraint], function: u32) -> bool
+fn is_answer_of(
+    model: &Model,
+    action: &ActionType,
+    locals: u32,
+    repeats: &Repeats,
+    arguments: &[Constraint],
+    function: u32,
+) -> bool
     ensures { IsTrue result ↔ IsSomeAnd (slice_get (map view_function model.now.functions.items) function) (λ f. IsCall (view_model model.now) (view_action action.now) locals (depth repeats.now) (map view_constraint arguments.now) f × IsSome f.answer) }
 {
     match model.functions.get(function as usize) {
@@ -106,7 +136,13 @@ fn is_answer_of(model: &Model, action: &ActionType, locals: u32, repeats: &Repea
 }
 
 // Whether what a local is set to is sound.
-fn is_source(model: &Model, action: &ActionType, locals: u32, repeats: &Repeats, source: &Source) -> bool
+fn is_source(
+    model: &Model,
+    action: &ActionType,
+    locals: u32,
+    repeats: &Repeats,
+    source: &Source,
+) -> bool
     ensures { IsTrue result ↔ IsSource (view_model model.now) (view_action action.now) locals (depth repeats.now) (view_source source.now) }
 {
     match source {
@@ -114,12 +150,25 @@ fn is_source(model: &Model, action: &ActionType, locals: u32, repeats: &Repeats,
         Source::Answer {
             function,
             arguments,
-        } => is_answer_of(model, action, locals, repeats, arguments.as_slice(), *function),
+        } => is_answer_of(
+            model,
+            action,
+            locals,
+            repeats,
+            arguments.as_slice(),
+            *function,
+        ),
     }
 }
 
 // Whether the first value of a local, if there is one, is sound.
-fn is_first_value(model: &Model, action: &ActionType, locals: u32, repeats: &Repeats, value: &Option<Source>) -> bool
+fn is_first_value(
+    model: &Model,
+    action: &ActionType,
+    locals: u32,
+    repeats: &Repeats,
+    value: &Option<Source>,
+) -> bool
     ensures { IsTrue result ↔ IfSome (option_map view_source value.now) (IsSource (view_model model.now) (view_action action.now) locals (depth repeats.now)) }
 {
     match value {
@@ -129,7 +178,13 @@ fn is_first_value(model: &Model, action: &ActionType, locals: u32, repeats: &Rep
 }
 
 // Whether a step of an action's body is sound, whatever its parts are.
-fn is_sound_step(model: &Model, action: &ActionType, locals: u32, repeats: &Repeats, step: &BodyStep) -> bool
+fn is_sound_step(
+    model: &Model,
+    action: &ActionType,
+    locals: u32,
+    repeats: &Repeats,
+    step: &BodyStep,
+) -> bool
     ensures { IsTrue result ↔ IsSoundBodyStep (view_model model.now) (view_action action.now) locals (depth repeats.now) (view_body_step step.now) }
 {
     match step {
@@ -140,7 +195,14 @@ fn is_sound_step(model: &Model, action: &ActionType, locals: u32, repeats: &Repe
         BodyStep::Call {
             function,
             arguments,
-        } => is_call_of(model, action, locals, repeats, arguments.as_slice(), *function),
+        } => is_call_of(
+            model,
+            action,
+            locals,
+            repeats,
+            arguments.as_slice(),
+            *function,
+        ),
         BodyStep::If { condition, .. } => is_expression(model, action, locals, repeats, condition),
         BodyStep::Repeat { count, .. } => is_expression(model, action, locals, repeats, count),
     }
@@ -148,7 +210,13 @@ fn is_sound_step(model: &Model, action: &ActionType, locals: u32, repeats: &Repe
 
 // Whether each step in a step, itself included, is sound.
 #[cycle(steps)]
-fn is_sound_whole(step: &BodyStep, model: &Model, action: &ActionType, locals: u32, repeats: &Repeats) -> bool
+fn is_sound_whole(
+    step: &BodyStep,
+    model: &Model,
+    action: &ActionType,
+    locals: u32,
+    repeats: &Repeats,
+) -> bool
     ensures { IsTrue result ↔ EachBodyStep (IsSoundBodyStep (view_model model.now) (view_action action.now) locals) (depth repeats.now) (view_body_step step.now) }
 {
     is_sound_step(model, action, locals, repeats, step)
@@ -157,7 +225,13 @@ fn is_sound_whole(step: &BodyStep, model: &Model, action: &ActionType, locals: u
 
 // Whether each step in the parts of a step is sound.
 #[cycle(steps)]
-fn has_sound_parts(step: &BodyStep, model: &Model, action: &ActionType, locals: u32, repeats: &Repeats) -> bool
+fn has_sound_parts(
+    step: &BodyStep,
+    model: &Model,
+    action: &ActionType,
+    locals: u32,
+    repeats: &Repeats,
+) -> bool
     ensures { IsTrue result ↔ EachBodyPart (IsSoundBodyStep (view_model model.now) (view_action action.now) locals) (depth repeats.now) (view_body_step step.now) }
 {
     match step {
@@ -168,13 +242,25 @@ fn has_sound_parts(step: &BodyStep, model: &Model, action: &ActionType, locals: 
             are_sound_steps(yes.as_slice(), model, action, locals, repeats)
                 && are_sound_steps(no.as_slice(), model, action, locals, repeats)
         }
-        BodyStep::Repeat { body, .. } => are_sound_steps(body.as_slice(), model, action, locals, &Repeats::Within(&*repeats)),
+        BodyStep::Repeat { body, .. } => are_sound_steps(
+            body.as_slice(),
+            model,
+            action,
+            locals,
+            &Repeats::Within(&*repeats),
+        ),
     }
 }
 
 // Whether each step in these is sound.
 #[cycle(steps)]
-pub fn are_sound_steps(steps: &[BodyStep], model: &Model, action: &ActionType, locals: u32, repeats: &Repeats) -> bool
+pub fn are_sound_steps(
+    steps: &[BodyStep],
+    model: &Model,
+    action: &ActionType,
+    locals: u32,
+    repeats: &Repeats,
+) -> bool
     ensures { IsTrue result ↔ All (EachBodyStep (IsSoundBodyStep (view_model model.now) (view_action action.now) locals) (depth repeats.now)) (map view_body_step steps.now) }
 {
     for step in steps {

@@ -11,6 +11,7 @@ mod bodies;
 mod body;
 mod constraint;
 mod expression;
+mod laws;
 mod model;
 mod object;
 mod preorder;
@@ -21,16 +22,17 @@ mod site;
 mod slots;
 mod soundness;
 mod steps;
+#[cfg(test)]
+mod tests;
 mod ties;
 mod traversals;
 mod types;
-#[cfg(test)]
-mod tests;
 
 pub use action::{ActionType, Claim, Content, Field, Reference};
 pub use activity::{Activity, Arm, Branch, Join, Step, Tie};
 pub use body::{BodyStep, Source};
 pub use constraint::{Constraint, Slot};
+pub use laws::trials_of_sound_models;
 pub use model::{Function, Model, Part, Pool, Serve};
 pub use object::{ObjectKind, ObjectType};
 pub use soundness::{pool_of, sound};

@@ -46,7 +46,12 @@ pub fn is_in_order(served: &[Serve]) -> bool
 }
 
 // The place of the entry of that action type, instance and reference.
-fn place_of(served: &[Serve], action: usize, instance: usize, reference: usize) -> Result<usize, usize>
+fn place_of(
+    served: &[Serve],
+    action: usize,
+    instance: usize,
+    reference: usize,
+) -> Result<usize, usize>
     requires { IsInOrder served.now }
     ensures found { IfOk result (λ k. (k < length served.now) × HoldsAt (λ s. IsTrue (is_entry action instance reference s)) served.now k) }
     ensures absent { IfErr result (λ k. All (λ s. is_entry action instance reference s ≡ false) served.now) }
@@ -119,7 +124,13 @@ fn are_served(served: &[Serve], action: usize, instance: usize, count: usize) ->
 }
 
 // Whether an action type is served in an instance, where it is one of its component.
-fn is_served_in(model: &Model, number: usize, action: &ActionType, instance: usize, part: Part) -> bool
+fn is_served_in(
+    model: &Model,
+    number: usize,
+    action: &ActionType,
+    instance: usize,
+    part: Part,
+) -> bool
     requires { IsInOrder model.now.served.items }
     ensures { IsTrue result ↔ IsServedIn (view_model model.now) number (view_action action.now) instance part }
 {

@@ -9,7 +9,9 @@ use crate::expression::is_below;
 use crate::model::Model;
 use crate::object::ObjectType;
 use crate::repeats::Repeats;
-use crate::slots::{is_body_slot, is_condition_slot, is_constraint_slot, is_inline_slot, is_object_slot};
+use crate::slots::{
+    is_body_slot, is_condition_slot, is_constraint_slot, is_inline_slot, is_object_slot,
+};
 
 // Where an expression stands.
 pub trait Site {

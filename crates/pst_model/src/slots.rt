@@ -36,7 +36,12 @@ fn has_field(objects: &[ObjectType], object: u32, field: u32) -> bool
 }
 
 // Whether the object of a reference has the field.
-fn is_object_field(objects: &[ObjectType], references: &[Reference], reference: u32, field: u32) -> bool
+fn is_object_field(
+    objects: &[ObjectType],
+    references: &[Reference],
+    reference: u32,
+    field: u32,
+) -> bool
     ensures { IsTrue result ↔ IsSomeAnd (slice_get references.now reference) (λ r. HasField (map view_object objects.now) r.object field) }
 {
     match references.get(reference as usize) {
@@ -71,10 +76,20 @@ pub fn is_action_slot(objects: &[ObjectType], action: &ActionType, slot: &Slot) 
 {
     match slot {
         Slot::Own { field } => (*field as usize) < action.fields.len(),
-        Slot::Object { reference, field } => is_object_field(objects, action.references.as_slice(), *reference, *field),
+        Slot::Object { reference, field } => is_object_field(
+            objects,
+            action.references.as_slice(),
+            *reference,
+            *field,
+        ),
         Slot::First { reference } => is_state(objects, action.references.as_slice(), *reference),
         Slot::ClaimId { claim } => (*claim as usize) < action.claims.len(),
-        Slot::ClaimField { claim, field } => is_claim_field(objects, action.claims.as_slice(), *claim, *field),
+        Slot::ClaimField { claim, field } => is_claim_field(
+            objects,
+            action.claims.as_slice(),
+            *claim,
+            *field,
+        ),
         _ => false,
     }
 }
@@ -91,7 +106,13 @@ pub fn is_condition_slot(action: &ActionType, repeats: &Repeats, slot: &Slot) ->
 }
 
 // Whether a slot has a meaning in the body of an action.
-pub fn is_body_slot(objects: &[ObjectType], action: &ActionType, locals: u32, repeats: &Repeats, slot: &Slot) -> bool
+pub fn is_body_slot(
+    objects: &[ObjectType],
+    action: &ActionType,
+    locals: u32,
+    repeats: &Repeats,
+    slot: &Slot,
+) -> bool
     ensures { IsTrue result ↔ IsBodySlot (map view_object objects.now) (view_action action.now) locals (depth repeats.now) (view_slot slot.now) }
 {
     match slot {
@@ -107,7 +128,8 @@ pub fn is_object_slot(object: &ObjectType, slot: &Slot) -> bool
 {
     match slot {
         Slot::Own { field } => (*field as usize) < object.fields.len(),
-        Slot::Prev { field } => object.kind == ObjectKind::State && (*field as usize) < object.fields.len(),
+        Slot::Prev { field } => object.kind == ObjectKind::State
+            && (*field as usize) < object.fields.len(),
         Slot::IsFirst => object.kind == ObjectKind::State,
         Slot::Id => object.kind == ObjectKind::Resource,
         _ => false,
@@ -156,7 +178,13 @@ pub fn is_constraint_slot(model: &Model, action: &ActionType, slot: &Slot) -> bo
 }
 
 // Whether a slot has a meaning in an inline constraint on an action that another one traverses.
-pub fn is_inline_slot(model: &Model, action: &ActionType, traversed: &ActionType, repeats: &Repeats, slot: &Slot) -> bool
+pub fn is_inline_slot(
+    model: &Model,
+    action: &ActionType,
+    traversed: &ActionType,
+    repeats: &Repeats,
+    slot: &Slot,
+) -> bool
     ensures { IsTrue result ↔ IsInlineSlot (view_model model.now) (view_action action.now) (view_action traversed.now) (depth repeats.now) (view_slot slot.now) }
 {
     match slot {

@@ -119,7 +119,13 @@ fn is_sound_match(action: &ActionType, repeats: &Repeats, value: &Constraint, ar
 }
 
 // Whether a step of an action's activity is sound, whatever its parts are.
-fn is_sound_step(model: &Model, action: &ActionType, handles: &[u32], repeats: &Repeats, step: &Step) -> bool
+fn is_sound_step(
+    model: &Model,
+    action: &ActionType,
+    handles: &[u32],
+    repeats: &Repeats,
+    step: &Step,
+) -> bool
     ensures { IsTrue result ↔ IsSoundStep (view_model model.now) (view_action action.now) handles.now (depth repeats.now) (view_step step.now) }
 {
     match step {
@@ -144,7 +150,13 @@ fn is_sound_step(model: &Model, action: &ActionType, handles: &[u32], repeats: &
 
 // Whether each step in a step, itself included, is sound.
 #[cycle(steps)]
-fn is_sound_whole(step: &Step, model: &Model, action: &ActionType, handles: &[u32], repeats: &Repeats) -> bool
+fn is_sound_whole(
+    step: &Step,
+    model: &Model,
+    action: &ActionType,
+    handles: &[u32],
+    repeats: &Repeats,
+) -> bool
     ensures { IsTrue result ↔ EachStep (IsSoundStep (view_model model.now) (view_action action.now) handles.now) (depth repeats.now) (view_step step.now) }
 {
     is_sound_step(model, action, handles, repeats, step)
@@ -153,7 +165,13 @@ fn is_sound_whole(step: &Step, model: &Model, action: &ActionType, handles: &[u3
 
 // Whether each step in the parts of a step is sound.
 #[cycle(steps)]
-fn has_sound_parts(step: &Step, model: &Model, action: &ActionType, handles: &[u32], repeats: &Repeats) -> bool
+fn has_sound_parts(
+    step: &Step,
+    model: &Model,
+    action: &ActionType,
+    handles: &[u32],
+    repeats: &Repeats,
+) -> bool
     ensures { IsTrue result ↔ EachPart (IsSoundStep (view_model model.now) (view_action action.now) handles.now) (depth repeats.now) (view_step step.now) }
 {
     match step {
@@ -161,9 +179,27 @@ fn has_sound_parts(step: &Step, model: &Model, action: &ActionType, handles: &[u
         Step::Sequence(steps) => are_sound_steps(steps.as_slice(), model, action, handles, repeats),
         Step::Parallel(steps) => are_sound_steps(steps.as_slice(), model, action, handles, repeats),
         Step::Schedule(steps) => are_sound_steps(steps.as_slice(), model, action, handles, repeats),
-        Step::Joined { steps, .. } => are_sound_steps(steps.as_slice(), model, action, handles, repeats),
-        Step::Select(branches) => has_sound_branches(branches.as_slice(), model, action, handles, repeats),
-        Step::Repeat { body, .. } => is_sound_whole(body, model, action, handles, &Repeats::Within(&*repeats)),
+        Step::Joined { steps, .. } => are_sound_steps(
+            steps.as_slice(),
+            model,
+            action,
+            handles,
+            repeats,
+        ),
+        Step::Select(branches) => has_sound_branches(
+            branches.as_slice(),
+            model,
+            action,
+            handles,
+            repeats,
+        ),
+        Step::Repeat { body, .. } => is_sound_whole(
+            body,
+            model,
+            action,
+            handles,
+            &Repeats::Within(&*repeats),
+        ),
         Step::If { yes, no, .. } => {
             is_sound_whole(yes, model, action, handles, repeats)
                 && is_sound_other(no, model, action, handles, repeats)
@@ -177,7 +213,13 @@ fn has_sound_parts(step: &Step, model: &Model, action: &ActionType, handles: &[u
 
 // Whether each step in these is sound.
 #[cycle(steps)]
-pub fn are_sound_steps(steps: &[Step], model: &Model, action: &ActionType, handles: &[u32], repeats: &Repeats) -> bool
+pub fn are_sound_steps(
+    steps: &[Step],
+    model: &Model,
+    action: &ActionType,
+    handles: &[u32],
+    repeats: &Repeats,
+) -> bool
     ensures { IsTrue result ↔ All (EachStep (IsSoundStep (view_model model.now) (view_action action.now) handles.now) (depth repeats.now)) (map view_step steps.now) }
 {
     for step in steps {
@@ -190,7 +232,13 @@ pub fn are_sound_steps(steps: &[Step], model: &Model, action: &ActionType, handl
 
 // Whether each step in the branches is sound.
 #[cycle(steps)]
-fn has_sound_branches(branches: &[Branch], model: &Model, action: &ActionType, handles: &[u32], repeats: &Repeats) -> bool
+fn has_sound_branches(
+    branches: &[Branch],
+    model: &Model,
+    action: &ActionType,
+    handles: &[u32],
+    repeats: &Repeats,
+) -> bool
     ensures { IsTrue result ↔ All (EachOfBranch (IsSoundStep (view_model model.now) (view_action action.now) handles.now) (depth repeats.now)) (map view_branch branches.now) }
 {
     for branch in branches {
@@ -203,7 +251,13 @@ fn has_sound_branches(branches: &[Branch], model: &Model, action: &ActionType, h
 
 // Whether each step in the arms is sound.
 #[cycle(steps)]
-fn has_sound_arms(arms: &[Arm], model: &Model, action: &ActionType, handles: &[u32], repeats: &Repeats) -> bool
+fn has_sound_arms(
+    arms: &[Arm],
+    model: &Model,
+    action: &ActionType,
+    handles: &[u32],
+    repeats: &Repeats,
+) -> bool
     ensures { IsTrue result ↔ All (EachOfArm (IsSoundStep (view_model model.now) (view_action action.now) handles.now) (depth repeats.now)) (map view_arm arms.now) }
 {
     for arm in arms {
@@ -216,7 +270,13 @@ fn has_sound_arms(arms: &[Arm], model: &Model, action: &ActionType, handles: &[u
 
 // Whether each step in another part, if there is one, is sound.
 #[cycle(steps)]
-fn is_sound_other(other: &Option<Box<Step>>, model: &Model, action: &ActionType, handles: &[u32], repeats: &Repeats) -> bool
+fn is_sound_other(
+    other: &Option<Box<Step>>,
+    model: &Model,
+    action: &ActionType,
+    handles: &[u32],
+    repeats: &Repeats,
+) -> bool
     ensures { IsTrue result ↔ EachOfMaybe (IsSoundStep (view_model model.now) (view_action action.now) handles.now) (depth repeats.now) (maybe_step other.now) }
 {
     match other {

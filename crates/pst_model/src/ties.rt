@@ -70,11 +70,7 @@ fn is_stream_tie(model: &Model, activity: &Activity, tie: Tie) -> bool
         tie.from_handle,
         tie.from_reference,
     ) {
-        Some(output) => is_of_kind(
-            model.objects.as_slice(),
-            ObjectKind::Stream,
-            output.object,
-        ),
+        Some(output) => is_of_kind(model.objects.as_slice(), ObjectKind::Stream, output.object),
         None => false,
     }
 }

@@ -34,13 +34,7 @@ fn seen_by(handle: u32, within: bool, by: Option<u32>) -> Seen
     ensures { result ≡ seen_of (traversal_by handle within by) }
 {
     match by {
-        Some(other) if other == handle => {
-            if within {
-                Seen::Otherwise
-            } else {
-                Seen::Once
-            }
-        }
+        Some(other) if other == handle => { if within { Seen::Otherwise } else { Seen::Once } }
         _ => Seen::Never,
     }
 }
@@ -59,7 +53,10 @@ fn seen_in(step: &Step, handle: u32, within: bool) -> Seen
         Step::Select(branches) => seen_in_branches(branches.as_slice(), handle),
         Step::Repeat { body, .. } => seen_in(body, handle, true),
         Step::If { yes, no, .. } => join(seen_in(yes, handle, true), seen_in_other(no, handle)),
-        Step::Match { arms, other, .. } => join(seen_in_arms(arms.as_slice(), handle), seen_in_other(other, handle)),
+        Step::Match { arms, other, .. } => join(
+            seen_in_arms(arms.as_slice(), handle),
+            seen_in_other(other, handle),
+        ),
     }
 }
 

@@ -12,15 +12,14 @@ ghost use Rattle.pst_model.specs.Sound.{IsSoundField, IsSoundObject, IsSoundRefe
 
 use crate::action::{ActionType, Claim, Content, Field, Reference};
 use crate::activity::Activity;
-use crate::bodies;
 use crate::body::BodyStep;
 use crate::model::{Function, Model, Pool};
 use crate::object::{ObjectKind, ObjectType};
 use crate::repeats::Repeats;
 use crate::site::{ActionSite, ObjectSite, are_sound_there};
 use crate::slots::is_of_kind;
-use crate::steps;
 use crate::ties::are_sound_ties;
+use crate::{bodies, steps};
 use pst_expr::Domain;
 
 // The most fields of a type.
@@ -140,7 +139,13 @@ fn is_sound_activity(model: &Model, action: &ActionType, activity: &Activity) ->
     if !are_sound_handles(model, handles) {
         return false;
     }
-    if !steps::are_sound_steps(activity.steps.as_slice(), model, action, handles, &Repeats::Nothing) {
+    if !steps::are_sound_steps(
+        activity.steps.as_slice(),
+        model,
+        action,
+        handles,
+        &Repeats::Nothing,
+    ) {
         return false;
     }
     are_sound_ties(model, activity)

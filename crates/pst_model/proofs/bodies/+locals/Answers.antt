@@ -1,4 +1,4 @@
-use Rattle.std.proofs.Common.{◌≡◌, ◌+◌, ◌∷◌, ◌++◌, ℕ, List, Option, drop, map, ap, sym, ◌∙◌}
+use Rattle.std.proofs.Common.{◌+◌, ℕ, List, Option, drop, map, ap, sym, ◌∙◌}
 use Rattle.std.specs.List.{flat_map}
 use Rattle.pst_model.specs.declared.body.BodyStep.{BodyStep}
 use Rattle.pst_model.specs.ModelView.{view_body_step}

@@ -1,4 +1,4 @@
-use Rattle.std.proofs.Common.{◌≡◌, ◌+◌, ℕ, IsTrue, ◌↔◌, All, List, drop, map, subst, sym}
+use Rattle.std.proofs.Common.{◌+◌, IsTrue, ◌↔◌, All, List, map, subst, sym}
 use Rattle.pst_model.specs.Depth.{depth}
 use Rattle.pst_model.specs.declared.body.BodyStep.{BodyStep}
 use Rattle.pst_model.specs.ModelView.{view_model, view_action, view_body_step}

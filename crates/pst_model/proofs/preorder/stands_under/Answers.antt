@@ -1,7 +1,6 @@
-use Rattle.std.proofs.Common.{◌≡◌, ◌<◌, ◌↔◌, ℕ, length, get_or, Some, subst, sym, refl, arith}
-use Rattle.std.proofs.lemmas.Option.{slice_get-get_or}
+use Rattle.std.proofs.Common.{◌≡◌, ◌<◌, ℕ, subst, refl, arith}
 use Rattle.std.proofs.lemmas.Bool.Decides.{nat_tests}
-use Rattle.pst_model.specs.Preorder.{StandsUnder, AtTop, IsParent}
+use Rattle.pst_model.specs.Preorder.{StandsUnder, AtTop}
 use Rattle.pst_model.proofs.Under.{by_parent, parent_below}
 use Rattle.pst_model.proofs.preorder.stands_under.Goals as goal
 

@@ -1,4 +1,4 @@
-use Rattle.std.proofs.Common.{ℕ, ◌<◌, ◌↔◌, length}
+use Rattle.std.proofs.Common.{◌<◌, ◌↔◌, length}
 use Rattle.pst_model.specs.Preorder.{StandsUnder}
 use Rattle.pst_model.proofs.preorder.stands_under.Given as goal
 

@@ -1,5 +1,4 @@
-use Rattle.std.proofs.Common.{◌≡◌, ◌+◌, ℕ, pos, IsTrue, ◌↔◌, All, AllPairs, List, drop, slice_index_or, subst, sym}
-use Rattle.std.proofs.lemmas.List.{drop_more}
+use Rattle.std.proofs.Common.{◌+◌, pos, IsTrue, ◌↔◌, All, List, drop, slice_index_or, subst}
 use Rattle.pst_expr.specs.declared.ranges.Span.{Span}
 use Rattle.pst_model.specs.SoundActivity.{AreApart}
 use Rattle.pst_model.proofs.Pairs.{tail_is, pairs_drop, refuted, kept}

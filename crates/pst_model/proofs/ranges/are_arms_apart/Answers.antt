@@ -1,4 +1,4 @@
-use Rattle.std.proofs.Common.{◌≡◌, ◌+◌, ℕ, IsTrue, ◌↔◌, All, AllPairs, List, drop, map, subst, sym}
+use Rattle.std.proofs.Common.{◌+◌, IsTrue, ◌↔◌, All, AllPairs, List, drop, map, subst}
 use Rattle.std.specs.List.{flat_map}
 use Rattle.pst_expr.specs.declared.ranges.Span.{Span}
 use Rattle.pst_model.specs.declared.activity.Arm.{Arm}

@@ -1,4 +1,4 @@
-use Rattle.std.proofs.Common.{◌≤◌, ◌<◌, ℕ, refl, arith}
+use Rattle.std.proofs.Common.{refl, arith}
 use Rattle.pst_model.proofs.Apart.{bits_below}
 use Rattle.pst_model.proofs.ranges.are_bits_below.Goals as goal
 

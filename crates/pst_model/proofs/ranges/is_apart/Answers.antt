@@ -1,6 +1,5 @@
-use Rattle.std.proofs.Common.{◌≡◌, ℕ, ℤ, ◌<ℤ◌, ◌≤ℤ◌, IsTrue, ◌↔◌, arith}
+use Rattle.std.proofs.Common.{◌≤ℤ◌, arith}
 use Rattle.std.proofs.lemmas.Int.{ints}
-use Rattle.pst_model.specs.SoundActivity.{AreApart}
 use Rattle.pst_model.proofs.Apart.{apart_from_empty, apart_ends}
 use Rattle.pst_model.proofs.ranges.is_apart.Goals as goal
 

@@ -1,7 +1,5 @@
-use Rattle.std.proofs.Common.{◌≡◌, ◌+◌, ℕ, IsTrue, ◌↔◌, All, List, drop, map, subst, sym}
-use Rattle.std.specs.List.{flat_map}
+use Rattle.std.proofs.Common.{IsTrue, ◌↔◌, All, List, subst}
 use Rattle.pst_expr.specs.declared.ranges.Span.{Span}
-use Rattle.pst_model.specs.declared.activity.Arm.{Arm}
 use Rattle.pst_model.specs.ActivityTree.{spans_of}
 use Rattle.pst_model.specs.ModelView.{view_arm}
 use Rattle.pst_model.specs.SoundActivity.{AreApart}

@@ -1,7 +1,6 @@
-use Rattle.std.proofs.Common.{◌≡◌, ◌<◌, ℕ, length, map, slice_get, Some, refl, arith}
+use Rattle.std.proofs.Common.{map, refl, arith}
 use Rattle.std.proofs.lemmas.Option.{slice_get_within}
 use Rattle.std.proofs.lemmas.List.{length-map}
-use Rattle.pst_model.specs.ModelTree.{ActionTree}
 use Rattle.pst_model.specs.ModelView.{view_model, view_action}
 use Rattle.pst_model.specs.Served.{IsServed}
 use Rattle.pst_model.proofs.Under.{viewed_read, served_next}

@@ -1,4 +1,4 @@
-use Rattle.std.proofs.Common.{◌≡◌, ◌+◌, ℕ, IsTrue, ◌↔◌, List, drop, slice_index_or, subst, sym, refl, arith}
+use Rattle.std.proofs.Common.{◌+◌, IsTrue, ◌↔◌, List, drop, slice_index_or, subst, sym, refl, arith}
 use Rattle.std.proofs.lemmas.List.{drop_all}
 use Rattle.pst_model.specs.declared.model.Serve.{Serve}
 use Rattle.pst_model.specs.Served.{ComesBefore, ComesBeforeFirst, IsInOrder}

@@ -1,4 +1,4 @@
-use Rattle.std.proofs.Common.{◌≡◌, ◌<◌, ℕ, length, get_or, true, Some, sym, ap, ◌∙◌}
+use Rattle.std.proofs.Common.{sym}
 use Rattle.pst_model.specs.declared.model.Serve.{Serve}
 use Rattle.pst_model.proofs.Searches.{pool_found, pool_absent}
 use Rattle.pst_model.proofs.served.pool_in.Goals as goal

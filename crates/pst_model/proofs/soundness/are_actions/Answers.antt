@@ -1,4 +1,3 @@
-use Rattle.std.proofs.Common.{◌≡◌}
 use Rattle.pst_model.specs.ModelView.{view_model, view_action}
 use Rattle.pst_model.specs.Sound.{IsSoundAction}
 use Rattle.pst_model.proofs.Pairs.{viewed_drop, refuted, kept}

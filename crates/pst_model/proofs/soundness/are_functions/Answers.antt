@@ -1,5 +1,4 @@
-use Rattle.std.proofs.Common.{◌≡◌}
-use Rattle.pst_model.specs.ModelView.{view_model, view_function}
+use Rattle.pst_model.specs.ModelView.{view_function}
 use Rattle.pst_model.specs.Sound.{IsSoundFunction}
 use Rattle.pst_model.proofs.Pairs.{viewed_drop, refuted, kept}
 use Rattle.pst_model.proofs.soundness.are_functions.Goals as goal

@@ -1,5 +1,5 @@
 use Rattle.std.proofs.Common.{◌↔◌, All, drop, map}
-use Rattle.pst_model.specs.ModelView.{view_model, view_function}
+use Rattle.pst_model.specs.ModelView.{view_function}
 use Rattle.pst_model.specs.Sound.{IsSoundFunction}
 use Rattle.pst_model.proofs.soundness.are_functions.Given as goal
 

@@ -1,5 +1,4 @@
-use Rattle.std.proofs.Common.{◌≡◌}
-use Rattle.pst_model.specs.ModelView.{view_model, view_object}
+use Rattle.pst_model.specs.ModelView.{view_object}
 use Rattle.pst_model.specs.Sound.{IsSoundObject}
 use Rattle.pst_model.proofs.Pairs.{viewed_drop, refuted, kept}
 use Rattle.pst_model.proofs.soundness.are_objects.Goals as goal

@@ -1,5 +1,5 @@
 use Rattle.std.proofs.Common.{◌↔◌, All, drop, map}
-use Rattle.pst_model.specs.ModelView.{view_model, view_object}
+use Rattle.pst_model.specs.ModelView.{view_object}
 use Rattle.pst_model.specs.Sound.{IsSoundObject}
 use Rattle.pst_model.proofs.soundness.are_objects.Given as goal
 

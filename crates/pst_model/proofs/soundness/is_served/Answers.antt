@@ -1,4 +1,4 @@
-use Rattle.std.proofs.Common.{◌≡◌, IsTrue, ◌↔◌, List, subst}
+use Rattle.std.proofs.Common.{IsTrue, ◌↔◌, List, subst}
 use Rattle.pst_model.specs.declared.model.Serve.{Serve}
 use Rattle.pst_model.specs.Served.{IsInOrder}
 use Rattle.pst_model.proofs.soundness.is_served.Goals as goal

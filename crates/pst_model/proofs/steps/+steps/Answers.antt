@@ -1,12 +1,12 @@
-use Rattle.std.proofs.Common.{◌≡◌, ◌+◌, ℕ, false, IsTrue, ◌↔◌, All, List, drop, map, subst, sym}
+use Rattle.std.proofs.Common.{IsTrue, ◌↔◌, All, List, map, subst, sym}
 use Rattle.pst_model.specs.Depth.{depth}
 use Rattle.pst_model.specs.declared.activity.Step.{Step}
 use Rattle.pst_model.specs.declared.activity.Branch.{Branch}
 use Rattle.pst_model.specs.declared.activity.Arm.{Arm}
-use Rattle.pst_model.specs.ModelView.{view_model, view_action, view_step, view_branch, view_arm, maybe_step}
-use Rattle.pst_model.specs.SoundActivity.{IsSoundStep, EachStep, EachPart, EachOfBranch, EachOfArm, EachOfMaybe}
+use Rattle.pst_model.specs.ModelView.{view_model, view_action, view_step, view_branch, view_arm}
+use Rattle.pst_model.specs.SoundActivity.{IsSoundStep, EachStep, EachPart, EachOfBranch, EachOfArm}
 use Rattle.pst_model.proofs.Pairs.{viewed_drop, refuted, kept}
-use Rattle.pst_model.proofs.StepLemmas.{step_and_parts, parts_of_sequence, parts_of_parallel, parts_of_schedule, parts_of_joined, parts_of_select, parts_of_match}
+use Rattle.pst_model.proofs.StepLemmas.{parts_of_sequence, parts_of_parallel, parts_of_schedule, parts_of_joined, parts_of_select, parts_of_match}
 use Rattle.pst_model.proofs.steps.+steps.Goals as goal
 
 pub are_sound_steps-returns-then-not-is_sound_whole : goal.are_sound_steps-returns-then-not-is_sound_whole

@@ -13,4 +13,3 @@ invariant-has_sound_branches-loop-branch l = All (EachOfBranch (IsSoundStep (vie
 
 abbrev pub invariant-has_sound_arms-loop-arm : goal.invariant-has_sound_arms-loop-arm
 invariant-has_sound_arms-loop-arm l = All (EachOfArm (IsSoundStep (view_model l.model) (view_action l.action) l.handles) (depth l.repeats)) (map view_arm (drop l.arm-index l.arms)) ↔ All (EachOfArm (IsSoundStep (view_model l.model) (view_action l.action) l.handles) (depth l.repeats)) (map view_arm l.arms)
-

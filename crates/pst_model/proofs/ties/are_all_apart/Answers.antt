@@ -1,5 +1,4 @@
-use Rattle.std.proofs.Common.{◌≡◌, ◌+◌, ℕ, IsTrue, ◌↔◌, All, AllPairs, List, drop, slice_index_or, subst, sym}
-use Rattle.std.proofs.lemmas.List.{drop_more}
+use Rattle.std.proofs.Common.{◌+◌, IsTrue, ◌↔◌, All, List, drop, slice_index_or, subst}
 use Rattle.pst_model.specs.declared.activity.Tie.{Tie}
 use Rattle.pst_model.specs.ModelView.{view_model, view_activity}
 use Rattle.pst_model.specs.SoundActivity.{AreTiesApart}

@@ -1,4 +1,4 @@
-use Rattle.std.proofs.Common.{◌≡◌, IsTrue, ◌↔◌, map, sym, ◌∙◌}
+use Rattle.std.proofs.Common.{IsTrue, map, sym, ◌∙◌}
 use Rattle.pst_model.specs.ModelView.{view_model, view_action, view_body_step}
 use Rattle.pst_model.proofs.Locals.{sound_body, unsound_body}
 use Rattle.pst_model.proofs.types.is_sound_body.Goals as goal
