@@ -13,3 +13,4 @@ mod Ties
 mod Pushes
 mod Going
 mod Founding
+mod Parting

@@ -1,23 +1,7 @@
-use Rattle.std.proofs.Common.{◌≡◌, ◌+◌, ◌<◌, subst, sym, arith}
-use Rattle.pst_scen.specs.Rows.{Has}
-use Rattle.pst_book.proofs.Changing.{change_more}
+use Rattle.std.proofs.Common.{◌<◌, inr, sym, subst, arith}
 use Rattle.pst_book.proofs.rows.lower.Goals as goal
 
-pub loop-other-preserved : goal.loop-other-preserved
-loop-other-preserved c =
-    change_more 0 (λ m v w. (Has c.args.rows.now c.args.a m → w + 1 ≡ v) × ((Has c.args.rows.now c.args.a m → ⊥) → w ≡ v)) c.args.counts.now c.loop-other.counts c.lower_one.new.counts c.loop-other.other (c.lower_one.ensures.lowered, c.lower_one.ensures.same) c.lower_one.ensures.others c.loop-other.invariant
-
-pub returns : goal.returns
-returns c =
-    let i = c.loop-other.invariant in
-    let past = c.loop-other-test.false in
-    let many = c.requires.many in
-    record {
-      many = c.loop-other.auto.counts;
-      lowered = λ m l h. (i.done m (omega (arith, l, past, many))).0 h;
-      same = λ m l n. (i.done m (omega (arith, l, past, many))).1 n;
-    }
-
-pub lower_one-requires-clause-some : goal.lower_one-requires-clause-some
-lower_one-requires-clause-some c =
-    λ h. subst (λ v. 0 < v) (sym (c.loop-other.invariant.rest c.loop-other.other (omega arith))) (c.requires.some c.loop-other.other c.loop-other-test.true h)
+pub lower_word-requires-clause-some : goal.lower_word-requires-clause-some
+lower_word-requires-clause-some c =
+    λ m l k h. let e = c.word_end-end.ensures.inside.1 in
+    subst (λ v. 0 < v) (sym (c.words.invariant.changed.outside m (inr l))) (c.requires.some m (omega (arith, k, e)) h)
