@@ -1,0 +1,10 @@
+mod Lists
+mod Rows
+mod SeenLemmas
+mod Pairs
+mod Apart
+mod StepLemmas
+mod BodyRows
+mod Locals
+mod Searches
+mod Under

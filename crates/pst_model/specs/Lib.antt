@@ -1,5 +1,17 @@
+pub mod Limits
 pub mod ConstraintTree
 pub mod ActivityTree
 pub mod BodyTree
 pub mod ModelTree
 pub mod ModelView
+pub mod Traversals
+pub mod SoundConstraint
+pub mod SoundSlots
+pub mod SoundActivity
+pub mod SoundBody
+pub mod Preorder
+pub mod Served
+pub mod Sound
+pub mod Seen
+pub mod Depth
+pub mod Numbered

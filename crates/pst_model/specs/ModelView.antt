@@ -1,6 +1,7 @@
 -- The trees of the program's models.
-use Rattle.std.specs.Prelude.{map}
+use Rattle.std.specs.Prelude.{map, Option, Some, None}
 use Rattle.std.specs.Option.{option_map}
+use Rattle.std.specs.Global.{Box}
 use Rattle.pst_model.specs.declared.activity.Step.{Step, Row_of-Step, end_of-Step, more_of-Step, Row_of-Branch, end_of-Branch, more_of-Branch, Row_of-Arm, end_of-Arm, more_of-Arm, Held-Step-If-2, None', Some'}
 use Rattle.pst_model.specs.declared.activity.Step.TheVariants as the_step
 use Rattle.pst_model.specs.declared.activity.Branch.{Branch}
@@ -90,3 +91,9 @@ view_function f = record { name = f.name; parameters = f.parameters.items; answe
 -- the tree of a model
 abbrev pub view_model : Model → ModelTree
 view_model m = record { actions = map view_action m.actions.items; objects = map view_object m.objects.items; instances = m.instances.items; pools = m.pools.items; functions = map view_function m.functions.items; served = m.served.items }
+
+-- ---- parts that the program holds apart
+
+abbrev pub maybe_step : Option (Box Step) → MaybeStep
+maybe_step None = NoStep
+maybe_step (Some step) = SomeStep (view_step step.value)

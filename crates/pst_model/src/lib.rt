@@ -7,10 +7,23 @@
 
 mod action;
 mod activity;
+mod bodies;
 mod body;
 mod constraint;
+mod expression;
 mod model;
 mod object;
+mod preorder;
+mod ranges;
+mod repeats;
+mod served;
+mod site;
+mod slots;
+mod soundness;
+mod steps;
+mod ties;
+mod traversals;
+mod types;
 #[cfg(test)]
 mod tests;
 
@@ -20,3 +33,4 @@ pub use body::{BodyStep, Source};
 pub use constraint::{Constraint, Slot};
 pub use model::{Function, Model, Part, Pool, Serve};
 pub use object::{ObjectKind, ObjectType};
+pub use soundness::{pool_of, sound};

@@ -8,7 +8,7 @@ use Rattle.pst_scen.specs.Order.{Before, Sequence, Buffer, Source, Previous, Rep
 use Rattle.pst_scen.specs.Trace.{Ended, Started, Names, last_writer, AreFree, MayStart, AreLegal, Block, Starts, Ends, events}
 use Rattle.pst_scen.specs.Core.{IsReady}
 use Rattle.pst_order.specs.Rule.{AreByRule}
-use Rattle.pst_order.proofs.Groups.{names_leads}
+use Rattle.pst_order.proofs.Joined.{names_leads}
 use Rattle.pst_order.proofs.Fair.{must_ended, rule_fair, ended_started}
 use Rattle.pst_order.proofs.FromWhole.{Chain, previous}
 use Rattle.pst_order.proofs.Sound.{Sound, at}

@@ -10,7 +10,7 @@ use Rattle.pst_scen.specs.Core.{IsReady}
 use Rattle.pst_order.specs.Rule.{AreByRule}
 use Rattle.pst_order.proofs.Elements.{cons_first}
 use Rattle.pst_order.proofs.Events.{ended_or, started_or, runs_or, ended_more, ended_new, started_more, started_new, member_starts, length_starts}
-use Rattle.pst_order.proofs.Groups.{must_along}
+use Rattle.pst_order.proofs.Joined.{must_along}
 use Rattle.pst_order.proofs.Fair.{AreFair, rule_fair, group_started, started_inside}
 use Rattle.pst_order.proofs.Counts.{Decided, one, count, count_le, count_lt, find, least, numbers, length-numbers, numbers-at, numbers_below}
 use Rattle.pst_order.proofs.Lists.{ascending_distinct, count_many}

@@ -2,7 +2,7 @@
 use Rattle.std.proofs.Common.{◌≡◌, ◌⊎◌, ℕ, zero, suc, ◌+◌, ◌<◌, ◌≤◌, List, [], ◌∷◌, length, get_or, refl, subst, inl, inr, ⊎_elim, arith}
 use Rattle.std.specs.Prelude.{Contains}
 use Rattle.std.proofs.lemmas.Bool.{cases_eq}
-use Rattle.pst_order.proofs.Elements.{none_in, cons_cases}
+use Rattle.pst_order.proofs.Elements.{none_in, cons_cases, cons_first, cons_rest}
 
 abbrev pub Decided : (ℕ → Type 0) → Type 0
 Decided P = (x : ℕ) → P x ⊎ (P x → ⊥)
@@ -84,3 +84,9 @@ numbers-at a (suc k) (suc i) l = let e = numbers-at (suc a) k i (omega (arith, l
 pub numbers_below : (a k x : ℕ) → Contains (numbers a k) x → x < a + k
 numbers_below a zero x h = absurd (none_in x h)
 numbers_below a (suc k) x h = ⊎_elim (λ e. omega (arith, e)) (λ q. let l = numbers_below (suc a) k x q in omega (arith, l)) (cons_cases a x (numbers (suc a) k) h)
+
+pub in_numbers : (a k x : ℕ) → a ≤ x → x < a + k → Contains (numbers a k) x
+in_numbers a zero x l m = absurd (omega (arith, l, m))
+in_numbers a (suc k) x l m =
+    ⊎_elim (λ e. subst (λ v. Contains (a ∷ numbers (suc a) k) v) e (cons_first a (numbers (suc a) k)))
+    (λ n. cons_rest a x (numbers (suc a) k) (in_numbers (suc a) k x (omega (arith, l, n)) (omega (arith, m)))) (cases_eq a x)

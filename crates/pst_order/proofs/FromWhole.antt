@@ -9,7 +9,7 @@ use Rattle.pst_scen.specs.Conflicts.{FirstWrites}
 use Rattle.pst_scen.specs.Trace.{Ended, Runs, Names, last_writer, AreLegal, IsWhole, Block, Starts, Ends, starts_of, events}
 use Rattle.pst_order.proofs.Elements.{none_in, cons_first}
 use Rattle.pst_order.proofs.Events.{ended_cases, ended_new, starts_member, starts_no_end, end_is, end_no_start}
-use Rattle.pst_order.proofs.Groups.{refers_in}
+use Rattle.pst_order.proofs.Joined.{refers_in}
 use Rattle.pst_order.proofs.Last.{Writing, ItDoes, ItDoesNot, writing, last_same, last_it, last_other}
 use Rattle.pst_order.proofs.Lists.{at_push, at_end}
 use Rattle.pst_order.proofs.Running.{ran, running_apart}

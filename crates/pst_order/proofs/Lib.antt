@@ -2,7 +2,7 @@ mod Elements
 mod Events
 mod Counts
 mod Lists
-mod Groups
+mod Joined
 mod Fair
 mod Last
 mod Cuts
@@ -17,3 +17,5 @@ mod Completes
 mod Unique
 mod Cores
 mod Laws
+mod FromLinks
+mod Unrefused

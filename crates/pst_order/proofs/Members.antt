@@ -13,7 +13,7 @@ use Rattle.pst_scen.specs.Plan.{Entries, places_from, members, member_count, wid
 use Rattle.pst_scen.specs.Plans.{AreEntriesOf}
 use Rattle.pst_order.proofs.Elements.{none_in, cons_cases, cons_first, cons_rest, place_of}
 use Rattle.pst_order.proofs.Lists.{Ascending}
-use Rattle.pst_order.proofs.Groups.{group_along, group_back}
+use Rattle.pst_order.proofs.Joined.{group_along, group_back}
 
 -- PLACES
 

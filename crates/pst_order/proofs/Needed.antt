@@ -10,7 +10,7 @@ use Rattle.pst_scen.specs.Conflicts.{Conflict, FirstWrites, SecondWrites}
 use Rattle.pst_scen.specs.Trace.{Started, Ended, Names, last_writer, MayStart, AreLegal, IsWhole, Block, Starts, starts_of, events}
 use Rattle.pst_order.proofs.Elements.{contains_or}
 use Rattle.pst_order.proofs.Events.{ended_or, started_or, ended_cases, ended_more, started_cases, started_new, starts_no_end, starts_member, member_starts}
-use Rattle.pst_order.proofs.Groups.{group_back, refers_in, clash_in, names_one, leads_names}
+use Rattle.pst_order.proofs.Joined.{group_back, refers_in, clash_in, names_one, leads_names}
 use Rattle.pst_order.proofs.Fair.{AreFair, legal_fair, ended_started, started_inside}
 use Rattle.pst_order.proofs.Cuts.{legal_cut, ended_later, started_later, Begun, begun, Later, later, Moved, New, Same, moved, last_ended}
 

@@ -8,7 +8,7 @@ use Rattle.pst_scen.specs.Trace.{Started, Ended, Runs, AreLegal, IsWhole, Prefix
 use Rattle.pst_order.specs.Rule.{AreByRule}
 use Rattle.pst_order.proofs.Elements.{none_in}
 use Rattle.pst_order.proofs.Events.{ended_more, started_cases, starts_member, end_no_start}
-use Rattle.pst_order.proofs.Groups.{conflict_back}
+use Rattle.pst_order.proofs.Joined.{conflict_back}
 use Rattle.pst_order.proofs.Fair.{must_ended}
 use Rattle.pst_order.proofs.Cuts.{legal_cut}
 use Rattle.pst_order.proofs.Needed.{must_before}

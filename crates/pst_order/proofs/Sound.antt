@@ -10,7 +10,7 @@ use Rattle.pst_scen.specs.Conflicts.{Conflict}
 use Rattle.pst_scen.specs.Trace.{Names, last_writer, IsWhole, events}
 use Rattle.pst_scen.specs.Plans.{CanRun}
 use Rattle.pst_order.specs.Facts.{IsOutput, LinksStates}
-use Rattle.pst_order.proofs.Groups.{refers_in, names_leads}
+use Rattle.pst_order.proofs.Joined.{refers_in, names_leads}
 use Rattle.pst_order.proofs.Needed.{whole_must_in, whole_group_in, whole_no_cycle, whole_no_clash, whole_before_other, whole_feeds_other, whole_source_other, whole_previous_other, whole_source}
 use Rattle.pst_order.proofs.FromWhole.{Chain, previous, whole_chain}
 
@@ -67,7 +67,7 @@ module _ (s : Scenario) (no_cycle : IsAcyclic s) (not_own : IsNotOwnPrevious s) 
 
   -- ONE OUTPUT OF AN ACTION TO THE POOL
 
-  writes_of : {a reference : ℕ} {to : Link} → IsOutput s a reference pool to → Writes s a pool to
+  pub writes_of : {a reference : ℕ} {to : Link} → IsOutput s a reference pool to → Writes s a pool to
   writes_of {reference = reference} o =
       record { act = o.act; reference = reference; filled = o.filled; is_act = o.is_act; is = o.is; of_flow = o.of_flow; of_pool = o.of_pool; linked = o.linked }
 

@@ -1,14 +1,15 @@
 -- The laws of order, of legal traces and of the core.
-use Rattle.std.specs.Prelude.{◌≡◌, ◌≤◌, ◌<◌, ◌*◌, ℕ, List, [], ◌∷◌, ◌++◌, length, Contains}
+use Rattle.std.specs.Prelude.{◌≡◌, ◌↔◌, get_or, ◌≤◌, ◌<◌, ◌*◌, ℕ, List, [], ◌∷◌, ◌++◌, length, Contains}
 use Rattle.pst_scen.specs.declared.scenario.Scenario.{Scenario}
 use Rattle.pst_scen.specs.declared.event.Event.{Event}
 use Rattle.pst_scen.specs.Order.{Together, Must}
 use Rattle.pst_scen.specs.Conflicts.{Conflict}
-use Rattle.pst_scen.specs.Trace.{Ended, Runs, Block, Starts, events, AreLegal, IsLegalTrace, IsWhole, Prefix}
-use Rattle.pst_scen.specs.Plan.{Entries, widest}
-use Rattle.pst_scen.specs.Plans.{CanRun, IsPlanOf}
+use Rattle.pst_scen.specs.Trace.{Ended, Runs, Block, Starts, events, AreLegal, IsLegalTrace, IsWhole, IsWholeGroup, Prefix}
+use Rattle.pst_scen.specs.Plan.{Entries, members, widest}
+use Rattle.pst_scen.specs.Plans.{CanRun, AreEntriesOf, IsPlanOf}
+use Rattle.pst_scen.specs.Refusals.{IsUnrefused}
 use Rattle.pst_scen.specs.Core.{IsStartable, Command, Step, Core, commands_of}
-use Rattle.pst_order.specs.Facts.{LinksStates}
+use Rattle.pst_order.specs.Facts.{LinksStates, IsLinked}
 use Rattle.pst_order.specs.Rule.{AreByRule, IsByRule, IsByCore, AllKeepReaders, open_count, close_count}
 
 -- Two actions that run at one moment of a whole legal trace have no order and no conflict.
@@ -29,6 +30,10 @@ WholeHasNoCycle = (s : Scenario) (a : ℕ) → CanRun s → a < length s.actions
 -- and no two members of a group conflict.
 abbrev pub WholeHasNoClash : Type 0
 WholeHasNoClash = (s : Scenario) (a b : ℕ) → CanRun s → Together s a b → Conflict s a b → ⊥
+
+-- What must come before an action of the scenario is one too.
+abbrev pub MustIsInside : Type 0
+MustIsInside = (s : Scenario) (a b : ℕ) → CanRun s → b < length s.actions → Must s a b → a < length s.actions
 
 -- What begins a whole legal trace is made by the core's rule.
 abbrev pub PrefixIsByRule : Type 0
@@ -93,3 +98,25 @@ CoreGrows =
 -- Of the commands of its trace the core makes the trace again.
 abbrev pub CoreMakesAgain : Type 0
 CoreMakesAgain = (s : Scenario) (lanes : ℕ) (trace : List Event) → IsByCore s lanes trace → Core s lanes (commands_of trace) trace
+
+-- A linked scenario that isn't refused has a whole legal trace, so its entries are its plan.
+abbrev pub UnrefusedIsPlanned : Type 0
+UnrefusedIsPlanned = (s : Scenario) (p : Entries) → IsLinked s → AreEntriesOf s p → IsUnrefused s → IsPlanOf s p
+
+-- A scenario that has a plan isn't refused.
+abbrev pub PlannedIsUnrefused : Type 0
+PlannedIsUnrefused = (s : Scenario) (p : Entries) → IsPlanOf s p → IsUnrefused s
+
+-- The members of a group are the actions of its number.
+abbrev pub MembersAreThose : Type 0
+MembersAreThose = (groups : List ℕ) (group a : ℕ) → Contains (members groups group) a ↔ ((a < length groups) × (get_or groups a 0 ≡ group))
+
+-- The members of each group of a scenario's plan are one whole group, of which the number is the first.
+abbrev pub PlanGroupsAreWhole : Type 0
+PlanGroupsAreWhole =
+    (s : Scenario) (p : Entries) (a : ℕ) → IsPlanOf s p → a < length s.actions
+    → IsWholeGroup s (members p.groups (get_or p.groups a 0)) × (get_or (members p.groups (get_or p.groups a 0)) 0 0 ≡ get_or p.groups a 0)
+
+-- Two whole groups with a common member are one.
+abbrev pub WholeGroupsAreOne : Type 0
+WholeGroupsAreOne = (s : Scenario) (one other : List ℕ) (a : ℕ) → IsWholeGroup s one → IsWholeGroup s other → Contains one a → Contains other a → one ≡ other

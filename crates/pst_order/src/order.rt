@@ -1,5 +1,5 @@
 //! Laws of the order in legal traces.
-ghost use Rattle.pst_order.specs.Laws.{RunningMeet, MustEndsBefore, WholeHasNoCycle, WholeHasNoClash, BlocksAreOne};
+ghost use Rattle.pst_order.specs.Laws.{RunningMeet, MustEndsBefore, WholeHasNoCycle, WholeHasNoClash, MustIsInside, BlocksAreOne};
 
 /// Two actions that run at one moment of a whole legal trace have no order and no conflict.
 pub fn running_meet()
@@ -12,10 +12,11 @@ pub fn must_is_kept()
 {}
 
 /// Where a whole legal trace exists no action must come before itself, and no two members of one
-/// group conflict.
+/// group conflict. What must come before an action of the scenario is one too.
 pub fn whole_is_sound()
     ensures cycle { WholeHasNoCycle }
     ensures clash { WholeHasNoClash }
+    ensures inside { MustIsInside }
 {}
 
 /// A legal trace has one cutting into blocks.

@@ -23,3 +23,6 @@ pub use plan::Plan;
 pub use rows::Rows;
 pub use scenario::{First, Scenario};
 pub use tree::{Fill, Node};
+
+#[cfg(test)]
+mod tests;

@@ -4,11 +4,11 @@ use Rattle.pst_model.specs.declared.action.Field.{Field}
 use Rattle.pst_model.specs.ConstraintTree.{ConstraintTree}
 use Rattle.pst_scen.specs.declared.tree.Node.{Node}
 use Rattle.pst_scen.specs.declared.tree.Fill.TheVariants as fill
-use Rattle.pst_scen.specs.Slots.{act_slot}
-use Rattle.pst_scen.specs.Constraints.{Holds, is_refused_at}
-use Rattle.pst_scen.specs.Legal.{Legal}
-use Rattle.pst_scen.specs.First.{IsLive}
-use Rattle.pst_scen.specs.ValueReading.{Whole, read}
+use Rattle.pst_legal.specs.Slots.{act_slot}
+use Rattle.pst_legal.specs.Constraints.{Holds, is_refused_at}
+use Rattle.pst_legal.specs.Legal.{Legal}
+use Rattle.pst_legal.specs.First.{IsLive}
+use Rattle.pst_legal.specs.ValueReading.{Whole, read}
 use Rattle.pst_trials.specs.Parts.{span, field_to, places}
 use Rattle.std.proofs.Common.{refl}
 use Rattle.rand_core.specs.Steps.{u32_at, word_bytes}
@@ -21,9 +21,9 @@ use Rattle.pst_scen.specs.Trace.{IsLegalTrace}
 use Rattle.std.specs.List.{AllZip}
 use lib.Signed.{le_z, le_z_yes}
 use Rattle.std.proofs.Common.{T}
-use Rattle.pst_scen.specs.Pieces.{IsValueOf}
-use Rattle.pst_scen.specs.First.{NoneRefused}
-use Rattle.pst_scen.specs.Constraints.{OfAct}
+use Rattle.pst_legal.specs.Pieces.{IsValueOf}
+use Rattle.pst_legal.specs.First.{NoneRefused}
+use Rattle.pst_legal.specs.Constraints.{OfAct}
 use Rattle.pst_trials.proofs.Legality.{Property, HoldsAt, EachConstraint, each_constraint}
 use Rattle.pst_trials.specs.Parts.{start}
 use Rattle.std.proofs.Common.{lit<, lit≤, true≢false}
@@ -31,12 +31,18 @@ use Rattle.pst_scen.specs.declared.event.Event.{Event}
 use Rattle.pst_scen.specs.Order.{Must}
 use Rattle.pst_scen.specs.Trace.{Starts, Ends}
 use Rattle.pst_scen.specs.Laws.{IsPreorder}
-use Rattle.pst_scen.specs.Fits.{IsActOf}
-use Rattle.pst_scen.specs.Binds.{bounds_of}
+use Rattle.pst_legal.specs.Fits.{IsActOf}
+use Rattle.pst_legal.specs.Binds.{bounds_of}
 use Rattle.pst_trials.proofs.Cases.{each, EachOf, none_some, false_true}
 use Rattle.pst_trials.proofs.Branches.{each_parallel}
 use Rattle.pst_trials.proofs.Traces.{preorder_by, runs_by, starts_next, awaits, whole_by}
 use Rattle.pst_trials.proofs.Legality.{in_preorder, are_linked, no_firsts, no_previous, no_chains, sources_by, bounds_by, inferred_by, none_inline, holds_by, none_clashes}
+use Rattle.pst_legal.specs.Shape.{HasShape, HasActShape, HasReferenceShape, HasClaimShape}
+use Rattle.pst_trials.proofs.Legality.{shape_by}
+use Rattle.std.proofs.Common.{ap, suc, length}
+use Rattle.pst_trials.proofs.Cases.{each_both}
+use Rattle.std.proofs.Common.{Bool}
+use Rattle.pst_trials.specs.Parts.{input, output, claim}
 
 pub reads_elements : read array 0 1 0 (0 ∷ 10 ∷ 2 ∷ 1 ∷ []) ≡ Whole (scenario doubled)
 unfolding generator_at u32_at pcg32_seed word_bytes numbers_from
@@ -114,10 +120,17 @@ trace values = record {
   );
 }
 
+many_of : (fields : List Field) (values : List ℤ) → AllZip IsValueOf fields values → length values ≡ length fields
+many_of [] [] are = refl
+many_of [] (v ∷ values) are = absurd are
+many_of (field ∷ fields) [] are = absurd are
+many_of (field ∷ fields) (v ∷ values) are = ap suc (many_of fields values are.1)
+
 -- values of the domains at which each constraint has a value that isn't 0 make a legal scenario
 legal_by : (fields : List Field) (constraints : List ConstraintTree) (values : List ℤ) → AllZip IsValueOf fields values
     → Holds (model fields constraints) (scenario values) → Legal (model fields constraints) 0 (scenario values)
 legal_by fields constraints values are hold = record {
+  shape = shape_by (model fields constraints) (scenario values) (tt, tt) (record { type = _; is = refl; atomic = refl; inside = lit< tt; many_fields = many_of fields values are; many_references = refl; references = λ k reference filled is. absurd (none_some reference is); many_claims = refl; claims = λ k claim claimed is. absurd (none_some claim is) }, tt) tt;
   scenario = record {
     nodes = in_preorder nodes (tt, tt);
     leaves = record { numbers = refl; nodes = refl };

@@ -10,10 +10,10 @@ use Rattle.pst_scen.specs.declared.tree.Fill.TheVariants as fill
 use Rattle.pst_scen.specs.declared.act.Act.{Act}
 use Rattle.pst_scen.specs.declared.act.Claimed.{Claimed}
 use Rattle.pst_scen.specs.declared.scenario.Scenario.{Scenario}
-use Rattle.pst_scen.specs.Slots.{Standing, Known, Lacking, Between, act_slot, resource_slot}
-use Rattle.pst_scen.specs.Constraints.{HasConstraint, value_at}
-use Rattle.pst_scen.specs.First.{IsLive}
-use Rattle.pst_scen.specs.ValueReading.{Whole, read}
+use Rattle.pst_legal.specs.Slots.{Standing, Known, Lacking, Between, act_slot, resource_slot}
+use Rattle.pst_legal.specs.Constraints.{HasConstraint, value_at}
+use Rattle.pst_legal.specs.First.{IsLive}
+use Rattle.pst_legal.specs.ValueReading.{Whole, read}
 use Rattle.pst_trials.specs.Parts.{name, span, field_to, atomic, top, pool_of, serve, claim, number, by, constraint, act_claims, scenario_of, places}
 use Rattle.std.proofs.Common.{refl}
 use Rattle.rand_core.specs.Steps.{u32_at, word_bytes}
@@ -21,16 +21,16 @@ use Rattle.rand_core.specs.Pcg32Seed.{pcg32_seed}
 use Rattle.pst_rng.specs.Words.{generator_at}
 use Rattle.pst_expr.specs.Spans.{numbers_from}
 use Rattle.pst_trials.specs.ClaimValues.{ClaimValuesAreTried, five_more, is_second, above_five, resource, model, act, scenario_with, row, unread}
-use Rattle.pst_scen.specs.Constraints.{OfClaim, OfAct, is_refused_at}
-use Rattle.pst_scen.specs.First.{NoneRefused}
+use Rattle.pst_legal.specs.Constraints.{OfClaim, OfAct, is_refused_at}
+use Rattle.pst_legal.specs.First.{NoneRefused}
 use Rattle.pst_trials.proofs.Legality.{Property, each_constraint, none_inline}
 use Rattle.std.proofs.Common.{◌≢◌, ◌<◌, ◌⊎◌, suc, zero, inl, inr, nat_eq, sym, ◌∙◌, subst, eq-eqb, lit<, lit≤, true≢false, length, get_or, arith, Contains, not-suc-le-zero, slice_get, replicate}
 use Rattle.pst_scen.specs.declared.act.Act.{Act as Acting}
 use Rattle.pst_scen.specs.declared.act.Filled.{Filled}
 use Rattle.pst_scen.specs.declared.event.Event.{Event}
 use Rattle.pst_model.specs.declared.action.Claim.{Claim}
-use Rattle.pst_scen.specs.Growing.{nothing_yet, most_levels, Inner, Leaf, Look}
-use Rattle.pst_scen.specs.Pieces.{Piece, Action, Statement, IsActionWay, IsWay}
+use Rattle.pst_legal.specs.Growing.{nothing_yet, most_levels, Inner, Leaf, Look}
+use Rattle.pst_legal.specs.Pieces.{Piece, Action, Statement, IsActionWay, IsWay}
 use Rattle.pst_scen.specs.Tree.{AtTop, Below, IsReleased}
 use Rattle.pst_scen.specs.Flows.{Claims, Feeds, Refers, FromFirst, FromSecond}
 use Rattle.pst_scen.specs.Order.{Must, Cause, Before, Buffer, Sequence, Directly, Through, Itself, Linked, Together}
@@ -39,10 +39,10 @@ use Rattle.pst_scen.specs.Trace.{Starts, Ends, Started, Ended, Runs, MayStart, A
 use Rattle.pst_scen.specs.Laws.{IsPreorder}
 use Rattle.pst_scen.specs.Scenarios.{IsScenario}
 use Rattle.pst_scen.specs.Plans.{StandParallel, ClashesAlone, KeepsParallel}
-use Rattle.pst_scen.specs.Fits.{Fills, FillsRoot, Fits, HasValues, IsActOf, IsReferenceOf, IsClaimOf, IsSameLeaf}
-use Rattle.pst_scen.specs.Supplied.{Supplied}
-use Rattle.pst_scen.specs.Binds.{bounds_of}
-use Rattle.pst_scen.specs.Constraints.{Holds}
+use Rattle.pst_legal.specs.Fits.{Fills, FillsRoot, Fits, HasValues, IsActOf, IsReferenceOf, IsClaimOf, IsSameLeaf}
+use Rattle.pst_legal.specs.Supplied.{Supplied}
+use Rattle.pst_legal.specs.Binds.{bounds_of}
+use Rattle.pst_legal.specs.Constraints.{Holds}
 use Rattle.pst_trials.proofs.Cases.{each, each_both, each_contained, EachOf, none_some, false_true}
 use Rattle.pst_trials.proofs.Branches.{each_parallel}
 use Rattle.pst_trials.proofs.Orders.{each_conflict, each_contend, each_must, each_must_alone, each_cause, each_before, each_feeds, each_refers, each_together}

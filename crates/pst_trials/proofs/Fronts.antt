@@ -2,8 +2,8 @@
 use Rattle.std.proofs.Common.{◌≡◌, ℕ, zero, suc, ◌<◌, List, [], ◌∷◌, inl, inr, Bool, true, false, replicate, refl, sym, ap, ap₂, ◌∙◌, arith, not-suc-le-zero, true≢false}
 use Rattle.pst_model.specs.ModelTree.{ModelTree}
 use Rattle.pst_scen.specs.declared.scenario.Scenario.{Scenario}
-use Rattle.pst_scen.specs.First.{IsBefore}
-use Rattle.pst_scen.specs.ValueReading.{Answer, Options, Dead, Whole, read}
+use Rattle.pst_legal.specs.First.{IsBefore}
+use Rattle.pst_legal.specs.ValueReading.{Answer, Options, Dead, Whole, read}
 use Rattle.pst_trials.proofs.Traces.{EachBelow, each_below}
 
 abbrev pub is_whole : Answer → Bool

@@ -3,11 +3,11 @@ use Rattle.std.specs.Prelude.{◌≡◌, ℕ, pos, List, [], ◌∷◌, Option, 
 use Rattle.pst_model.specs.ConstraintTree.{ConstraintTree, Own, Through, Outer}
 use Rattle.pst_model.specs.ActivityTree.{StepTree, Traverse}
 use Rattle.pst_scen.specs.declared.tree.Fill.TheVariants as fill
-use Rattle.pst_scen.specs.Standing.{handle_node}
-use Rattle.pst_scen.specs.Slots.{Known, Between, node_slot, inline_slot}
-use Rattle.pst_scen.specs.Constraints.{HasConstraint, Holds, value_at}
-use Rattle.pst_scen.specs.First.{IsLive}
-use Rattle.pst_scen.specs.ValueReading.{Whole, read}
+use Rattle.pst_legal.specs.Standing.{handle_node}
+use Rattle.pst_legal.specs.Slots.{Known, Between, node_slot, inline_slot}
+use Rattle.pst_legal.specs.Constraints.{HasConstraint, Holds, value_at}
+use Rattle.pst_legal.specs.First.{IsLive}
+use Rattle.pst_legal.specs.ValueReading.{Whole, read}
 use Rattle.pst_trials.specs.Parts.{span, top, traverse_by, places}
 use Rattle.std.proofs.Common.{refl}
 use Rattle.rand_core.specs.Steps.{u32_at, word_bytes}
@@ -15,11 +15,11 @@ use Rattle.rand_core.specs.Pcg32Seed.{pcg32_seed}
 use Rattle.pst_rng.specs.Words.{generator_at}
 use Rattle.pst_expr.specs.Spans.{numbers_from}
 use Rattle.pst_trials.specs.Inlines.{is_next, is_nine, is_outer, entry, model, scenario, row, choices, begun}
-use Rattle.pst_scen.specs.Constraints.{OfCompound, Inline}
-use Rattle.pst_scen.specs.Standing.{IsBranch, AtTop as AtTopStatement}
+use Rattle.pst_legal.specs.Constraints.{OfCompound, Inline}
+use Rattle.pst_legal.specs.Standing.{IsBranch, AtTop as AtTopStatement}
 use Rattle.pst_scen.specs.declared.tree.Fill.{Fill}
 use Rattle.pst_model.specs.ActivityTree.{ActivityTree}
-use Rattle.pst_scen.specs.Types.{activity_of}
+use Rattle.pst_legal.specs.Types.{activity_of}
 use Rattle.pst_trials.proofs.Cases.{Each, some_same}
 use Rattle.pst_trials.proofs.Legality.{HoldsAt, EachInline, StandsAtTop, stands_at_top}
 use Rattle.std.proofs.Common.{sym, subst, lit<, true≢false, Contains, slice_get}

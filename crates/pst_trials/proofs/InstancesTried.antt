@@ -1,8 +1,8 @@
 -- Facts: Component instances: where an action may run; and pools of more than one resource instance.
 use Rattle.std.specs.Prelude.{◌≡◌, ℕ, [], ◌∷◌, false, Some, None}
-use Rattle.pst_scen.specs.Types.{instances_of, is_under}
+use Rattle.pst_legal.specs.Types.{instances_of, is_under}
 use Rattle.pst_scen.specs.Plans.{KeepsParallel}
-use Rattle.pst_scen.specs.ValueReading.{Whole, read}
+use Rattle.pst_legal.specs.ValueReading.{Whole, read}
 use Rattle.pst_trials.specs.Parts.{name, places}
 use Rattle.std.proofs.Common.{refl}
 use Rattle.rand_core.specs.Steps.{u32_at, word_bytes}

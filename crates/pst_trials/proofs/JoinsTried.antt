@@ -7,10 +7,10 @@ use Rattle.pst_scen.specs.declared.tree.Fill.TheVariants as fill
 use Rattle.pst_scen.specs.declared.scenario.Scenario.{Scenario}
 use Rattle.pst_scen.specs.declared.event.Event.{Event}
 use Rattle.pst_scen.specs.declared.event.Event.TheVariants.{End}
-use Rattle.pst_scen.specs.Binds.{bounds_of}
+use Rattle.pst_legal.specs.Binds.{bounds_of}
 use Rattle.pst_scen.specs.Order.{Before, Must}
 use Rattle.pst_scen.specs.Trace.{MayCome, Starts, IsLegalTrace, IsWhole}
-use Rattle.pst_scen.specs.ValueReading.{Dead, Whole, read}
+use Rattle.pst_legal.specs.ValueReading.{Dead, Whole, read}
 use Rattle.pst_trials.specs.Parts.{traverse_by, row, start, places}
 use Rattle.std.proofs.Common.{refl}
 use Rattle.rand_core.specs.Steps.{u32_at, word_bytes}
@@ -40,17 +40,17 @@ use Rattle.pst_scen.specs.declared.act.Filled.{Filled}
 use Rattle.pst_scen.specs.declared.act.Claimed.{Claimed}
 use Rattle.pst_model.specs.declared.action.Claim.{Claim}
 use Rattle.pst_model.specs.ModelTree.{ModelTree}
-use Rattle.pst_scen.specs.Growing.{nothing_yet, most_levels, Inner, Leaf, Look}
-use Rattle.pst_scen.specs.Pieces.{Piece, Action, Statement, IsActionWay, IsWay}
+use Rattle.pst_legal.specs.Growing.{nothing_yet, most_levels, Inner, Leaf, Look}
+use Rattle.pst_legal.specs.Pieces.{Piece, Action, Statement, IsActionWay, IsWay}
 use Rattle.pst_scen.specs.Flows.{Claims, Refers, FromFirst, FromSecond}
 use Rattle.pst_scen.specs.Order.{Cause, Linked, Together}
 use Rattle.pst_scen.specs.Conflicts.{Conflict, Resource}
 use Rattle.pst_scen.specs.Trace.{Started, Runs, MayStart, AreFree, StartsOn}
 use Rattle.pst_scen.specs.Scenarios.{IsScenario}
 use Rattle.pst_scen.specs.Plans.{StandParallel, ClashesAlone, KeepsParallel}
-use Rattle.pst_scen.specs.Fits.{Fills, FillsRoot, Fits, HasValues, IsActOf, IsReferenceOf, IsClaimOf, IsSameLeaf}
-use Rattle.pst_scen.specs.Supplied.{Supplied}
-use Rattle.pst_scen.specs.Constraints.{Holds}
+use Rattle.pst_legal.specs.Fits.{Fills, FillsRoot, Fits, HasValues, IsActOf, IsReferenceOf, IsClaimOf, IsSameLeaf}
+use Rattle.pst_legal.specs.Supplied.{Supplied}
+use Rattle.pst_legal.specs.Constraints.{Holds}
 use Rattle.pst_trials.proofs.Cases.{each, each_both, each_contained, none_some, false_true}
 use Rattle.pst_trials.proofs.Branches.{each_parallel}
 use Rattle.pst_trials.proofs.Orders.{each_conflict, each_contend, each_must, each_must_alone, each_cause, each_feeds, each_refers, each_together}
@@ -58,7 +58,7 @@ use Rattle.pst_trials.proofs.Traces.{on_start, each_start, awaits}
 use Rattle.pst_trials.proofs.Legality.{in_preorder, are_linked, no_firsts, no_previous, no_chains, sources_by, bounds_by, inferred_by, holds_by, none_clashes}
 use Rattle.pst_trials.specs.Parts.{input, output, claim}
 use Rattle.pst_model.specs.declared.activity.Join.{Join}
-use Rattle.pst_scen.specs.Pieces.{IsJoin}
+use Rattle.pst_legal.specs.Pieces.{IsJoin}
 use Rattle.std.proofs.Common.{None, pos}
 use Rattle.pst_model.specs.ActivityTree.{StepTree}
 

@@ -16,22 +16,25 @@ use Rattle.pst_scen.specs.declared.act.Link.TheVariants as link
 use Rattle.pst_scen.specs.declared.scenario.Scenario.{Scenario}
 use Rattle.std.specs.Option.{option_map}
 use Rattle.pst_scen.specs.Tree.{StandsUnder, AtTop, Below}
-use Rattle.pst_scen.specs.Types.{type_of, activity_in, activity_of, pool_object, is_state_pool, is_output}
+use Rattle.pst_legal.specs.Types.{type_of, activity_in, activity_of, pool_object, is_state_pool, is_output}
 use Rattle.pst_scen.specs.Conflicts.{Uses}
 use Rattle.pst_scen.specs.Scenarios.{reference_at, AreInPreorder, IsLinkOf, IsStream, AreLinked, HasFirsts}
-use Rattle.pst_scen.specs.Standing.{IsBranch, StandsFor, AtTop as AtTopStatement, Below as BelowStatement, InTurn, step_below}
-use Rattle.pst_scen.specs.Slots.{Standing, node_slot, act_slot, inline_slot, output_slot, resource_slot, first_object_slot}
-use Rattle.pst_scen.specs.Pieces.{is_true}
-use Rattle.pst_scen.specs.Constraints.{HasConstraint, OfCompound, OfAct, OfOutput, OfClaim, OfFirst, Inline, value_at, Holds}
-use Rattle.pst_scen.specs.Binds.{Bound, fixed_source}
-use Rattle.pst_scen.specs.Supplied.{is_source_for, IsSource, ArePreviousOnce, ComesFromFirst, IsInferable}
-use Rattle.pst_scen.specs.SupplyReading.{is_state}
+use Rattle.pst_legal.specs.Standing.{IsBranch, StandsFor, AtTop as AtTopStatement, Below as BelowStatement, InTurn, step_below}
+use Rattle.pst_legal.specs.Slots.{Standing, node_slot, act_slot, inline_slot, output_slot, resource_slot, first_object_slot}
+use Rattle.pst_legal.specs.Pieces.{is_true}
+use Rattle.pst_legal.specs.Constraints.{HasConstraint, OfCompound, OfAct, OfOutput, OfClaim, OfFirst, Inline, value_at, Holds}
+use Rattle.pst_legal.specs.Binds.{Bound, fixed_source}
+use Rattle.pst_legal.specs.Supplied.{is_source_for, IsSource, ArePreviousOnce, ComesFromFirst, IsInferable}
+use Rattle.pst_legal.specs.SupplyReading.{is_state}
 use Rattle.pst_scen.specs.Plans.{ClashesAlone}
 use Rattle.pst_trials.specs.Parts.{scenario_of}
 use Rattle.pst_trials.proofs.Cases.{Each, each, each_reference, EachOf, each_contained, some_same, none_some, false_true}
 use Rattle.pst_trials.proofs.Branches.{is_below, holds_of, parent_at}
 use Rattle.pst_trials.proofs.Orders.{referrals, each_refers}
 use Rattle.pst_trials.proofs.Traces.{When, due}
+use Rattle.pst_scen.specs.declared.scenario.First.{First}
+use Rattle.pst_legal.specs.Shape.{HasShape, HasActShape, HasCompoundShape, HasObjectShape}
+use Rattle.std.proofs.Common.{◌<◌, length}
 
 pub differ : (a b : ℕ) → nat_eq a b ≡ false → a ≢ b
 differ a b not_same same = true≢false (sym (eq-eqb a b same) ∙ not_same)
@@ -466,3 +469,20 @@ stands_at_top m nodes flat top _ _ _ (BelowStatement n parent index node above s
     absurd (below_traverse node.fill above index step (stands_at_top m nodes flat top parent above indices stands).traverse is)
 stands_at_top m nodes flat top _ _ _ (InTurn n turn parent index node count body indices stands child is_node turning below) =
     absurd (false_true (stands_at_top m nodes flat top parent (Repeat count body) indices stands).traverse)
+
+-- ---- shapes
+
+abbrev pub CompoundShape : ModelTree → Fill → Type 0
+CompoundShape m (fill.Compound action instance fields) = HasCompoundShape m action instance fields
+CompoundShape m _ = Unit {0}
+
+abbrev pub FirstShape : ModelTree → First → Type 0
+FirstShape m first = (first.pool < length m.pools) × HasObjectShape (pool_object m first.pool) first.values
+
+pub shape_by : (m : ModelTree) (s : Scenario) → Each (λ n node. CompoundShape m node.fill) s.nodes → Each (λ a act. HasActShape m act) s.actions → Each (λ k first. FirstShape m first) s.firsts → HasShape m s
+shape_by m s compounds acts firsts = record {
+  compounds = λ n action instance fields node is compound. subst (CompoundShape m) compound (each (λ n node. CompoundShape m node.fill) s.nodes compounds n node is);
+  acts = each (λ a act. HasActShape m act) s.actions acts;
+  pools = λ k first is. (each (λ k first. FirstShape m first) s.firsts firsts k first is).0;
+  firsts = λ k first is. (each (λ k first. FirstShape m first) s.firsts firsts k first is).1;
+}

@@ -13,7 +13,7 @@ use Rattle.pst_scen.specs.Order.{Before, Together, Itself, Linked, Cause, Sequen
 use Rattle.pst_scen.specs.Conflicts.{Uses, Clash, Resource, FirstWrites, SecondWrites}
 use Rattle.pst_scen.specs.Plans.{Contend}
 use Rattle.pst_scen.specs.Laws.{IsPreorder}
-use Rattle.pst_scen.specs.SupplyReading.{same_link, is_writer}
+use Rattle.pst_legal.specs.SupplyReading.{same_link, is_writer}
 use Rattle.pst_trials.proofs.Cases.{EachOf, each_among, Among, among_left, among_right, among_flat, numbered, among_numbered, some_same, none_some, false_true}
 use Rattle.pst_trials.proofs.Branches.{earliers, each_earlier}
 

@@ -3,8 +3,8 @@ use Rattle.std.specs.Prelude.{◌≡◌, ℕ, List, [], ◌∷◌, Bool, true, f
 use Rattle.pst_model.specs.ModelTree.{ModelTree}
 use Rattle.pst_scen.specs.declared.scenario.Scenario.{Scenario}
 use Rattle.pst_scen.specs.Plans.{ClashesAlone}
-use Rattle.pst_scen.specs.Legal.{Legal}
-use Rattle.pst_scen.specs.ValueReading.{Whole, read}
+use Rattle.pst_legal.specs.Legal.{Legal}
+use Rattle.pst_legal.specs.ValueReading.{Whole, read}
 use Rattle.pst_trials.specs.Parts.{claim, act_claims, claimed, scenario_of}
 use Rattle.std.proofs.Common.{refl}
 use Rattle.rand_core.specs.Steps.{u32_at, word_bytes}
@@ -18,17 +18,21 @@ use Rattle.pst_trials.specs.Parts.{start}
 use Rattle.std.proofs.Common.{◌⊎◌, inl, inr, lit<, lit≤}
 use Rattle.pst_scen.specs.declared.act.Act.{Act as Acting}
 use Rattle.pst_scen.specs.declared.event.Event.{Event}
-use Rattle.pst_scen.specs.Growing.{nothing_yet, most_levels, Leaf}
-use Rattle.pst_scen.specs.Pieces.{Action, IsActionWay}
+use Rattle.pst_legal.specs.Growing.{nothing_yet, most_levels, Leaf}
+use Rattle.pst_legal.specs.Pieces.{Action, IsActionWay}
 use Rattle.pst_scen.specs.Order.{Must}
 use Rattle.pst_scen.specs.Trace.{Starts, Ends}
 use Rattle.pst_scen.specs.Laws.{IsPreorder}
-use Rattle.pst_scen.specs.Fits.{Fills, IsActOf, IsClaimOf}
-use Rattle.pst_scen.specs.Binds.{bounds_of}
+use Rattle.pst_legal.specs.Fits.{Fills, IsActOf, IsClaimOf}
+use Rattle.pst_legal.specs.Binds.{bounds_of}
 use Rattle.pst_trials.proofs.Cases.{each, each_both, none_some, false_true}
 use Rattle.pst_trials.proofs.Branches.{each_parallel}
 use Rattle.pst_trials.proofs.Traces.{preorder_by, runs_by, starts_next, awaits, whole_by}
 use Rattle.pst_trials.proofs.Legality.{differ, in_preorder, are_linked, no_firsts, no_previous, no_chains, sources_by, bounds_by, inferred_by, none_inline, HoldsAt, holds_by, none_clashes}
+use Rattle.pst_legal.specs.Shape.{HasShape, HasActShape, HasReferenceShape, HasClaimShape}
+use Rattle.pst_trials.proofs.Legality.{shape_by}
+use Rattle.std.proofs.Common.{true≢false}
+use Rattle.pst_trials.specs.Parts.{input, output}
 
 pub reads_locks : read (model true) 1 1 0 choices ≡ Whole (scenario true)
 unfolding generator_at u32_at pcg32_seed word_bytes numbers_from
@@ -123,8 +127,13 @@ is_act = record {
       (record { is_pool = refl; lock = refl; pool = _; is = refl; within = lit< tt; values = tt }, (record { is_pool = refl; lock = refl; pool = _; is = refl; within = lit< tt; values = tt }, tt));
 }
 
+shape : HasShape m s
+shape = shape_by m s (record { type = _; is = refl; activity = _; compound = refl; inside = lit< tt; many = refl }, (tt, tt))
+    (record { type = _; is = refl; atomic = refl; inside = lit< tt; many_fields = refl; many_references = refl; references = λ k reference filled is. absurd (none_some reference is); many_claims = refl; claims = each_both (λ k c d. HasClaimShape m c d) (claim false 0 ∷ claim false 0 ∷ []) (act).claims (record { pool = lit< tt; values = record { type = _; is = refl; many = refl } }, (record { pool = lit< tt; values = record { type = _; is = refl; many = refl } }, tt)) }, tt) tt
+
 pub shares_are_legal : Legal m 1 s
 shares_are_legal = record {
+  shape = shape;
   scenario = record {
     nodes = in_preorder s.nodes (tt, (refl, tt));
     leaves = record { numbers = refl; nodes = refl };

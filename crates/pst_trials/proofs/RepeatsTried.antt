@@ -4,11 +4,11 @@ use Rattle.pst_expr.specs.declared.tree.BinaryOp.TheVariants.{Sub}
 use Rattle.pst_model.specs.ConstraintTree.{Index}
 use Rattle.pst_model.specs.ActivityTree.{Repeat, If, NoStep}
 use Rattle.pst_scen.specs.declared.tree.Fill.TheVariants as fill
-use Rattle.pst_scen.specs.Slots.{Known, inline_slot}
-use Rattle.pst_scen.specs.Standing.{StandsFor}
-use Rattle.pst_scen.specs.Constraints.{HasConstraint, value_at}
+use Rattle.pst_legal.specs.Slots.{Known, inline_slot}
+use Rattle.pst_legal.specs.Standing.{StandsFor}
+use Rattle.pst_legal.specs.Constraints.{HasConstraint, value_at}
 use Rattle.pst_scen.specs.Order.{Before}
-use Rattle.pst_scen.specs.ValueReading.{Dead, Whole, read}
+use Rattle.pst_legal.specs.ValueReading.{Dead, Whole, read}
 use Rattle.pst_trials.specs.Parts.{traverse, number, by, root_node, node, scenario_of, places}
 use Rattle.std.proofs.Common.{refl}
 use Rattle.rand_core.specs.Steps.{u32_at, word_bytes}
@@ -16,8 +16,8 @@ use Rattle.rand_core.specs.Pcg32Seed.{pcg32_seed}
 use Rattle.pst_rng.specs.Words.{generator_at}
 use Rattle.pst_expr.specs.Spans.{numbers_from}
 use Rattle.pst_trials.specs.Repeats.{plain, second_turn, turn_value, traversal, body, model, three, scenario, two_turns}
-use Rattle.pst_scen.specs.Constraints.{Inline}
-use Rattle.pst_scen.specs.Standing.{AtTop, Below, InTurn}
+use Rattle.pst_legal.specs.Constraints.{Inline}
+use Rattle.pst_legal.specs.Standing.{AtTop, Below, InTurn}
 use Rattle.pst_scen.specs.Tree.{AtTop as UnderTop, Below as UnderBelow}
 use Rattle.std.proofs.Common.{lit<}
 use Rattle.pst_trials.proofs.Traces.{no_joins}
@@ -28,8 +28,8 @@ use Rattle.pst_scen.specs.declared.act.Claimed.{Claimed}
 use Rattle.pst_scen.specs.declared.event.Event.{Event}
 use Rattle.pst_model.specs.declared.action.Claim.{Claim}
 use Rattle.pst_model.specs.ModelTree.{ModelTree}
-use Rattle.pst_scen.specs.Growing.{nothing_yet, most_levels, Inner, Leaf, Look}
-use Rattle.pst_scen.specs.Pieces.{Piece, Action, Statement, IsActionWay, IsWay}
+use Rattle.pst_legal.specs.Growing.{nothing_yet, most_levels, Inner, Leaf, Look}
+use Rattle.pst_legal.specs.Pieces.{Piece, Action, Statement, IsActionWay, IsWay}
 use Rattle.pst_scen.specs.Tree.{IsReleased}
 use Rattle.pst_scen.specs.Flows.{Claims, Feeds, Refers, FromFirst, FromSecond}
 use Rattle.pst_scen.specs.Order.{Must, Cause, Buffer, Sequence, Directly, Through, Itself, Linked, Together}
@@ -38,10 +38,10 @@ use Rattle.pst_scen.specs.Trace.{Starts, Ends, Started, Ended, Runs, MayStart, A
 use Rattle.pst_scen.specs.Laws.{IsPreorder}
 use Rattle.pst_scen.specs.Scenarios.{IsScenario}
 use Rattle.pst_scen.specs.Plans.{StandParallel, ClashesAlone, KeepsParallel}
-use Rattle.pst_scen.specs.Fits.{Fills, FillsRoot, Fits, HasValues, IsActOf, IsReferenceOf, IsClaimOf, IsSameLeaf}
-use Rattle.pst_scen.specs.Supplied.{Supplied}
-use Rattle.pst_scen.specs.Binds.{bounds_of}
-use Rattle.pst_scen.specs.Constraints.{Holds}
+use Rattle.pst_legal.specs.Fits.{Fills, FillsRoot, Fits, HasValues, IsActOf, IsReferenceOf, IsClaimOf, IsSameLeaf}
+use Rattle.pst_legal.specs.Supplied.{Supplied}
+use Rattle.pst_legal.specs.Binds.{bounds_of}
+use Rattle.pst_legal.specs.Constraints.{Holds}
 use Rattle.pst_trials.proofs.Cases.{each, each_both, each_contained, EachOf, none_some, false_true}
 use Rattle.pst_trials.proofs.Branches.{each_parallel}
 use Rattle.pst_trials.proofs.Orders.{each_conflict, each_contend, each_must, each_must_alone, each_cause, each_before, each_feeds, each_refers, each_together}

@@ -3,7 +3,7 @@ use Rattle.std.specs.Prelude.{◌≡◌, [], ◌∷◌, Some, None}
 use Rattle.pst_rng.specs.Words.{word_of}
 use Rattle.pst_rng.specs.Weights.{weighted_start_of}
 use Rattle.pst_model.specs.ActivityTree.{NoArms}
-use Rattle.pst_scen.specs.ValueReading.{Dead, Whole, read}
+use Rattle.pst_legal.specs.ValueReading.{Dead, Whole, read}
 use Rattle.pst_trials.specs.Parts.{places}
 use Rattle.std.proofs.Common.{refl}
 use Rattle.rand_core.specs.Steps.{u32_at, word_bytes}
@@ -11,13 +11,13 @@ use Rattle.rand_core.specs.Pcg32Seed.{pcg32_seed}
 use Rattle.pst_rng.specs.Words.{generator_at}
 use Rattle.pst_expr.specs.Spans.{numbers_from}
 use Rattle.pst_trials.specs.Selects.{above_five, below_nine, branches, arms, arm_of_three, model, scenario, both, taken}
-use Rattle.pst_scen.specs.Legal.{Legal}
+use Rattle.pst_legal.specs.Legal.{Legal}
 use Rattle.pst_scen.specs.declared.event.Event.TheVariants.{End}
 use Rattle.pst_scen.specs.Trace.{IsLegalTrace, IsWhole}
 use Rattle.pst_trials.specs.Parts.{start}
 use Rattle.std.proofs.Common.{Any}
 use Rattle.pst_expr.specs.Spans.{IsInSpan}
-use Rattle.pst_scen.specs.Pieces.{IsValueOf}
+use Rattle.pst_legal.specs.Pieces.{IsValueOf}
 use lib.Signed.{le_z_yes}
 use Rattle.pst_trials.proofs.Legality.{HoldsAt, none_inline}
 use Rattle.std.proofs.Common.{◌≢◌, ◌<◌, ◌⊎◌, suc, zero, inl, inr, false, true, nat_eq, sym, ◌∙◌, subst, eq-eqb, lit<, lit≤, true≢false, length, get_or, arith, Contains, not-suc-le-zero, slice_get, replicate, Bool, ℕ}
@@ -27,8 +27,8 @@ use Rattle.pst_scen.specs.declared.act.Claimed.{Claimed}
 use Rattle.pst_scen.specs.declared.event.Event.{Event}
 use Rattle.pst_model.specs.declared.action.Claim.{Claim}
 use Rattle.pst_model.specs.ModelTree.{ModelTree}
-use Rattle.pst_scen.specs.Growing.{nothing_yet, most_levels, Inner, Leaf, Look}
-use Rattle.pst_scen.specs.Pieces.{Piece, Action, Statement, IsActionWay, IsWay}
+use Rattle.pst_legal.specs.Growing.{nothing_yet, most_levels, Inner, Leaf, Look}
+use Rattle.pst_legal.specs.Pieces.{Piece, Action, Statement, IsActionWay, IsWay}
 use Rattle.pst_scen.specs.Tree.{AtTop, Below, IsReleased}
 use Rattle.pst_scen.specs.Flows.{Claims, Feeds, Refers, FromFirst, FromSecond}
 use Rattle.pst_scen.specs.Order.{Must, Cause, Before, Buffer, Sequence, Directly, Through, Itself, Linked, Together}
@@ -37,10 +37,10 @@ use Rattle.pst_scen.specs.Trace.{Starts, Ends, Started, Ended, Runs, MayStart, A
 use Rattle.pst_scen.specs.Laws.{IsPreorder}
 use Rattle.pst_scen.specs.Scenarios.{IsScenario}
 use Rattle.pst_scen.specs.Plans.{StandParallel, ClashesAlone, KeepsParallel}
-use Rattle.pst_scen.specs.Fits.{Fills, FillsRoot, Fits, HasValues, IsActOf, IsReferenceOf, IsClaimOf, IsSameLeaf}
-use Rattle.pst_scen.specs.Supplied.{Supplied}
-use Rattle.pst_scen.specs.Binds.{bounds_of}
-use Rattle.pst_scen.specs.Constraints.{Holds}
+use Rattle.pst_legal.specs.Fits.{Fills, FillsRoot, Fits, HasValues, IsActOf, IsReferenceOf, IsClaimOf, IsSameLeaf}
+use Rattle.pst_legal.specs.Supplied.{Supplied}
+use Rattle.pst_legal.specs.Binds.{bounds_of}
+use Rattle.pst_legal.specs.Constraints.{Holds}
 use Rattle.pst_trials.proofs.Cases.{each, each_both, each_contained, EachOf, none_some, false_true}
 use Rattle.pst_trials.proofs.Branches.{each_parallel}
 use Rattle.pst_trials.proofs.Orders.{each_conflict, each_contend, each_must, each_must_alone, each_cause, each_before, each_feeds, each_refers, each_together}
@@ -49,6 +49,8 @@ use Rattle.pst_trials.proofs.Legality.{differ, in_preorder, are_linked, no_first
 use Rattle.pst_trials.specs.Parts.{input, output, claim}
 use Rattle.std.proofs.Common.{List, pos}
 use Rattle.pst_trials.specs.Parts.{field_to, act_of, span}
+use Rattle.pst_legal.specs.Shape.{HasShape, HasActShape, HasReferenceShape, HasClaimShape}
+use Rattle.pst_trials.proofs.Legality.{shape_by}
 
 pub word_one : word_of 1 1 ≡ 319104231195455319
 unfolding generator_at u32_at pcg32_seed word_bytes numbers_from
@@ -146,8 +148,13 @@ is_act n = record {
   many_claims = refl; claims = λ k claim claimed is. absurd (none_some claim is);
 }
 
+shape : HasShape m scenario
+shape = shape_by m scenario (record { type = _; is = refl; activity = _; compound = refl; inside = lit< tt; many = refl }, (tt, (tt, (tt, (tt, tt)))))
+    (record { type = _; is = refl; atomic = refl; inside = lit< tt; many_fields = refl; many_references = refl; references = λ k reference filled is. absurd (none_some reference is); many_claims = refl; claims = λ k claim claimed is. absurd (none_some claim is) }, (record { type = _; is = refl; atomic = refl; inside = lit< tt; many_fields = refl; many_references = refl; references = λ k reference filled is. absurd (none_some reference is); many_claims = refl; claims = λ k claim claimed is. absurd (none_some claim is) }, tt)) tt
+
 pub legal : Legal (model (branches None ∷ arms arm_of_three ∷ [])) 2 scenario
 legal = record {
+  shape = shape;
   scenario = record {
     nodes = in_preorder scenario.nodes (tt, (refl, (refl, (refl, (refl, tt)))));
     leaves = record { numbers = refl; nodes = refl };

@@ -6,13 +6,13 @@ use Rattle.pst_scen.specs.declared.act.Flow.TheVariants.{StateIn, StateOut}
 use Rattle.pst_scen.specs.declared.act.Link.TheVariants as link
 use Rattle.pst_scen.specs.declared.scenario.Scenario.{Scenario}
 use Rattle.pst_scen.specs.declared.event.Event.TheVariants.{End}
-use Rattle.pst_scen.specs.Slots.{Known, Lacking, act_slot, output_slot, first_object_slot}
-use Rattle.pst_scen.specs.Constraints.{HasConstraint}
+use Rattle.pst_legal.specs.Slots.{Known, Lacking, act_slot, output_slot, first_object_slot}
+use Rattle.pst_legal.specs.Constraints.{HasConstraint}
 use Rattle.pst_scen.specs.Order.{Must}
 use Rattle.pst_scen.specs.Conflicts.{Conflict}
 use Rattle.pst_scen.specs.Trace.{MayCome, Starts, IsLegalTrace, IsWhole, last_writer}
-use Rattle.pst_scen.specs.Legal.{Legal}
-use Rattle.pst_scen.specs.ValueReading.{Whole, read}
+use Rattle.pst_legal.specs.Legal.{Legal}
+use Rattle.pst_legal.specs.ValueReading.{Whole, read}
 use Rattle.pst_trials.specs.Parts.{field_to, input, output, act_of, filled, scenario_of, start, places}
 use Rattle.std.proofs.Common.{refl}
 use Rattle.rand_core.specs.Steps.{u32_at, word_bytes}
@@ -25,33 +25,37 @@ use Rattle.pst_scen.specs.Order.{Source, Replaced}
 use Rattle.pst_scen.specs.Flows.{Reads, Writes}
 use Rattle.pst_scen.specs.declared.act.Flow.{Flow}
 use Rattle.pst_scen.specs.declared.act.Link.{Link}
-use Rattle.pst_scen.specs.Constraints.{OfOutput, OfFirst, OfAct}
-use Rattle.pst_scen.specs.Pieces.{IsValueOf}
-use Rattle.pst_scen.specs.Types.{pool_object}
-use Rattle.pst_scen.specs.Fits.{AreObjectValues}
+use Rattle.pst_legal.specs.Constraints.{OfOutput, OfFirst, OfAct}
+use Rattle.pst_legal.specs.Pieces.{IsValueOf}
+use Rattle.pst_legal.specs.Types.{pool_object}
+use Rattle.pst_legal.specs.Fits.{AreObjectValues}
 use Rattle.pst_scen.specs.Scenarios.{reference_at}
-use Rattle.pst_scen.specs.Supplied.{ArePreviousOnce, ComesFromFirst, AtFirst}
+use Rattle.pst_legal.specs.Supplied.{ArePreviousOnce, ComesFromFirst, AtFirst}
 use Rattle.pst_trials.proofs.Cases.{each_reference}
 use lib.Signed.{le_z, le_z_yes}
 use Rattle.std.proofs.Common.{T, ap}
 use Rattle.std.proofs.Common.{◌<◌, inl, inr, sym, subst, lit<, lit≤, true≢false, arith, Contains}
 use Rattle.pst_scen.specs.declared.act.Act.{Act as Acting}
-use Rattle.pst_scen.specs.Growing.{nothing_yet, most_levels, Leaf}
-use Rattle.pst_scen.specs.Pieces.{Action, IsActionWay}
+use Rattle.pst_legal.specs.Growing.{nothing_yet, most_levels, Leaf}
+use Rattle.pst_legal.specs.Pieces.{Action, IsActionWay}
 use Rattle.pst_scen.specs.Tree.{AtTop}
 use Rattle.pst_scen.specs.Flows.{Refers}
 use Rattle.pst_scen.specs.Order.{Before, Sequence, Directly, Through, Itself}
 use Rattle.pst_scen.specs.Trace.{Ends}
 use Rattle.pst_scen.specs.Laws.{IsPreorder}
 use Rattle.pst_scen.specs.Scenarios.{IsScenario}
-use Rattle.pst_scen.specs.Fits.{Fills, Fits, IsActOf, IsReferenceOf}
-use Rattle.pst_scen.specs.Supplied.{Supplied}
-use Rattle.pst_scen.specs.Binds.{bounds_of}
+use Rattle.pst_legal.specs.Fits.{Fills, Fits, IsActOf, IsReferenceOf}
+use Rattle.pst_legal.specs.Supplied.{Supplied}
+use Rattle.pst_legal.specs.Binds.{bounds_of}
 use Rattle.pst_trials.proofs.Cases.{each, each_contained, none_some, false_true}
 use Rattle.pst_trials.proofs.Branches.{each_parallel}
 use Rattle.pst_trials.proofs.Orders.{each_refers}
 use Rattle.pst_trials.proofs.Traces.{preorder_by, here, runs_by, starts_next, awaits, whole_by, no_joins}
 use Rattle.pst_trials.proofs.Legality.{differ, in_preorder, are_linked, sources_by, bounds_by, inferred_by, none_inline, HoldsAt, holds_by, none_clashes}
+use Rattle.pst_legal.specs.Shape.{HasShape, HasActShape, HasReferenceShape, HasClaimShape}
+use Rattle.pst_trials.proofs.Legality.{shape_by}
+use Rattle.pst_trials.proofs.Cases.{each_both}
+use Rattle.pst_trials.specs.Parts.{claim}
 
 pub reads : read one 2 1 1 choices ≡ Whole row
 unfolding generator_at u32_at pcg32_seed word_bytes numbers_from
@@ -289,9 +293,14 @@ supplied = record {
   numbered = (lit< tt, lit< tt, (lit< tt, tt, refl));
 }
 
+shape : HasShape one row
+shape = shape_by one row (record { type = _; is = refl; activity = _; compound = refl; inside = lit< tt; many = refl }, (tt, tt))
+    (record { type = _; is = refl; atomic = refl; inside = lit< tt; many_fields = refl; many_references = refl; references = each_both (λ k r f. HasReferenceShape one r f) (input 0 ∷ []) (reader).references (record { pool = lit< tt; output = λ e. absurd (false_true e); input = λ e. refl }, tt); many_claims = refl; claims = λ k claim claimed is. absurd (none_some claim is) }, (record { type = _; is = refl; atomic = refl; inside = lit< tt; many_fields = refl; many_references = refl; references = each_both (λ k r f. HasReferenceShape one r f) (output 0 ∷ []) (writer).references (record { pool = lit< tt; output = λ e. record { type = _; is = refl; many = refl }; input = λ e. absurd (true≢false e) }, tt); many_claims = refl; claims = λ k claim claimed is. absurd (none_some claim is) }, tt)) ((lit< tt, record { type = _; is = refl; many = refl }), tt)
+
 pub legal : Legal one 2 row
 legal = record {
   scenario = is_scenario;
+  shape = shape;
   fits = fits;
   supplied = supplied;
   holds = holds_by one row (record {

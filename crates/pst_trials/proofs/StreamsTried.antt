@@ -5,8 +5,8 @@ use Rattle.pst_scen.specs.declared.event.Event.{Event}
 use Rattle.pst_scen.specs.declared.event.Event.TheVariants.{Start, End}
 use Rattle.pst_scen.specs.Order.{Must, Together}
 use Rattle.pst_scen.specs.Trace.{MayCome, Starts, IsWholeGroup, IsLegalTrace, IsWhole}
-use Rattle.pst_scen.specs.Supplied.{AreNumbered, linkings}
-use Rattle.pst_scen.specs.ValueReading.{Whole, read}
+use Rattle.pst_legal.specs.Supplied.{AreNumbered, linkings}
+use Rattle.pst_legal.specs.ValueReading.{Whole, read}
 use Rattle.pst_trials.specs.Parts.{places}
 use Rattle.std.proofs.Common.{◌≡◌, ◌<◌, inl, inr, false, true, nat_eq, refl, sym, lit<, true≢false, get_or, Contains, not-suc-le-zero}
 use Rattle.pst_scen.specs.Tree.{AtTop}
@@ -15,7 +15,7 @@ use Rattle.pst_scen.specs.Flows.{FromFirst}
 use Rattle.pst_scen.specs.Conflicts.{Conflict}
 use Rattle.pst_scen.specs.Trace.{Ends, Ended, MayStart, StartsOn}
 use Rattle.pst_scen.specs.declared.act.Flow.TheVariants.{StateIn, StateOut}
-use Rattle.pst_scen.specs.SupplyReading.{is_state}
+use Rattle.pst_legal.specs.SupplyReading.{is_state}
 use Rattle.std.proofs.Common.{eq-eqb, subst}
 use Rattle.pst_scen.specs.Laws.{IsPreorder}
 use Rattle.pst_trials.proofs.Cases.{each_contained, EachOf}

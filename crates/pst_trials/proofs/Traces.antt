@@ -15,7 +15,7 @@ use Rattle.pst_scen.specs.Order.{Before, Together, Itself}
 use Rattle.pst_scen.specs.Conflicts.{Conflict}
 use Rattle.pst_scen.specs.Trace.{Started, StartsOn, Ended, Runs, IsWholeGroup, MayStart, IsWhole, Names, last_writer}
 use Rattle.pst_scen.specs.Laws.{IsPreorder}
-use Rattle.pst_scen.specs.SupplyReading.{is_state}
+use Rattle.pst_legal.specs.SupplyReading.{is_state}
 use Rattle.pst_trials.proofs.Cases.{Each, each, EachOf, each_contained, false_true}
 use Rattle.pst_trials.proofs.Branches.{earliers}
 use Rattle.pst_trials.proofs.Orders.{EachPair, each_before, streams, itself_alone, referrals, each_refers, suppliers, each_feeds}

@@ -8,11 +8,11 @@ use Rattle.pst_model.specs.ModelTree.{ModelTree}
 use Rattle.pst_scen.specs.declared.tree.Fill.TheVariants as fill
 use Rattle.pst_scen.specs.declared.act.Act.{Act}
 use Rattle.pst_scen.specs.declared.scenario.Scenario.{Scenario}
-use Rattle.pst_scen.specs.Slots.{act_slot}
-use Rattle.pst_scen.specs.Constraints.{Holds, value_at, is_refused_at}
-use Rattle.pst_scen.specs.Legal.{Legal}
-use Rattle.pst_scen.specs.First.{IsLive}
-use Rattle.pst_scen.specs.ValueReading.{Whole, read}
+use Rattle.pst_legal.specs.Slots.{act_slot}
+use Rattle.pst_legal.specs.Constraints.{Holds, value_at, is_refused_at}
+use Rattle.pst_legal.specs.Legal.{Legal}
+use Rattle.pst_legal.specs.First.{IsLive}
+use Rattle.pst_legal.specs.ValueReading.{Whole, read}
 use Rattle.pst_trials.specs.Parts.{span, name, field_to, atomic_with, top, number, by, constraint, act_with, scenario_of, places}
 
 -- component pss_top { action entry { .. } } with such fields and constraints

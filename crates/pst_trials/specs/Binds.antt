@@ -10,12 +10,12 @@ use Rattle.pst_scen.specs.declared.act.Link.TheVariants.{Nothing, Act}
 use Rattle.pst_scen.specs.declared.scenario.Scenario.{Scenario}
 use Rattle.pst_scen.specs.declared.event.Event.{Event}
 use Rattle.pst_scen.specs.declared.event.Event.TheVariants.{End}
-use Rattle.pst_scen.specs.Binds.{bounds_of, fixed_source}
+use Rattle.pst_legal.specs.Binds.{bounds_of, fixed_source}
 use Rattle.pst_scen.specs.Order.{Must}
 use Rattle.pst_scen.specs.Trace.{IsLegalTrace, IsWhole}
 use Rattle.pst_scen.specs.Plans.{KeepsParallel}
-use Rattle.pst_scen.specs.Legal.{Legal}
-use Rattle.pst_scen.specs.ValueReading.{Whole, read}
+use Rattle.pst_legal.specs.Legal.{Legal}
+use Rattle.pst_legal.specs.ValueReading.{Whole, read}
 use Rattle.pst_trials.specs.Parts.{compound, traverse_by, row, act_of, filled, root_node, node, scenario_of, start, places}
 use Rattle.pst_trials.specs.Inference.{flow_model}
 

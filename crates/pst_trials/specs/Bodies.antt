@@ -9,7 +9,7 @@ use Rattle.pst_model.specs.BodyTree.{Value, Answer, BodyStepTree, Declare, Assig
 use Rattle.pst_model.specs.ModelTree.{ModelTree}
 use Rattle.pst_scen.specs.declared.tree.Fill.TheVariants as fill
 use Rattle.pst_scen.specs.declared.scenario.Scenario.{Scenario}
-use Rattle.pst_scen.specs.Body.{BodyRun, Ended, Trap, Wants, body_run}
+use Rattle.pst_legal.specs.Body.{BodyRun, Ended, Trap, Wants, body_run}
 use Rattle.pst_trials.specs.Parts.{name, span, with_body, top, number, by, constraint, act_with, scenario_of}
 
 -- int

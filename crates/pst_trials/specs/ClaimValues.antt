@@ -10,10 +10,10 @@ use Rattle.pst_scen.specs.declared.tree.Fill.TheVariants as fill
 use Rattle.pst_scen.specs.declared.act.Act.{Act}
 use Rattle.pst_scen.specs.declared.act.Claimed.{Claimed}
 use Rattle.pst_scen.specs.declared.scenario.Scenario.{Scenario}
-use Rattle.pst_scen.specs.Slots.{Standing, Known, Lacking, Between, act_slot, resource_slot}
-use Rattle.pst_scen.specs.Constraints.{HasConstraint, value_at}
-use Rattle.pst_scen.specs.First.{IsLive}
-use Rattle.pst_scen.specs.ValueReading.{Whole, read}
+use Rattle.pst_legal.specs.Slots.{Standing, Known, Lacking, Between, act_slot, resource_slot}
+use Rattle.pst_legal.specs.Constraints.{HasConstraint, value_at}
+use Rattle.pst_legal.specs.First.{IsLive}
+use Rattle.pst_legal.specs.ValueReading.{Whole, read}
 use Rattle.pst_trials.specs.Parts.{name, span, field_to, atomic, top, pool_of, serve, claim, number, by, constraint, act_claims, scenario_of, places}
 
 -- f == instance_id + 5

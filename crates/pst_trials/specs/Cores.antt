@@ -7,7 +7,7 @@ use Rattle.pst_scen.specs.declared.event.Event.{Event}
 use Rattle.pst_scen.specs.declared.event.Event.TheVariants.{End}
 use Rattle.pst_scen.specs.Core.{Command, Open, Close, Core, commands_of}
 use Rattle.pst_scen.specs.Trace.{IsLegalTrace, Prefix}
-use Rattle.pst_scen.specs.ValueReading.{Whole, read}
+use Rattle.pst_legal.specs.ValueReading.{Whole, read}
 use Rattle.pst_trials.specs.Parts.{atomic, compound, top, traverse, act_of, root_node, node, scenario_of, start}
 
 -- component pss_top { action A { } action B { } action entry { activity { do A; do B; } } }

@@ -11,9 +11,9 @@ use Rattle.pst_scen.specs.declared.event.Event.{Event}
 use Rattle.pst_scen.specs.declared.event.Event.TheVariants.{End}
 use Rattle.pst_scen.specs.Order.{Must}
 use Rattle.pst_scen.specs.Trace.{MayCome, Starts, IsLegalTrace, IsWhole}
-use Rattle.pst_scen.specs.Supplied.{AreNumbered, linkings}
-use Rattle.pst_scen.specs.Legal.{Legal}
-use Rattle.pst_scen.specs.ValueReading.{Dead, Whole, read}
+use Rattle.pst_legal.specs.Supplied.{AreNumbered, linkings}
+use Rattle.pst_legal.specs.Legal.{Legal}
+use Rattle.pst_legal.specs.ValueReading.{Dead, Whole, read}
 use Rattle.pst_trials.specs.Parts.{bare, atomic, compound, top, pool_of, serve, traverse, input, output, act_of, filled, root_node, node, scenario_of, start, places}
 
 -- buffer b_t { }, or stream, or state

@@ -7,11 +7,11 @@ use Rattle.pst_model.specs.ActivityTree.{Traverse}
 use Rattle.pst_model.specs.ModelTree.{ModelTree, ActionTree}
 use Rattle.pst_scen.specs.declared.tree.Fill.TheVariants as fill
 use Rattle.pst_scen.specs.declared.scenario.Scenario.{Scenario}
-use Rattle.pst_scen.specs.Standing.{handle_node}
-use Rattle.pst_scen.specs.Slots.{Known, Between, node_slot, inline_slot}
-use Rattle.pst_scen.specs.Constraints.{HasConstraint, Holds, value_at}
-use Rattle.pst_scen.specs.First.{IsLive}
-use Rattle.pst_scen.specs.ValueReading.{Whole, read}
+use Rattle.pst_legal.specs.Standing.{handle_node}
+use Rattle.pst_legal.specs.Slots.{Known, Between, node_slot, inline_slot}
+use Rattle.pst_legal.specs.Constraints.{HasConstraint, Holds, value_at}
+use Rattle.pst_legal.specs.First.{IsLive}
+use Rattle.pst_legal.specs.ValueReading.{Whole, read}
 use Rattle.pst_trials.specs.Parts.{span, field_to, atomic_with, compound, top, traverse_by, number, by, constraint, act_with, root_node, node, scenario_of, places}
 
 -- a.v == n + 1

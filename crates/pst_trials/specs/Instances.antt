@@ -6,9 +6,9 @@ use Rattle.pst_model.specs.ActivityTree.{Parallel}
 use Rattle.pst_scen.specs.declared.tree.Fill.TheVariants as fill
 use Rattle.pst_scen.specs.declared.act.Act.{Act}
 use Rattle.pst_scen.specs.declared.scenario.Scenario.{Scenario}
-use Rattle.pst_scen.specs.Types.{instances_of, is_under}
+use Rattle.pst_legal.specs.Types.{instances_of, is_under}
 use Rattle.pst_scen.specs.Plans.{KeepsParallel}
-use Rattle.pst_scen.specs.ValueReading.{Whole, read}
+use Rattle.pst_legal.specs.ValueReading.{Whole, read}
 use Rattle.pst_trials.specs.Parts.{name, atomic, compound, pool_of, traverse, act_claims, claimed, root_node, node, scenario_of, places}
 use Rattle.pst_trials.specs.Locks.{model as claim_model, twice}
 

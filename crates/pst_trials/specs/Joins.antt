@@ -11,11 +11,11 @@ use Rattle.pst_scen.specs.declared.act.Link.TheVariants.{Nothing, Act}
 use Rattle.pst_scen.specs.declared.scenario.Scenario.{Scenario}
 use Rattle.pst_scen.specs.declared.event.Event.{Event}
 use Rattle.pst_scen.specs.declared.event.Event.TheVariants.{End}
-use Rattle.pst_scen.specs.Binds.{bounds_of}
-use Rattle.pst_scen.specs.Fits.{FillsRoot}
+use Rattle.pst_legal.specs.Binds.{bounds_of}
+use Rattle.pst_legal.specs.Fits.{FillsRoot}
 use Rattle.pst_scen.specs.Order.{Before, Must}
 use Rattle.pst_scen.specs.Trace.{MayCome, Starts, IsLegalTrace, IsWhole}
-use Rattle.pst_scen.specs.ValueReading.{Dead, Whole, read}
+use Rattle.pst_legal.specs.ValueReading.{Dead, Whole, read}
 use Rattle.pst_trials.specs.Parts.{atomic, compound, top, traverse, traverse_by, row, act_of, filled, root_node, node, scenario_of, start, places}
 use Rattle.pst_trials.specs.Inference.{flow_model}
 

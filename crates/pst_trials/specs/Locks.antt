@@ -12,9 +12,9 @@ use Rattle.pst_scen.specs.declared.event.Event.TheVariants.{End}
 use Rattle.pst_scen.specs.Conflicts.{Conflict}
 use Rattle.pst_scen.specs.Trace.{MayCome, Starts, IsLegalTrace, IsWhole}
 use Rattle.pst_scen.specs.Plans.{KeepsParallel}
-use Rattle.pst_scen.specs.Legal.{Legal}
-use Rattle.pst_scen.specs.First.{IsFirst}
-use Rattle.pst_scen.specs.ValueReading.{Whole, read}
+use Rattle.pst_legal.specs.Legal.{Legal}
+use Rattle.pst_legal.specs.First.{IsFirst}
+use Rattle.pst_legal.specs.ValueReading.{Whole, read}
 use Rattle.pst_trials.specs.Parts.{bare, atomic, compound, top, pool_of, serve, traverse, row, claim, act_claims, claimed, root_node, node, scenario_of, start, places}
 
 -- resource r_t { }

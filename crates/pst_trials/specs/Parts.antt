@@ -29,7 +29,7 @@ use Rattle.pst_scen.specs.declared.scenario.First.{First}
 use Rattle.pst_scen.specs.declared.scenario.Scenario.{Scenario}
 use Rattle.pst_scen.specs.declared.event.Event.{Event}
 use Rattle.pst_scen.specs.declared.event.Event.TheVariants.{Start}
-use Rattle.pst_scen.specs.ValueReading.{Answer, Options, Dead, Whole, read}
+use Rattle.pst_legal.specs.ValueReading.{Answer, Options, Dead, Whole, read}
 
 -- ---- models
 

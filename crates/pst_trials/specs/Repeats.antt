@@ -7,12 +7,12 @@ use Rattle.pst_model.specs.ActivityTree.{StepTree, Traverse, Sequence, Repeat, I
 use Rattle.pst_model.specs.ModelTree.{ModelTree}
 use Rattle.pst_scen.specs.declared.tree.Fill.TheVariants as fill
 use Rattle.pst_scen.specs.declared.scenario.Scenario.{Scenario}
-use Rattle.pst_scen.specs.Slots.{Known, inline_slot}
-use Rattle.pst_scen.specs.Standing.{StandsFor}
-use Rattle.pst_scen.specs.Constraints.{HasConstraint, value_at}
-use Rattle.pst_scen.specs.Fits.{FillsRoot}
+use Rattle.pst_legal.specs.Slots.{Known, inline_slot}
+use Rattle.pst_legal.specs.Standing.{StandsFor}
+use Rattle.pst_legal.specs.Constraints.{HasConstraint, value_at}
+use Rattle.pst_legal.specs.Fits.{FillsRoot}
 use Rattle.pst_scen.specs.Order.{Before}
-use Rattle.pst_scen.specs.ValueReading.{Dead, Whole, read}
+use Rattle.pst_legal.specs.ValueReading.{Dead, Whole, read}
 use Rattle.pst_trials.specs.Parts.{field_to, atomic_with, compound, top, traverse, row, number, by, constraint, act_with, root_node, node, scenario_of, places}
 
 abbrev pub plain : Expression → ConstraintTree

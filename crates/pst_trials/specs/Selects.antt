@@ -9,8 +9,8 @@ use Rattle.pst_model.specs.ActivityTree.{StepTree, ArmRow, Select, Match, MakeBr
 use Rattle.pst_model.specs.ModelTree.{ModelTree}
 use Rattle.pst_scen.specs.declared.tree.Fill.TheVariants as fill
 use Rattle.pst_scen.specs.declared.scenario.Scenario.{Scenario}
-use Rattle.pst_scen.specs.Legal.{Legal}
-use Rattle.pst_scen.specs.ValueReading.{Dead, Whole, read}
+use Rattle.pst_legal.specs.Legal.{Legal}
+use Rattle.pst_legal.specs.ValueReading.{Dead, Whole, read}
 use Rattle.pst_trials.specs.Parts.{span, field_to, atomic, compound, top, traverse, number, by, constraint, act_of, root_node, node, scenario_of, places}
 
 -- n == 3, n > 5, n < 9

@@ -15,14 +15,14 @@ use Rattle.pst_scen.specs.declared.act.Link.TheVariants as link
 use Rattle.pst_scen.specs.declared.scenario.Scenario.{Scenario}
 use Rattle.pst_scen.specs.declared.event.Event.{Event}
 use Rattle.pst_scen.specs.declared.event.Event.TheVariants.{End}
-use Rattle.pst_scen.specs.Slots.{Known, Lacking, act_slot, output_slot, first_object_slot}
-use Rattle.pst_scen.specs.Constraints.{HasConstraint, value_at}
+use Rattle.pst_legal.specs.Slots.{Known, Lacking, act_slot, output_slot, first_object_slot}
+use Rattle.pst_legal.specs.Constraints.{HasConstraint, value_at}
 use Rattle.pst_scen.specs.Order.{Must}
 use Rattle.pst_scen.specs.Conflicts.{Conflict}
 use Rattle.pst_scen.specs.Trace.{MayCome, Starts, IsLegalTrace, IsWhole, last_writer}
 use Rattle.pst_scen.specs.Plans.{CanRun}
-use Rattle.pst_scen.specs.Legal.{Legal}
-use Rattle.pst_scen.specs.ValueReading.{Whole, read}
+use Rattle.pst_legal.specs.Legal.{Legal}
+use Rattle.pst_legal.specs.ValueReading.{Whole, read}
 use Rattle.pst_trials.specs.Parts.{name, field_to, atomic, compound, top, pool_of, serve, traverse, input, output, number, by, constraint, act_of, filled, root_node, node, scenario_of, start, places}
 
 -- initial -> x == 0

@@ -10,8 +10,8 @@ use Rattle.pst_scen.specs.declared.event.Event.{Event}
 use Rattle.pst_scen.specs.declared.event.Event.TheVariants.{Start, End}
 use Rattle.pst_scen.specs.Order.{Must, Together}
 use Rattle.pst_scen.specs.Trace.{MayCome, Starts, IsWholeGroup, IsLegalTrace, IsWhole}
-use Rattle.pst_scen.specs.Supplied.{AreNumbered, linkings}
-use Rattle.pst_scen.specs.ValueReading.{Whole, read}
+use Rattle.pst_legal.specs.Supplied.{AreNumbered, linkings}
+use Rattle.pst_legal.specs.ValueReading.{Whole, read}
 use Rattle.pst_trials.specs.Parts.{compound, traverse, act_of, filled, root_node, node, scenario_of, places}
 use Rattle.pst_trials.specs.Inference.{flow_model}
 
