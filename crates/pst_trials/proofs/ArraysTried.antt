@@ -37,12 +37,8 @@ use Rattle.pst_trials.proofs.Cases.{each, EachOf, none_some, false_true}
 use Rattle.pst_trials.proofs.Branches.{each_parallel}
 use Rattle.pst_trials.proofs.Traces.{preorder_by, runs_by, starts_next, awaits, whole_by}
 use Rattle.pst_trials.proofs.Legality.{in_preorder, are_linked, no_firsts, no_previous, no_chains, sources_by, bounds_by, inferred_by, none_inline, holds_by, none_clashes}
-use Rattle.pst_legal.specs.Shape.{HasShape, HasActShape, HasReferenceShape, HasClaimShape}
 use Rattle.pst_trials.proofs.Legality.{shape_by}
 use Rattle.std.proofs.Common.{ap, suc, length}
-use Rattle.pst_trials.proofs.Cases.{each_both}
-use Rattle.std.proofs.Common.{Bool}
-use Rattle.pst_trials.specs.Parts.{input, output, claim}
 
 pub reads_elements : read array 0 1 0 (0 ∷ 10 ∷ 2 ∷ 1 ∷ []) ≡ Whole (scenario doubled)
 unfolding generator_at u32_at pcg32_seed word_bytes numbers_from

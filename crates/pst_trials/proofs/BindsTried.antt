@@ -38,11 +38,9 @@ use Rattle.rand_core.specs.Pcg32Seed.{pcg32_seed}
 use Rattle.pst_rng.specs.Words.{generator_at}
 use Rattle.pst_expr.specs.Spans.{numbers_from}
 use Rattle.pst_trials.specs.Binds.{model, both, scenario, choices, producer_first}
-use Rattle.pst_legal.specs.Shape.{HasShape, HasActShape, HasReferenceShape, HasClaimShape}
+use Rattle.pst_legal.specs.Shape.{HasShape, HasReferenceShape}
 use Rattle.pst_trials.proofs.Legality.{shape_by}
 use Rattle.pst_trials.proofs.Cases.{each_both}
-use Rattle.std.proofs.Common.{Bool, true}
-use Rattle.pst_trials.specs.Parts.{claim}
 use Rattle.pst_scen.specs.Order.{Buffer}
 
 pub joined : bounds_of (model (Parallel both)) (scenario fill.Parallel).nodes ≡ record { from_act = 0; from_reference = 0; to_act = 1; to_reference = 0 } ∷ []

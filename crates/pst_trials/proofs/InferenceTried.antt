@@ -35,10 +35,9 @@ use Rattle.rand_core.specs.Pcg32Seed.{pcg32_seed}
 use Rattle.pst_rng.specs.Words.{generator_at}
 use Rattle.pst_expr.specs.Spans.{numbers_from}
 use Rattle.pst_trials.specs.Inference.{model, scenario, producer_first}
-use Rattle.pst_legal.specs.Shape.{HasShape, HasActShape, HasReferenceShape, HasClaimShape}
+use Rattle.pst_legal.specs.Shape.{HasShape, HasReferenceShape}
 use Rattle.pst_trials.proofs.Legality.{shape_by}
 use Rattle.pst_trials.proofs.Cases.{each_both}
-use Rattle.pst_trials.specs.Parts.{claim}
 use Rattle.pst_scen.specs.Order.{Buffer}
 
 pub reads : read model 2 1 1 (0 ∷ 0 ∷ 0 ∷ []) ≡ Whole scenario

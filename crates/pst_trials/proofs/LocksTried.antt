@@ -39,11 +39,8 @@ use Rattle.rand_core.specs.Pcg32Seed.{pcg32_seed}
 use Rattle.pst_rng.specs.Words.{generator_at}
 use Rattle.pst_expr.specs.Spans.{numbers_from}
 use Rattle.pst_trials.specs.Locks.{model, twice, act, scenario, choices, one_after_another}
-use Rattle.pst_legal.specs.Shape.{HasShape, HasActShape, HasReferenceShape, HasClaimShape}
+use Rattle.pst_legal.specs.Shape.{HasShape, HasClaimShape}
 use Rattle.pst_trials.proofs.Legality.{shape_by}
-use Rattle.pst_trials.proofs.Cases.{false_true}
-use Rattle.std.proofs.Common.{true≢false}
-use Rattle.pst_trials.specs.Parts.{input, output}
 use Rattle.pst_scen.specs.Conflicts.{Resource}
 
 pub reads_parallel_locks : read (model true (Parallel twice)) 1 1 0 choices ≡ Whole (scenario true fill.Parallel)

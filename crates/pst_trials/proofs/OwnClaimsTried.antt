@@ -29,10 +29,8 @@ use Rattle.pst_trials.proofs.Cases.{each, each_both, none_some, false_true}
 use Rattle.pst_trials.proofs.Branches.{each_parallel}
 use Rattle.pst_trials.proofs.Traces.{preorder_by, runs_by, starts_next, awaits, whole_by}
 use Rattle.pst_trials.proofs.Legality.{differ, in_preorder, are_linked, no_firsts, no_previous, no_chains, sources_by, bounds_by, inferred_by, none_inline, HoldsAt, holds_by, none_clashes}
-use Rattle.pst_legal.specs.Shape.{HasShape, HasActShape, HasReferenceShape, HasClaimShape}
+use Rattle.pst_legal.specs.Shape.{HasShape, HasClaimShape}
 use Rattle.pst_trials.proofs.Legality.{shape_by}
-use Rattle.std.proofs.Common.{true≢false}
-use Rattle.pst_trials.specs.Parts.{input, output}
 
 pub reads_locks : read (model true) 1 1 0 choices ≡ Whole (scenario true)
 unfolding generator_at u32_at pcg32_seed word_bytes numbers_from

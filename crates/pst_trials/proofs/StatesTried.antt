@@ -52,10 +52,9 @@ use Rattle.pst_trials.proofs.Branches.{each_parallel}
 use Rattle.pst_trials.proofs.Orders.{each_refers}
 use Rattle.pst_trials.proofs.Traces.{preorder_by, here, runs_by, starts_next, awaits, whole_by, no_joins}
 use Rattle.pst_trials.proofs.Legality.{differ, in_preorder, are_linked, sources_by, bounds_by, inferred_by, none_inline, HoldsAt, holds_by, none_clashes}
-use Rattle.pst_legal.specs.Shape.{HasShape, HasActShape, HasReferenceShape, HasClaimShape}
+use Rattle.pst_legal.specs.Shape.{HasShape, HasReferenceShape}
 use Rattle.pst_trials.proofs.Legality.{shape_by}
 use Rattle.pst_trials.proofs.Cases.{each_both}
-use Rattle.pst_trials.specs.Parts.{claim}
 
 pub reads : read one 2 1 1 choices ≡ Whole row
 unfolding generator_at u32_at pcg32_seed word_bytes numbers_from
