@@ -37,6 +37,8 @@ use Rattle.pst_trials.proofs.Cases.{each, EachOf, none_some, false_true}
 use Rattle.pst_trials.proofs.Branches.{each_parallel}
 use Rattle.pst_trials.proofs.Traces.{preorder_by, runs_by, starts_next, awaits, whole_by}
 use Rattle.pst_trials.proofs.Legality.{in_preorder, are_linked, no_firsts, no_previous, no_chains, sources_by, bounds_by, inferred_by, none_inline, holds_by, none_clashes}
+use Rattle.pst_trials.proofs.Legality.{shape_by}
+use Rattle.std.proofs.Common.{ap, suc, length}
 
 pub reads_elements : read array 0 1 0 (0 ∷ 10 ∷ 2 ∷ 1 ∷ []) ≡ Whole (scenario doubled)
 unfolding generator_at u32_at pcg32_seed word_bytes numbers_from
@@ -114,10 +116,17 @@ trace values = record {
   );
 }
 
+many_of : (fields : List Field) (values : List ℤ) → AllZip IsValueOf fields values → length values ≡ length fields
+many_of [] [] are = refl
+many_of [] (v ∷ values) are = absurd are
+many_of (field ∷ fields) [] are = absurd are
+many_of (field ∷ fields) (v ∷ values) are = ap suc (many_of fields values are.1)
+
 -- values of the domains at which each constraint has a value that isn't 0 make a legal scenario
 legal_by : (fields : List Field) (constraints : List ConstraintTree) (values : List ℤ) → AllZip IsValueOf fields values
     → Holds (model fields constraints) (scenario values) → Legal (model fields constraints) 0 (scenario values)
 legal_by fields constraints values are hold = record {
+  shape = shape_by (model fields constraints) (scenario values) (tt, tt) (record { type = _; is = refl; atomic = refl; inside = lit< tt; many_fields = many_of fields values are; many_references = refl; references = λ k reference filled is. absurd (none_some reference is); many_claims = refl; claims = λ k claim claimed is. absurd (none_some claim is) }, tt) tt;
   scenario = record {
     nodes = in_preorder nodes (tt, tt);
     leaves = record { numbers = refl; nodes = refl };

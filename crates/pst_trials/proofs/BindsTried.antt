@@ -17,13 +17,12 @@ use Rattle.pst_scen.specs.Plans.{KeepsParallel, StandParallel}
 use Rattle.pst_legal.specs.Legal.{Legal}
 use Rattle.pst_legal.specs.ValueReading.{Whole, read}
 use Rattle.pst_trials.specs.Parts.{act_of, filled, scenario_of, start, places}
-use Rattle.std.proofs.Common.{inl, ◌≡◌, false, refl, lit<, lit≤, true≢false}
+use Rattle.std.proofs.Common.{inl, false, refl, lit<, lit≤, true≢false}
 use Rattle.pst_scen.specs.declared.act.Act.{Act as Acting}
-use Rattle.pst_scen.specs.declared.event.Event.{Event}
 use Rattle.pst_legal.specs.Growing.{nothing_yet, most_levels, Leaf}
 use Rattle.pst_legal.specs.Pieces.{Action, IsActionWay}
 use Rattle.pst_scen.specs.Tree.{AtTop}
-use Rattle.pst_scen.specs.Order.{Buffer, Directly, Itself}
+use Rattle.pst_scen.specs.Order.{Directly, Itself}
 use Rattle.pst_scen.specs.Trace.{Starts, Ends}
 use Rattle.pst_scen.specs.Laws.{IsPreorder}
 use Rattle.pst_scen.specs.Scenarios.{IsScenario}
@@ -39,6 +38,10 @@ use Rattle.rand_core.specs.Pcg32Seed.{pcg32_seed}
 use Rattle.pst_rng.specs.Words.{generator_at}
 use Rattle.pst_expr.specs.Spans.{numbers_from}
 use Rattle.pst_trials.specs.Binds.{model, both, scenario, choices, producer_first}
+use Rattle.pst_legal.specs.Shape.{HasShape, HasReferenceShape}
+use Rattle.pst_trials.proofs.Legality.{shape_by}
+use Rattle.pst_trials.proofs.Cases.{each_both}
+use Rattle.pst_scen.specs.Order.{Buffer}
 
 pub joined : bounds_of (model (Parallel both)) (scenario fill.Parallel).nodes ≡ record { from_act = 0; from_reference = 0; to_act = 1; to_reference = 0 } ∷ []
 unfolding generator_at u32_at pcg32_seed word_bytes numbers_from
@@ -209,9 +212,14 @@ supplied = record {
   numbered = (lit< tt, lit< tt, refl);
 }
 
+shape : HasShape m s
+shape = shape_by m s (record { type = _; is = refl; activity = _; compound = refl; inside = lit< tt; many = refl }, (tt, (tt, (tt, tt))))
+    (record { type = _; is = refl; atomic = refl; inside = lit< tt; many_fields = refl; many_references = refl; references = each_both (λ k r f. HasReferenceShape m r f) (output 0 ∷ []) (producer).references (record { pool = lit< tt; output = λ e. record { type = _; is = refl; many = refl }; input = λ e. absurd (true≢false e) }, tt); many_claims = refl; claims = λ k claim claimed is. absurd (none_some claim is) }, (record { type = _; is = refl; atomic = refl; inside = lit< tt; many_fields = refl; many_references = refl; references = each_both (λ k r f. HasReferenceShape m r f) (input 0 ∷ []) (consumer).references (record { pool = lit< tt; output = λ e. absurd (false_true e); input = λ e. refl }, tt); many_claims = refl; claims = λ k claim claimed is. absurd (none_some claim is) }, tt)) tt
+
 pub legal : Legal m 2 s
 legal = record {
   scenario = is_scenario;
+  shape = shape;
   fits = fits;
   supplied = supplied;
   holds = holds_by m s (record {

@@ -1,54 +1,21 @@
 -- Facts: The number of a claimed resource instance, and the values of its fields.
-use Rattle.std.specs.Prelude.{◌≡◌, ℕ, ℤ, pos, List, [], ◌∷◌, Bool, true, false, Option, Some, None}
-use Rattle.pst_expr.specs.declared.ranges.Span.{Span}
-use Rattle.pst_expr.specs.declared.tree.BinaryOp.TheVariants.{Equal, Add, Greater}
-use Rattle.pst_expr.specs.Tree.{Variable}
-use Rattle.pst_model.specs.declared.object.ObjectKind.TheVariants.{Resource}
-use Rattle.pst_model.specs.ConstraintTree.{ConstraintTree, SlotTree, Own, ClaimId, ClaimField, Id}
-use Rattle.pst_model.specs.ModelTree.{ModelTree, ObjectTree}
-use Rattle.pst_scen.specs.declared.tree.Fill.TheVariants as fill
-use Rattle.pst_scen.specs.declared.act.Act.{Act}
-use Rattle.pst_scen.specs.declared.act.Claimed.{Claimed}
-use Rattle.pst_scen.specs.declared.scenario.Scenario.{Scenario}
-use Rattle.pst_legal.specs.Slots.{Standing, Known, Lacking, Between, act_slot, resource_slot}
+use Rattle.std.specs.Prelude.{◌≡◌, pos, [], ◌∷◌, true, false, Some}
+use Rattle.pst_model.specs.ConstraintTree.{Own, ClaimId, ClaimField, Id}
+use Rattle.pst_legal.specs.Slots.{Known, Lacking, Between, act_slot, resource_slot}
 use Rattle.pst_legal.specs.Constraints.{HasConstraint, value_at}
 use Rattle.pst_legal.specs.First.{IsLive}
 use Rattle.pst_legal.specs.ValueReading.{Whole, read}
-use Rattle.pst_trials.specs.Parts.{name, span, field_to, atomic, top, pool_of, serve, claim, number, by, constraint, act_claims, scenario_of, places}
+use Rattle.pst_trials.specs.Parts.{span, claim, places}
 use Rattle.std.proofs.Common.{refl}
 use Rattle.rand_core.specs.Steps.{u32_at, word_bytes}
 use Rattle.rand_core.specs.Pcg32Seed.{pcg32_seed}
 use Rattle.pst_rng.specs.Words.{generator_at}
 use Rattle.pst_expr.specs.Spans.{numbers_from}
-use Rattle.pst_trials.specs.ClaimValues.{ClaimValuesAreTried, five_more, is_second, above_five, resource, model, act, scenario_with, row, unread}
+use Rattle.pst_trials.specs.ClaimValues.{five_more, is_second, above_five, resource, model, act, scenario_with, row, unread}
 use Rattle.pst_legal.specs.Constraints.{OfClaim, OfAct, is_refused_at}
 use Rattle.pst_legal.specs.First.{NoneRefused}
 use Rattle.pst_trials.proofs.Legality.{Property, each_constraint, none_inline}
-use Rattle.std.proofs.Common.{◌≢◌, ◌<◌, ◌⊎◌, suc, zero, inl, inr, nat_eq, sym, ◌∙◌, subst, eq-eqb, lit<, lit≤, true≢false, length, get_or, arith, Contains, not-suc-le-zero, slice_get, replicate}
-use Rattle.pst_scen.specs.declared.act.Act.{Act as Acting}
-use Rattle.pst_scen.specs.declared.act.Filled.{Filled}
-use Rattle.pst_scen.specs.declared.event.Event.{Event}
-use Rattle.pst_model.specs.declared.action.Claim.{Claim}
-use Rattle.pst_legal.specs.Growing.{nothing_yet, most_levels, Inner, Leaf, Look}
-use Rattle.pst_legal.specs.Pieces.{Piece, Action, Statement, IsActionWay, IsWay}
-use Rattle.pst_scen.specs.Tree.{AtTop, Below, IsReleased}
-use Rattle.pst_scen.specs.Flows.{Claims, Feeds, Refers, FromFirst, FromSecond}
-use Rattle.pst_scen.specs.Order.{Must, Cause, Before, Buffer, Sequence, Directly, Through, Itself, Linked, Together}
-use Rattle.pst_scen.specs.Conflicts.{Conflict}
-use Rattle.pst_scen.specs.Trace.{Starts, Ends, Started, Ended, Runs, MayStart, AreFree, StartsOn}
-use Rattle.pst_scen.specs.Laws.{IsPreorder}
-use Rattle.pst_scen.specs.Scenarios.{IsScenario}
-use Rattle.pst_scen.specs.Plans.{StandParallel, ClashesAlone, KeepsParallel}
-use Rattle.pst_legal.specs.Fits.{Fills, FillsRoot, Fits, HasValues, IsActOf, IsReferenceOf, IsClaimOf, IsSameLeaf}
-use Rattle.pst_legal.specs.Supplied.{Supplied}
-use Rattle.pst_legal.specs.Binds.{bounds_of}
-use Rattle.pst_legal.specs.Constraints.{Holds}
-use Rattle.pst_trials.proofs.Cases.{each, each_both, each_contained, EachOf, none_some, false_true}
-use Rattle.pst_trials.proofs.Branches.{each_parallel}
-use Rattle.pst_trials.proofs.Orders.{each_conflict, each_contend, each_must, each_must_alone, each_cause, each_before, each_feeds, each_refers, each_together}
-use Rattle.pst_trials.proofs.Traces.{When, due, on_start, each_start, each_below, preorder_by, here, runs_by, starts_next, awaits, whole_by, no_joins}
-use Rattle.pst_trials.proofs.Legality.{differ, in_preorder, are_linked, no_firsts, no_previous, no_chains, sources_by, bounds_by, inferred_by, holds_by, none_clashes}
-use Rattle.pst_trials.specs.Parts.{input, output}
+use Rattle.std.proofs.Common.{lit<, true≢false}
 
 pub reads : read model 0 1 0 (0 ∷ 0 ∷ 6 ∷ []) ≡ Whole row
 unfolding generator_at u32_at pcg32_seed word_bytes numbers_from

@@ -13,12 +13,12 @@ use Rattle.pst_legal.specs.ValueReading.{Dead, Whole, read}
 use Rattle.pst_trials.specs.Parts.{input, output, act_of, filled, scenario_of, start, places}
 use Rattle.pst_legal.specs.Reading.{Reading, Reader, Stops, then_read}
 use Rattle.pst_legal.specs.ValueReading.{answer_of}
-use Rattle.std.proofs.Common.{Bool, if◌then◌else◌, le-ltb, ◌≤◌, nat_lt, ◌≡◌, ◌<◌, inl, false, true, refl, lit<, lit≤, true≢false, arith, not-suc-le-zero}
+use Rattle.std.proofs.Common.{Bool, if◌then◌else◌, le-ltb, ◌≤◌, nat_lt, ◌<◌, inl, false, true, refl, lit<, lit≤, true≢false, arith, not-suc-le-zero}
 use Rattle.pst_scen.specs.declared.act.Act.{Act as Acting}
 use Rattle.pst_legal.specs.Growing.{nothing_yet, most_levels, Leaf}
 use Rattle.pst_legal.specs.Pieces.{Action, IsActionWay}
 use Rattle.pst_scen.specs.Flows.{Feeds}
-use Rattle.pst_scen.specs.Order.{Buffer, Directly, Itself}
+use Rattle.pst_scen.specs.Order.{Directly, Itself}
 use Rattle.pst_scen.specs.Trace.{Ends}
 use Rattle.pst_scen.specs.Laws.{IsPreorder}
 use Rattle.pst_scen.specs.Scenarios.{IsScenario}
@@ -35,6 +35,10 @@ use Rattle.rand_core.specs.Pcg32Seed.{pcg32_seed}
 use Rattle.pst_rng.specs.Words.{generator_at}
 use Rattle.pst_expr.specs.Spans.{numbers_from}
 use Rattle.pst_trials.specs.Inference.{model, scenario, producer_first}
+use Rattle.pst_legal.specs.Shape.{HasShape, HasReferenceShape}
+use Rattle.pst_trials.proofs.Legality.{shape_by}
+use Rattle.pst_trials.proofs.Cases.{each_both}
+use Rattle.pst_scen.specs.Order.{Buffer}
 
 pub reads : read model 2 1 1 (0 ∷ 0 ∷ 0 ∷ []) ≡ Whole scenario
 unfolding generator_at u32_at pcg32_seed word_bytes numbers_from
@@ -178,9 +182,14 @@ supplied = record {
   numbered = numbered;
 }
 
+shape : HasShape model scenario
+shape = shape_by model scenario (record { type = _; is = refl; activity = _; compound = refl; inside = lit< tt; many = refl }, (tt, tt))
+    (record { type = _; is = refl; atomic = refl; inside = lit< tt; many_fields = refl; many_references = refl; references = each_both (λ k r f. HasReferenceShape model r f) (input 0 ∷ []) (consumer).references (record { pool = lit< tt; output = λ e. absurd (false_true e); input = λ e. refl }, tt); many_claims = refl; claims = λ k claim claimed is. absurd (none_some claim is) }, (record { type = _; is = refl; atomic = refl; inside = lit< tt; many_fields = refl; many_references = refl; references = each_both (λ k r f. HasReferenceShape model r f) (output 0 ∷ []) (producer).references (record { pool = lit< tt; output = λ e. record { type = _; is = refl; many = refl }; input = λ e. absurd (true≢false e) }, tt); many_claims = refl; claims = λ k claim claimed is. absurd (none_some claim is) }, tt)) tt
+
 pub legal : Legal model 2 scenario
 legal = record {
   scenario = is_scenario;
+  shape = shape;
   fits = fits;
   supplied = supplied;
   holds = holds_by model scenario (record {

@@ -34,32 +34,12 @@ use Rattle.pst_trials.proofs.Cases.{EachOf}
 use Rattle.pst_trials.proofs.Orders.{each_before}
 use Rattle.pst_trials.proofs.Traces.{When, due, each_below, preorder_by, here, runs_by, starts_next, whole_by, no_joins}
 use Rattle.pst_trials.proofs.Legality.{differ}
-use Rattle.std.proofs.Common.{◌≢◌, ◌⊎◌, suc, zero, inr, ◌∙◌, lit≤, true≢false, length, get_or, arith, Contains, not-suc-le-zero, replicate}
-use Rattle.pst_scen.specs.declared.act.Act.{Act as Acting}
-use Rattle.pst_scen.specs.declared.act.Filled.{Filled}
-use Rattle.pst_scen.specs.declared.act.Claimed.{Claimed}
-use Rattle.pst_model.specs.declared.action.Claim.{Claim}
-use Rattle.pst_model.specs.ModelTree.{ModelTree}
-use Rattle.pst_legal.specs.Growing.{nothing_yet, most_levels, Inner, Leaf, Look}
-use Rattle.pst_legal.specs.Pieces.{Piece, Action, Statement, IsActionWay, IsWay}
-use Rattle.pst_scen.specs.Flows.{Claims, Refers, FromFirst, FromSecond}
-use Rattle.pst_scen.specs.Order.{Cause, Linked, Together}
-use Rattle.pst_scen.specs.Conflicts.{Conflict, Resource}
-use Rattle.pst_scen.specs.Trace.{Started, Runs, MayStart, AreFree, StartsOn}
-use Rattle.pst_scen.specs.Scenarios.{IsScenario}
-use Rattle.pst_scen.specs.Plans.{StandParallel, ClashesAlone, KeepsParallel}
-use Rattle.pst_legal.specs.Fits.{Fills, FillsRoot, Fits, HasValues, IsActOf, IsReferenceOf, IsClaimOf, IsSameLeaf}
-use Rattle.pst_legal.specs.Supplied.{Supplied}
-use Rattle.pst_legal.specs.Constraints.{Holds}
-use Rattle.pst_trials.proofs.Cases.{each, each_both, each_contained, none_some, false_true}
-use Rattle.pst_trials.proofs.Branches.{each_parallel}
-use Rattle.pst_trials.proofs.Orders.{each_conflict, each_contend, each_must, each_must_alone, each_cause, each_feeds, each_refers, each_together}
-use Rattle.pst_trials.proofs.Traces.{on_start, each_start, awaits}
-use Rattle.pst_trials.proofs.Legality.{in_preorder, are_linked, no_firsts, no_previous, no_chains, sources_by, bounds_by, inferred_by, holds_by, none_clashes}
-use Rattle.pst_trials.specs.Parts.{input, output, claim}
+use Rattle.pst_legal.specs.Growing.{nothing_yet, most_levels, Leaf}
+use Rattle.pst_legal.specs.Pieces.{Action, IsActionWay}
+use Rattle.pst_legal.specs.Fits.{Fills, FillsRoot}
 use Rattle.pst_model.specs.declared.activity.Join.{Join}
 use Rattle.pst_legal.specs.Pieces.{IsJoin}
-use Rattle.std.proofs.Common.{None, pos}
+use Rattle.std.proofs.Common.{None}
 use Rattle.pst_model.specs.ActivityTree.{StepTree}
 
 pub reads_named : read (model (Joined true (Fixed 1) branches)) 3 1 0 choices ≡ Whole (scenario (fill.Joined true 1))
@@ -296,10 +276,16 @@ way block action below = each_below (λ action. IsActionWay (model block) action
     third = record { type = _; is = refl; instance = 0; inside = (0, lit< tt, refl); content = (refl, refl) }
 
 fills_of : (join : Join) (joined : ℕ) → IsJoin join 2 joined → Fills (model (Joined true join branches)) most_levels (Action 3 None) None (nothing_yet 0) (scenario (fill.Joined true joined))
-fills_of join joined is_join =
-    (_, _, record { type = _; is = refl; instance = 0; inside = (0, lit< tt, refl); content = ([], tt, refl, refl) },
-      (_, (_, _, (joined, is_join, refl, refl), (_, (_, _, way (Joined true join branches) 0 (lit< tt), refl), (_, (_, _, way (Joined true join branches) 1 (lit< tt), refl), refl))),
-        (_, (_, _, way (Joined true join branches) 2 (lit< tt), refl), refl)))
+fills_of join joined is_join = (
+  _,
+  _,
+  record { type = _; is = refl; instance = 0; inside = (0, lit< tt, refl); content = ([], tt, refl, refl) },
+  (
+    _,
+    (_, _, (joined, is_join, refl, refl), (_, (_, _, way (Joined true join branches) 0 (lit< tt), refl), (_, (_, _, way (Joined true join branches) 1 (lit< tt), refl), refl))),
+    (_, (_, _, way (Joined true join branches) 2 (lit< tt), refl), refl),
+  ),
+)
 
 root_of : (join : Join) (joined : ℕ) → IsJoin join 2 joined → FillsRoot (model (Joined true join branches)) 3 (scenario (fill.Joined true joined))
 root_of join joined is_join = record {

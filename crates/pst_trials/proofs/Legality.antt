@@ -32,6 +32,9 @@ use Rattle.pst_trials.proofs.Cases.{Each, each, each_reference, EachOf, each_con
 use Rattle.pst_trials.proofs.Branches.{is_below, holds_of, parent_at}
 use Rattle.pst_trials.proofs.Orders.{referrals, each_refers}
 use Rattle.pst_trials.proofs.Traces.{When, due}
+use Rattle.pst_scen.specs.declared.scenario.First.{First}
+use Rattle.pst_legal.specs.Shape.{HasShape, HasActShape, HasCompoundShape, HasObjectShape}
+use Rattle.std.proofs.Common.{◌<◌, length}
 
 pub differ : (a b : ℕ) → nat_eq a b ≡ false → a ≢ b
 differ a b not_same same = true≢false (sym (eq-eqb a b same) ∙ not_same)
@@ -466,3 +469,20 @@ stands_at_top m nodes flat top _ _ _ (BelowStatement n parent index node above s
     absurd (below_traverse node.fill above index step (stands_at_top m nodes flat top parent above indices stands).traverse is)
 stands_at_top m nodes flat top _ _ _ (InTurn n turn parent index node count body indices stands child is_node turning below) =
     absurd (false_true (stands_at_top m nodes flat top parent (Repeat count body) indices stands).traverse)
+
+-- ---- shapes
+
+abbrev pub CompoundShape : ModelTree → Fill → Type 0
+CompoundShape m (fill.Compound action instance fields) = HasCompoundShape m action instance fields
+CompoundShape m _ = Unit {0}
+
+abbrev pub FirstShape : ModelTree → First → Type 0
+FirstShape m first = (first.pool < length m.pools) × HasObjectShape (pool_object m first.pool) first.values
+
+pub shape_by : (m : ModelTree) (s : Scenario) → Each (λ n node. CompoundShape m node.fill) s.nodes → Each (λ a act. HasActShape m act) s.actions → Each (λ k first. FirstShape m first) s.firsts → HasShape m s
+shape_by m s compounds acts firsts = record {
+  compounds = λ n action instance fields node is compound. subst (CompoundShape m) compound (each (λ n node. CompoundShape m node.fill) s.nodes compounds n node is);
+  acts = each (λ a act. HasActShape m act) s.actions acts;
+  pools = λ k first is. (each (λ k first. FirstShape m first) s.firsts firsts k first is).0;
+  firsts = λ k first is. (each (λ k first. FirstShape m first) s.firsts firsts k first is).1;
+}

@@ -12,14 +12,13 @@ use Rattle.pst_scen.specs.Plans.{KeepsParallel}
 use Rattle.pst_legal.specs.Legal.{Legal}
 use Rattle.pst_legal.specs.ValueReading.{Whole, read}
 use Rattle.pst_trials.specs.Parts.{claim, act_claims, claimed, scenario_of, start, places}
-use Rattle.std.proofs.Common.{◌≡◌, ℕ, inl, inr, false, true, refl, lit<, lit≤}
+use Rattle.std.proofs.Common.{inl, inr, refl, lit<, lit≤}
 use Rattle.pst_legal.specs.Growing.{nothing_yet, most_levels, Leaf}
 use Rattle.pst_legal.specs.Pieces.{Action, IsActionWay}
 use Rattle.pst_scen.specs.Tree.{AtTop}
 use Rattle.pst_scen.specs.Flows.{Claims}
 use Rattle.pst_scen.specs.Order.{Must}
-use Rattle.pst_scen.specs.Conflicts.{Resource}
-use Rattle.pst_scen.specs.Trace.{Starts, Ends}
+use Rattle.pst_scen.specs.Trace.{Ends}
 use Rattle.pst_scen.specs.Laws.{IsPreorder}
 use Rattle.pst_scen.specs.Scenarios.{IsScenario}
 use Rattle.pst_scen.specs.Plans.{StandParallel}
@@ -35,12 +34,14 @@ use Rattle.std.proofs.Common.{not-suc-le-zero, replicate}
 use Rattle.pst_trials.proofs.Fronts.{is_whole, none_before}
 use Rattle.pst_trials.proofs.Traces.{EachBelow, preorder_by, here, runs_by, starts_next, awaits, whole_by}
 use Rattle.pst_trials.proofs.Legality.{differ, in_preorder, are_linked, no_firsts, no_previous, no_chains, sources_by, bounds_by, inferred_by, none_inline, HoldsAt, holds_by, none_clashes}
-use Rattle.pst_trials.specs.Parts.{claim}
 use Rattle.rand_core.specs.Steps.{u32_at, word_bytes}
 use Rattle.rand_core.specs.Pcg32Seed.{pcg32_seed}
 use Rattle.pst_rng.specs.Words.{generator_at}
 use Rattle.pst_expr.specs.Spans.{numbers_from}
 use Rattle.pst_trials.specs.Locks.{model, twice, act, scenario, choices, one_after_another}
+use Rattle.pst_legal.specs.Shape.{HasShape, HasClaimShape}
+use Rattle.pst_trials.proofs.Legality.{shape_by}
+use Rattle.pst_scen.specs.Conflicts.{Resource}
 
 pub reads_parallel_locks : read (model true (Parallel twice)) 1 1 0 choices ≡ Whole (scenario true fill.Parallel)
 unfolding generator_at u32_at pcg32_seed word_bytes numbers_from
@@ -293,6 +294,14 @@ parallel_holds locks = holds_by (model locks (Parallel twice)) (scenario locks f
   firsts = (tt, (tt, tt));
 })
 
+any_order_shape : (locks : Bool) → HasShape (model locks (Schedule twice)) (scenario locks fill.Schedule)
+any_order_shape locks = shape_by (model locks (Schedule twice)) (scenario locks fill.Schedule) (record { type = _; is = refl; activity = _; compound = refl; inside = lit< tt; many = refl }, (tt, (tt, (tt, tt))))
+    (record { type = _; is = refl; atomic = refl; inside = lit< tt; many_fields = refl; many_references = refl; references = λ k reference filled is. absurd (none_some reference is); many_claims = refl; claims = each_both (λ k c d. HasClaimShape (model locks (Schedule twice)) c d) (claim locks 0 ∷ []) (act locks 2).claims (record { pool = lit< tt; values = record { type = _; is = refl; many = refl } }, tt) }, (record { type = _; is = refl; atomic = refl; inside = lit< tt; many_fields = refl; many_references = refl; references = λ k reference filled is. absurd (none_some reference is); many_claims = refl; claims = each_both (λ k c d. HasClaimShape (model locks (Schedule twice)) c d) (claim locks 0 ∷ []) (act locks 3).claims (record { pool = lit< tt; values = record { type = _; is = refl; many = refl } }, tt) }, tt)) tt
+
+parallel_shape : (locks : Bool) → HasShape (model locks (Parallel twice)) (scenario locks fill.Parallel)
+parallel_shape locks = shape_by (model locks (Parallel twice)) (scenario locks fill.Parallel) (record { type = _; is = refl; activity = _; compound = refl; inside = lit< tt; many = refl }, (tt, (tt, (tt, tt))))
+    (record { type = _; is = refl; atomic = refl; inside = lit< tt; many_fields = refl; many_references = refl; references = λ k reference filled is. absurd (none_some reference is); many_claims = refl; claims = each_both (λ k c d. HasClaimShape (model locks (Parallel twice)) c d) (claim locks 0 ∷ []) (act locks 2).claims (record { pool = lit< tt; values = record { type = _; is = refl; many = refl } }, tt) }, (record { type = _; is = refl; atomic = refl; inside = lit< tt; many_fields = refl; many_references = refl; references = λ k reference filled is. absurd (none_some reference is); many_claims = refl; claims = each_both (λ k c d. HasClaimShape (model locks (Parallel twice)) c d) (claim locks 0 ∷ []) (act locks 3).claims (record { pool = lit< tt; values = record { type = _; is = refl; many = refl } }, tt) }, tt)) tt
+
 -- ---- legal scenarios
 
 pub whole_trace : IsLegalTrace (scenario true fill.Schedule) 2 one_after_another
@@ -303,6 +312,7 @@ whole = any_order_whole true
 
 pub locks_are_legal : Legal (model true (Schedule twice)) 1 (scenario true fill.Schedule)
 locks_are_legal = record {
+  shape = any_order_shape true;
   scenario = any_order_scenario true;
   fits = any_order_fits true;
   supplied = any_order_supplied true;
@@ -323,6 +333,7 @@ no_order =
 
 pub shares_are_legal : Legal (model false (Parallel twice)) 1 (scenario false fill.Parallel)
 shares_are_legal = record {
+  shape = parallel_shape false;
   scenario = parallel_scenario false;
   fits = parallel_fits false;
   supplied = parallel_supplied false;

@@ -29,6 +29,8 @@ use Rattle.pst_trials.proofs.Cases.{each, each_both, none_some, false_true}
 use Rattle.pst_trials.proofs.Branches.{each_parallel}
 use Rattle.pst_trials.proofs.Traces.{preorder_by, runs_by, starts_next, awaits, whole_by}
 use Rattle.pst_trials.proofs.Legality.{differ, in_preorder, are_linked, no_firsts, no_previous, no_chains, sources_by, bounds_by, inferred_by, none_inline, HoldsAt, holds_by, none_clashes}
+use Rattle.pst_legal.specs.Shape.{HasShape, HasClaimShape}
+use Rattle.pst_trials.proofs.Legality.{shape_by}
 
 pub reads_locks : read (model true) 1 1 0 choices ≡ Whole (scenario true)
 unfolding generator_at u32_at pcg32_seed word_bytes numbers_from
@@ -123,8 +125,13 @@ is_act = record {
       (record { is_pool = refl; lock = refl; pool = _; is = refl; within = lit< tt; values = tt }, (record { is_pool = refl; lock = refl; pool = _; is = refl; within = lit< tt; values = tt }, tt));
 }
 
+shape : HasShape m s
+shape = shape_by m s (record { type = _; is = refl; activity = _; compound = refl; inside = lit< tt; many = refl }, (tt, tt))
+    (record { type = _; is = refl; atomic = refl; inside = lit< tt; many_fields = refl; many_references = refl; references = λ k reference filled is. absurd (none_some reference is); many_claims = refl; claims = each_both (λ k c d. HasClaimShape m c d) (claim false 0 ∷ claim false 0 ∷ []) (act).claims (record { pool = lit< tt; values = record { type = _; is = refl; many = refl } }, (record { pool = lit< tt; values = record { type = _; is = refl; many = refl } }, tt)) }, tt) tt
+
 pub shares_are_legal : Legal m 1 s
 shares_are_legal = record {
+  shape = shape;
   scenario = record {
     nodes = in_preorder s.nodes (tt, (refl, tt));
     leaves = record { numbers = refl; nodes = refl };

@@ -18,6 +18,15 @@ use Rattle.pst_trials.proofs.LocksTried.{in_order, stand, first_claims, second_c
 use Rattle.pst_trials.proofs.BindsTried.{in_order as bound_in_order, stand as bound_stand, order as bound_order}
 use Rattle.pst_trials.proofs.OwnClaimsTried.{in_order as twice_in_order, locks_clash}
 use Rattle.pst_trials.proofs.StatesTried.{second_before_itself}
+use Rattle.std.proofs.Common.{◌↔◌, get_or, ◌≢◌, subst}
+use Rattle.pst_scen.specs.Rows.{Has}
+use Rattle.pst_scen.specs.Order.{Itself}
+use Rattle.pst_scen.specs.Conflicts.{Conflict, Resource}
+use Rattle.pst_scen.specs.Plans.{IsPlanOf, IsGroupNumber}
+use Rattle.pst_trials.specs.Refused.{plan}
+use Rattle.pst_trials.proofs.LocksTried.{locks_conflict, locks_are_legal}
+use Rattle.pst_trials.proofs.Traces.{each_below}
+use Rattle.pst_trials.proofs.Legality.{differ}
 
 -- groups of one member don't clash, where no action clashes with itself
 no_group_clash : (s : Scenario) → EachPair (λ b c. ⊥) (streams s) → ((a : ℕ) → ClashesAlone s a → ⊥) → HasNoGroupClash s
@@ -125,4 +134,42 @@ locks_in_any_order = record {
   no_group_clash = no_group_clash (claiming true fill.Schedule) tt (one_lock true fill.Schedule);
   no_parallel_order = λ a b ordered. no_stand a b ordered.parallel;
   no_parallel_clash = λ a b clash. no_stand a b clash.parallel;
+}
+
+-- ---- a plan
+
+abbrev locked : Scenario
+locked = claiming true fill.Schedule
+
+abbrev IsSet : ℕ → Type 0
+IsSet n = n ≢ 0
+
+no_bit : (a b : ℕ) → IsSet 0 ↔ Must locked a b
+no_bit a b = ((λ set. absurd (set refl)), (λ must. absurd (no_order_in_any a b must)))
+
+own_group : (a : ℕ) → IsGroupNumber locked a a
+own_group a = record { member = Itself; least = λ b together. subst (λ c. a ≤ c) (sym (itself_alone locked tt a b together)) (let same : a ≤ a = omega arith in same) }
+
+same_conflict : (a : ℕ) → IsSet 0 ↔ Conflict locked a a
+same_conflict a = ((λ set. absurd (set refl)), (λ conflict. absurd (conflict.0 refl)))
+
+first_conflict : IsSet 2 ↔ Conflict locked 0 1
+first_conflict = ((λ set. locks_conflict), (λ conflict. differ 2 0 refl))
+
+second_conflict : IsSet 1 ↔ Conflict locked 1 0
+second_conflict = ((λ set. (differ 1 0 refl, Resource 0 0 true true (second_claims true fill.Schedule) (first_claims true fill.Schedule) (inl refl))), (λ conflict. differ 1 0 refl))
+
+pub plan_of_locks : IsPlanOf locked plan
+plan_of_locks = record {
+  entries = record {
+    many = refl;
+    group = each_below (λ a. IsGroupNumber locked a (get_or plan.groups a 0)) 2 (own_group 0, (own_group 1, tt));
+    must = λ a b a_in b_in. each_below (λ a. Has plan.must a b ↔ Must locked a b) 2
+        (each_below (λ b. Has plan.must 0 b ↔ Must locked 0 b) 2 (no_bit 0 0, (no_bit 0 1, tt)) b b_in, (each_below (λ b. Has plan.must 1 b ↔ Must locked 1 b) 2 (no_bit 1 0, (no_bit 1 1, tt)) b b_in, tt)) a a_in;
+    conflict = λ a b a_in b_in. each_below (λ a. Has plan.conflict a b ↔ Conflict locked a b) 2
+        (each_below (λ b. Has plan.conflict 0 b ↔ Conflict locked 0 b) 2 (same_conflict 0, (first_conflict, tt)) b b_in, (each_below (λ b. Has plan.conflict 1 b ↔ Conflict locked 1 b) 2 (second_conflict, (same_conflict 1, tt)) b b_in, tt)) a a_in;
+  };
+  parallel = locks_are_legal.parallel;
+  alone = locks_are_legal.alone;
+  runs = locks_are_legal.runs;
 }

@@ -21,34 +21,9 @@ use Rattle.pst_legal.specs.Standing.{AtTop, Below, InTurn}
 use Rattle.pst_scen.specs.Tree.{AtTop as UnderTop, Below as UnderBelow}
 use Rattle.std.proofs.Common.{lit<}
 use Rattle.pst_trials.proofs.Traces.{no_joins}
-use Rattle.std.proofs.Common.{◌≢◌, ◌<◌, ◌⊎◌, suc, zero, inl, inr, false, true, nat_eq, sym, ◌∙◌, subst, eq-eqb, lit≤, true≢false, length, get_or, arith, Contains, not-suc-le-zero, slice_get, replicate, Bool, ℕ}
-use Rattle.pst_scen.specs.declared.act.Act.{Act as Acting}
-use Rattle.pst_scen.specs.declared.act.Filled.{Filled}
-use Rattle.pst_scen.specs.declared.act.Claimed.{Claimed}
-use Rattle.pst_scen.specs.declared.event.Event.{Event}
-use Rattle.pst_model.specs.declared.action.Claim.{Claim}
-use Rattle.pst_model.specs.ModelTree.{ModelTree}
-use Rattle.pst_legal.specs.Growing.{nothing_yet, most_levels, Inner, Leaf, Look}
-use Rattle.pst_legal.specs.Pieces.{Piece, Action, Statement, IsActionWay, IsWay}
-use Rattle.pst_scen.specs.Tree.{IsReleased}
-use Rattle.pst_scen.specs.Flows.{Claims, Feeds, Refers, FromFirst, FromSecond}
-use Rattle.pst_scen.specs.Order.{Must, Cause, Buffer, Sequence, Directly, Through, Itself, Linked, Together}
-use Rattle.pst_scen.specs.Conflicts.{Conflict, Resource}
-use Rattle.pst_scen.specs.Trace.{Starts, Ends, Started, Ended, Runs, MayStart, AreFree, StartsOn}
-use Rattle.pst_scen.specs.Laws.{IsPreorder}
-use Rattle.pst_scen.specs.Scenarios.{IsScenario}
-use Rattle.pst_scen.specs.Plans.{StandParallel, ClashesAlone, KeepsParallel}
-use Rattle.pst_legal.specs.Fits.{Fills, FillsRoot, Fits, HasValues, IsActOf, IsReferenceOf, IsClaimOf, IsSameLeaf}
-use Rattle.pst_legal.specs.Supplied.{Supplied}
-use Rattle.pst_legal.specs.Binds.{bounds_of}
-use Rattle.pst_legal.specs.Constraints.{Holds}
-use Rattle.pst_trials.proofs.Cases.{each, each_both, each_contained, EachOf, none_some, false_true}
-use Rattle.pst_trials.proofs.Branches.{each_parallel}
-use Rattle.pst_trials.proofs.Orders.{each_conflict, each_contend, each_must, each_must_alone, each_cause, each_before, each_feeds, each_refers, each_together}
-use Rattle.pst_trials.proofs.Traces.{When, due, on_start, each_start, each_below, preorder_by, here, runs_by, starts_next, awaits, whole_by}
-use Rattle.pst_trials.proofs.Legality.{differ, in_preorder, are_linked, no_firsts, no_previous, no_chains, sources_by, bounds_by, inferred_by, holds_by, none_clashes}
-use Rattle.pst_trials.specs.Parts.{input, output, claim}
-use Rattle.std.proofs.Common.{List}
+use Rattle.pst_legal.specs.Growing.{nothing_yet, most_levels, Leaf}
+use Rattle.pst_legal.specs.Pieces.{Action, IsActionWay}
+use Rattle.pst_legal.specs.Fits.{Fills, FillsRoot}
 use Rattle.pst_scen.specs.declared.scenario.Scenario.{Scenario}
 use Rattle.pst_trials.specs.Parts.{act_with}
 
@@ -121,12 +96,29 @@ way : IsActionWay three 0 (Some 0) (Leaf 0 0) []
 way = record { type = _; is = refl; instance = 0; inside = (0, lit< tt, refl); content = (refl, refl) }
 
 tree_fills : Fills three most_levels (Action 1 None) None (nothing_yet 0) tree
-tree_fills =
-    (_, _, record { type = _; is = refl; instance = 0; inside = (0, lit< tt, refl); content = ([], tt, refl, refl) },
-      (_, (_, _, (3, refl, refl, refl),
-        (_, (_, _, (refl, refl), (_, (_, _, (refl, refl), (_, (_, _, (pos 0, refl, refl, refl), refl), refl)), refl)),
-        (_, (_, _, (refl, refl), (_, (_, _, (refl, refl), (_, (_, _, (pos 1, refl, refl, refl), (_, (_, _, way, refl), refl)), refl)), refl)),
-        (_, (_, _, (refl, refl), (_, (_, _, (refl, refl), (_, (_, _, (pos 0, refl, refl, refl), refl), refl)), refl)), refl)))), refl))
+tree_fills = (
+  _,
+  _,
+  record { type = _; is = refl; instance = 0; inside = (0, lit< tt, refl); content = ([], tt, refl, refl) },
+  (
+    _,
+    (
+      _,
+      _,
+      (3, refl, refl, refl),
+      (
+        _,
+        (_, _, (refl, refl), (_, (_, _, (refl, refl), (_, (_, _, (pos 0, refl, refl, refl), refl), refl)), refl)),
+        (
+          _,
+          (_, _, (refl, refl), (_, (_, _, (refl, refl), (_, (_, _, (pos 1, refl, refl, refl), (_, (_, _, way, refl), refl)), refl)), refl)),
+          (_, (_, _, (refl, refl), (_, (_, _, (refl, refl), (_, (_, _, (pos 0, refl, refl, refl), refl), refl)), refl)), refl),
+        ),
+      ),
+    ),
+    refl,
+  ),
+)
 
 pub fills : FillsRoot three 1 scenario
 fills = record { tree = tree; fills = tree_fills; nodes = refl; leaves = (record { action = refl; instance = refl; node = refl }, tt) }

@@ -13,42 +13,31 @@ use Rattle.pst_expr.specs.Spans.{numbers_from}
 use Rattle.pst_trials.specs.Selects.{above_five, below_nine, branches, arms, arm_of_three, model, scenario, both, taken}
 use Rattle.pst_legal.specs.Legal.{Legal}
 use Rattle.pst_scen.specs.declared.event.Event.TheVariants.{End}
-use Rattle.pst_scen.specs.Trace.{IsLegalTrace, IsWhole}
+use Rattle.pst_scen.specs.Trace.{IsLegalTrace}
 use Rattle.pst_trials.specs.Parts.{start}
 use Rattle.std.proofs.Common.{Any}
 use Rattle.pst_expr.specs.Spans.{IsInSpan}
 use Rattle.pst_legal.specs.Pieces.{IsValueOf}
 use lib.Signed.{le_z_yes}
 use Rattle.pst_trials.proofs.Legality.{HoldsAt, none_inline}
-use Rattle.std.proofs.Common.{◌≢◌, ◌<◌, ◌⊎◌, suc, zero, inl, inr, false, true, nat_eq, sym, ◌∙◌, subst, eq-eqb, lit<, lit≤, true≢false, length, get_or, arith, Contains, not-suc-le-zero, slice_get, replicate, Bool, ℕ}
-use Rattle.pst_scen.specs.declared.act.Act.{Act as Acting}
-use Rattle.pst_scen.specs.declared.act.Filled.{Filled}
-use Rattle.pst_scen.specs.declared.act.Claimed.{Claimed}
+use Rattle.std.proofs.Common.{inl, false, lit<, lit≤, ℕ}
 use Rattle.pst_scen.specs.declared.event.Event.{Event}
-use Rattle.pst_model.specs.declared.action.Claim.{Claim}
 use Rattle.pst_model.specs.ModelTree.{ModelTree}
-use Rattle.pst_legal.specs.Growing.{nothing_yet, most_levels, Inner, Leaf, Look}
-use Rattle.pst_legal.specs.Pieces.{Piece, Action, Statement, IsActionWay, IsWay}
-use Rattle.pst_scen.specs.Tree.{AtTop, Below, IsReleased}
-use Rattle.pst_scen.specs.Flows.{Claims, Feeds, Refers, FromFirst, FromSecond}
-use Rattle.pst_scen.specs.Order.{Must, Cause, Before, Buffer, Sequence, Directly, Through, Itself, Linked, Together}
-use Rattle.pst_scen.specs.Conflicts.{Conflict, Resource}
-use Rattle.pst_scen.specs.Trace.{Starts, Ends, Started, Ended, Runs, MayStart, AreFree, StartsOn}
+use Rattle.pst_legal.specs.Growing.{nothing_yet, most_levels, Leaf}
+use Rattle.pst_legal.specs.Pieces.{Action, IsActionWay}
+use Rattle.pst_scen.specs.Order.{Must}
+use Rattle.pst_scen.specs.Trace.{Starts, Ends}
 use Rattle.pst_scen.specs.Laws.{IsPreorder}
-use Rattle.pst_scen.specs.Scenarios.{IsScenario}
-use Rattle.pst_scen.specs.Plans.{StandParallel, ClashesAlone, KeepsParallel}
-use Rattle.pst_legal.specs.Fits.{Fills, FillsRoot, Fits, HasValues, IsActOf, IsReferenceOf, IsClaimOf, IsSameLeaf}
-use Rattle.pst_legal.specs.Supplied.{Supplied}
+use Rattle.pst_legal.specs.Fits.{Fills, IsActOf}
 use Rattle.pst_legal.specs.Binds.{bounds_of}
-use Rattle.pst_legal.specs.Constraints.{Holds}
-use Rattle.pst_trials.proofs.Cases.{each, each_both, each_contained, EachOf, none_some, false_true}
+use Rattle.pst_trials.proofs.Cases.{each, none_some}
 use Rattle.pst_trials.proofs.Branches.{each_parallel}
-use Rattle.pst_trials.proofs.Orders.{each_conflict, each_contend, each_must, each_must_alone, each_cause, each_before, each_feeds, each_refers, each_together}
-use Rattle.pst_trials.proofs.Traces.{When, due, on_start, each_start, each_below, preorder_by, here, runs_by, starts_next, awaits, whole_by, no_joins}
-use Rattle.pst_trials.proofs.Legality.{differ, in_preorder, are_linked, no_firsts, no_previous, no_chains, sources_by, bounds_by, inferred_by, holds_by, none_clashes}
-use Rattle.pst_trials.specs.Parts.{input, output, claim}
+use Rattle.pst_trials.proofs.Traces.{preorder_by, runs_by, starts_next, awaits, whole_by}
+use Rattle.pst_trials.proofs.Legality.{in_preorder, are_linked, no_firsts, no_previous, no_chains, sources_by, bounds_by, inferred_by, holds_by, none_clashes}
 use Rattle.std.proofs.Common.{List, pos}
 use Rattle.pst_trials.specs.Parts.{field_to, act_of, span}
+use Rattle.pst_legal.specs.Shape.{HasShape}
+use Rattle.pst_trials.proofs.Legality.{shape_by}
 
 pub word_one : word_of 1 1 ≡ 319104231195455319
 unfolding generator_at u32_at pcg32_seed word_bytes numbers_from
@@ -117,11 +106,19 @@ trace : IsLegalTrace scenario 1 in_sequence
 trace = record {
   blocks = Ends 1 ∷ Starts (1 ∷ []) (0 ∷ []) ∷ Ends 0 ∷ Starts (0 ∷ []) (0 ∷ []) ∷ [];
   are = refl;
-  legal = ((((tt
-    , starts_next scenario 1 [] 0 0 tt (lit< tt) (lit< tt) tt (awaits scenario [] 0 in_order (tt, tt)) tt tt)
-    , runs_by (start 0 0 ∷ []) 0 0 false (0, lit< tt, refl) (tt, tt))
-    , starts_next scenario 1 (start 0 0 ∷ End 0 ∷ []) 1 0 tt (lit< tt) (lit< tt) ((tt, inl (1, lit< tt, refl)), (tt, tt)) (awaits scenario (start 0 0 ∷ End 0 ∷ []) 1 in_order ((1, lit< tt, refl), tt)) tt tt)
-    , runs_by (start 0 0 ∷ End 0 ∷ start 1 0 ∷ []) 1 0 false (2, lit< tt, refl) (tt, (tt, (tt, tt))));
+  legal = (
+    (
+      (
+        (
+          tt,
+          starts_next scenario 1 [] 0 0 tt (lit< tt) (lit< tt) tt (awaits scenario [] 0 in_order (tt, tt)) tt tt,
+        ),
+        runs_by (start 0 0 ∷ []) 0 0 false (0, lit< tt, refl) (tt, tt),
+      ),
+      starts_next scenario 1 (start 0 0 ∷ End 0 ∷ []) 1 0 tt (lit< tt) (lit< tt) ((tt, inl (1, lit< tt, refl)), (tt, tt)) (awaits scenario (start 0 0 ∷ End 0 ∷ []) 1 in_order ((1, lit< tt, refl), tt)) tt tt,
+    ),
+    runs_by (start 0 0 ∷ End 0 ∷ start 1 0 ∷ []) 1 0 false (2, lit< tt, refl) (tt, (tt, (tt, tt))),
+  );
 }
 
 way : IsActionWay m 1 (Some 0) (Leaf 1 0) []
@@ -135,19 +132,35 @@ in_second_arm : Any (IsInSpan (pos 3)) (span 3 3 ∷ [])
 in_second_arm = (0, span 3 3, lit< tt, refl, (le_z_yes tt, le_z_yes tt))
 
 fills : Fills m most_levels (Action 2 None) None (nothing_yet 0) scenario
-fills =
-    (_, _, record { type = _; is = refl; instance = 0; inside = (0, lit< tt, refl); content = (pos 3 ∷ [], (three_is_small, tt), refl, refl) },
-      (_, (_, _, record { index = 1; branch = _; is = refl; holds = refl; looks = refl; stands = refl }, (_, (_, _, way, refl), refl)),
-        (_, (_, _, (pos 3, refl, inl (1, _, (refl, in_second_arm), refl, refl)), (_, (_, _, way, refl), refl)), refl)))
+fills = (
+  _,
+  _,
+  record { type = _; is = refl; instance = 0; inside = (0, lit< tt, refl); content = (pos 3 ∷ [], (three_is_small, tt), refl, refl) },
+  (
+    _,
+    (_, _, record { index = 1; branch = _; is = refl; holds = refl; looks = refl; stands = refl }, (_, (_, _, way, refl), refl)),
+    (_, (_, _, (pos 3, refl, inl (1, _, (refl, in_second_arm), refl, refl)), (_, (_, _, way, refl), refl)), refl),
+  ),
+)
 
 is_act : (n : ℕ) → IsActOf m (act_of 1 (Some n) [])
 is_act n = record {
-  type = _; is = refl; fields = tt; many_references = refl; references = λ k filled is. absurd (none_some filled is);
-  many_claims = refl; claims = λ k claim claimed is. absurd (none_some claim is);
+  type = _;
+  is = refl;
+  fields = tt;
+  many_references = refl;
+  references = λ k filled is. absurd (none_some filled is);
+  many_claims = refl;
+  claims = λ k claim claimed is. absurd (none_some claim is);
 }
+
+shape : HasShape m scenario
+shape = shape_by m scenario (record { type = _; is = refl; activity = _; compound = refl; inside = lit< tt; many = refl }, (tt, (tt, (tt, (tt, tt)))))
+    (record { type = _; is = refl; atomic = refl; inside = lit< tt; many_fields = refl; many_references = refl; references = λ k reference filled is. absurd (none_some reference is); many_claims = refl; claims = λ k claim claimed is. absurd (none_some claim is) }, (record { type = _; is = refl; atomic = refl; inside = lit< tt; many_fields = refl; many_references = refl; references = λ k reference filled is. absurd (none_some reference is); many_claims = refl; claims = λ k claim claimed is. absurd (none_some claim is) }, tt)) tt
 
 pub legal : Legal (model (branches None ∷ arms arm_of_three ∷ [])) 2 scenario
 legal = record {
+  shape = shape;
   scenario = record {
     nodes = in_preorder scenario.nodes (tt, (refl, (refl, (refl, (refl, tt)))));
     leaves = record { numbers = refl; nodes = refl };

@@ -52,6 +52,9 @@ use Rattle.pst_trials.proofs.Branches.{each_parallel}
 use Rattle.pst_trials.proofs.Orders.{each_refers}
 use Rattle.pst_trials.proofs.Traces.{preorder_by, here, runs_by, starts_next, awaits, whole_by, no_joins}
 use Rattle.pst_trials.proofs.Legality.{differ, in_preorder, are_linked, sources_by, bounds_by, inferred_by, none_inline, HoldsAt, holds_by, none_clashes}
+use Rattle.pst_legal.specs.Shape.{HasShape, HasReferenceShape}
+use Rattle.pst_trials.proofs.Legality.{shape_by}
+use Rattle.pst_trials.proofs.Cases.{each_both}
 
 pub reads : read one 2 1 1 choices ≡ Whole row
 unfolding generator_at u32_at pcg32_seed word_bytes numbers_from
@@ -289,9 +292,14 @@ supplied = record {
   numbered = (lit< tt, lit< tt, (lit< tt, tt, refl));
 }
 
+shape : HasShape one row
+shape = shape_by one row (record { type = _; is = refl; activity = _; compound = refl; inside = lit< tt; many = refl }, (tt, tt))
+    (record { type = _; is = refl; atomic = refl; inside = lit< tt; many_fields = refl; many_references = refl; references = each_both (λ k r f. HasReferenceShape one r f) (input 0 ∷ []) (reader).references (record { pool = lit< tt; output = λ e. absurd (false_true e); input = λ e. refl }, tt); many_claims = refl; claims = λ k claim claimed is. absurd (none_some claim is) }, (record { type = _; is = refl; atomic = refl; inside = lit< tt; many_fields = refl; many_references = refl; references = each_both (λ k r f. HasReferenceShape one r f) (output 0 ∷ []) (writer).references (record { pool = lit< tt; output = λ e. record { type = _; is = refl; many = refl }; input = λ e. absurd (true≢false e) }, tt); many_claims = refl; claims = λ k claim claimed is. absurd (none_some claim is) }, tt)) ((lit< tt, record { type = _; is = refl; many = refl }), tt)
+
 pub legal : Legal one 2 row
 legal = record {
   scenario = is_scenario;
+  shape = shape;
   fits = fits;
   supplied = supplied;
   holds = holds_by one row (record {

@@ -1,16 +1,14 @@
 -- The number of a claimed resource instance, and the values of its fields.
-use Rattle.std.specs.Prelude.{◌≡◌, ℕ, ℤ, pos, List, [], ◌∷◌, Bool, true, false, Option, Some, None}
-use Rattle.pst_expr.specs.declared.ranges.Span.{Span}
+use Rattle.std.specs.Prelude.{◌≡◌, ℕ, ℤ, pos, List, [], ◌∷◌, true, Some, None}
 use Rattle.pst_expr.specs.declared.tree.BinaryOp.TheVariants.{Equal, Add, Greater}
 use Rattle.pst_expr.specs.Tree.{Variable}
 use Rattle.pst_model.specs.declared.object.ObjectKind.TheVariants.{Resource}
-use Rattle.pst_model.specs.ConstraintTree.{ConstraintTree, SlotTree, Own, ClaimId, ClaimField, Id}
+use Rattle.pst_model.specs.ConstraintTree.{ConstraintTree, Own, ClaimId, ClaimField, Id}
 use Rattle.pst_model.specs.ModelTree.{ModelTree, ObjectTree}
 use Rattle.pst_scen.specs.declared.tree.Fill.TheVariants as fill
 use Rattle.pst_scen.specs.declared.act.Act.{Act}
-use Rattle.pst_scen.specs.declared.act.Claimed.{Claimed}
 use Rattle.pst_scen.specs.declared.scenario.Scenario.{Scenario}
-use Rattle.pst_legal.specs.Slots.{Standing, Known, Lacking, Between, act_slot, resource_slot}
+use Rattle.pst_legal.specs.Slots.{Known, Lacking, Between, act_slot, resource_slot}
 use Rattle.pst_legal.specs.Constraints.{HasConstraint, value_at}
 use Rattle.pst_legal.specs.First.{IsLive}
 use Rattle.pst_legal.specs.ValueReading.{Whole, read}
