@@ -9,10 +9,9 @@ use Rattle.pst_ast.specs.Limits.{Count, is_over, first_over}
 use Rattle.pst_ast.specs.Rule.{Rule}
 use Rattle.pst_ast.specs.TreeOf.{TreeOf}
 use Rattle.pst_ast.specs.SpellOf.{spell_of}
-use Rattle.pst_ast.specs.ProperOf.{IsProperOf}
 use Rattle.pst_ast.specs.CountsOf.{counts_of}
 use Rattle.pst_ast.specs.Viable.{IsViable}
-use Rattle.pst_ast.specs.Answers.{through, IsRead, IsStopped, IsTooDeep}
+use Rattle.pst_ast.specs.Answers.{IsRead, IsStopped, IsTooDeep}
 use Rattle.pst_ast.specs.Laws.{AnswersAgree}
 use Rattle.pst_ast.proofs.Fronts.{viable_begins}
 

@@ -1,5 +1,5 @@
 -- Reading what an expression spells gives the expression back, so at most one proper expression spells it.
-use Rattle.std.proofs.Common.{◌≡◌, ℕ, zero, suc, ◌+◌, ◌-◌, ◌<◌, ◌≤◌, List, [], ◌∷◌, ◌++◌, Option, Some, None, Bool, true, false, refl, ap, sym, ◌∙◌, arith, append_assoc}
+use Rattle.std.proofs.Common.{◌≡◌, ℕ, zero, suc, ◌+◌, ◌-◌, ◌<◌, ◌≤◌, List, [], ◌∷◌, ◌++◌, Some, None, true, false, refl, ap, sym, ◌∙◌, arith, append_assoc}
 use Rattle.std.specs.Prelude.{ltb}
 use Rattle.pst_base.specs.declared.position.Place.{Place}
 use Rattle.pst_token.specs.declared.token.Token.{Token}
@@ -9,8 +9,8 @@ use Rattle.pst_ast.specs.declared.leaf.Operator.{Operator}
 use Rattle.pst_ast.specs.declared.leaf.PrefixOperator.{PrefixOperator}
 use Rattle.pst_ast.specs.declared.leaf.Operator.TheVariants as the_operator
 use Rattle.pst_ast.specs.declared.leaf.PrefixOperator.TheVariants as the_prefix_operator
-use Rattle.pst_ast.specs.Marks.{mark, name_token, operator_kind, prefix_operator_kind}
-use Rattle.pst_ast.specs.ExpressionTree.{ExprTree, ExprUnary, ExprBinary, ExprIn, UnaryTree, UnaryPrefix, UnaryPrimary, PrimaryTree, PrimaryNumber, PrimaryTrue, PrimaryFalse, PrimaryPath, PrimaryGroup, PathTree, PathDotted, PathItem, PathLongItem, PartTree, MakePart, NextPartTree, MakeNextPart, IndexTree, MakeIndex, RangesTree, MakeRanges, NextRangeTree, MakeNextRange, RangeTree, RangeSingle, RangeBetween, NextPartRow, NoNextPartRow, MoreNextPartRow, MaybeIndex, NoIndex, SomeIndex, NextRangeRow, NoNextRangeRow, MoreNextRangeRow}
+use Rattle.pst_ast.specs.Marks.{mark, operator_kind, prefix_operator_kind}
+use Rattle.pst_ast.specs.ExpressionTree.{ExprTree, ExprUnary, ExprBinary, ExprIn, UnaryTree, UnaryPrefix, UnaryPrimary, PrimaryTree, PrimaryNumber, PrimaryTrue, PrimaryFalse, PrimaryPath, PrimaryGroup, PathTree, PathDotted, PathItem, PathLongItem, PartTree, MakePart, MakeNextPart, MakeIndex, RangesTree, MakeRanges, MakeNextRange, RangeTree, RangeSingle, RangeBetween, NextPartRow, NoNextPartRow, MoreNextPartRow, NoIndex, SomeIndex, NextRangeRow, NoNextRangeRow, MoreNextRangeRow}
 use Rattle.pst_ast.specs.ExpressionSpelling.{spell_expr, spell_unary, spell_primary, spell_path, spell_part, spell_next_part_row, spell_ranges, spell_range, spell_next_range_row}
 use Rattle.pst_ast.specs.ExpressionProper.{level_of, level, IsProperExpr, IsProperUnary, IsProperPrimary, IsProperPath, IsProperPart, IsProperRanges, IsProperRange, AreProperNextPart, AreProperNextRange}
 use Rattle.pst_ast.specs.Laws.{OneTreeOfExpressions}

@@ -1,6 +1,6 @@
 -- Reading an expression from its tokens, from left to right. E reads the expressions in it; m bounds how many operators or parts stand in a row.
 use Rattle.std.proofs.Common.{ℕ, zero, suc, ◌+◌, List, [], ◌∷◌, Option, Some, None, Bool, true, false}
-use Rattle.std.specs.Prelude.{if◌then◌else◌, ltb, pos}
+use Rattle.std.specs.Prelude.{if◌then◌else◌, ltb}
 use Rattle.pst_base.specs.declared.position.Place.{Place}
 use Rattle.pst_token.specs.declared.token.Token.{Token}
 use Rattle.pst_token.specs.declared.kind.Kind.{Kind}

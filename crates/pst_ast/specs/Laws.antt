@@ -1,7 +1,7 @@
 -- Laws of the grammar.
 use Rattle.std.specs.Prelude.{ℕ, ◌≡◌, List, [], ◌∷◌, ◌++◌}
 use Rattle.pst_token.specs.declared.token.Token.{Token}
-use Rattle.pst_ast.specs.Rule.{Rule, TheExpr, TheLeft, TheRight, TheLeftOfIn, TheUnary, ThePrimary, ThePath, ThePart, TheRanges, TheRange}
+use Rattle.pst_ast.specs.Rule.{Rule, TheExpr, TheLeft, TheRight, TheLeftOfIn, TheUnary, ThePrimary, ThePath, ThePart, TheRanges, TheRange, TheOption, TheList}
 use Rattle.pst_ast.specs.declared.leaf.Operator.{Operator}
 use Rattle.pst_ast.specs.Answers.{IsRead, IsStopped, IsTooDeep}
 use Rattle.pst_ast.specs.TreeOf.{TreeOf}
@@ -39,9 +39,15 @@ ViableFrontsBegin = (rule : Rule) (front more : List Token) → IsViable rule (f
 abbrev pub AtMostOneTree : Rule → Type 0
 AtMostOneTree rule = (first second : TreeOf rule) → IsProperOf rule first → IsProperOf rule second → spell_of rule first ≡ spell_of rule second → first ≡ second
 
+-- whether a rule is one of the grammar's own, and no part left out or repeated
+abbrev pub IsNamed : Rule → Type 0
+IsNamed (TheOption part) = ⊥
+IsNamed (TheList part) = ⊥
+IsNamed _ = Unit {0}
+
 -- for every rule of the grammar
 abbrev pub OneTreeOfEachRule : Type 0
-OneTreeOfEachRule = (rule : Rule) → AtMostOneTree rule
+OneTreeOfEachRule = (rule : Rule) → IsNamed rule → AtMostOneTree rule
 
 -- for the rules of expressions
 abbrev pub OneTreeOfExpressions : Type 0
