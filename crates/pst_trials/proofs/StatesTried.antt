@@ -19,7 +19,7 @@ use Rattle.rand_core.specs.Steps.{u32_at, word_bytes}
 use Rattle.rand_core.specs.Pcg32Seed.{pcg32_seed}
 use Rattle.pst_rng.specs.Words.{generator_at}
 use Rattle.pst_expr.specs.Spans.{numbers_from}
-use Rattle.pst_trials.specs.States.{at_first, one_more, is_one, state, written, reader, scenario, one, row, choices, of_written, of_first, of_reader, writer_first, replaced}
+use Rattle.pst_trials.specs.States.{writers, at_first, one_more, is_one, state, written, reader, scenario, one, row, choices, of_written, of_first, of_reader, writer_first, replaced}
 use Rattle.pst_scen.specs.Conflicts.{Uses, SecondWrites}
 use Rattle.pst_scen.specs.Order.{Source, Replaced}
 use Rattle.pst_scen.specs.Flows.{Reads, Writes}
@@ -55,6 +55,9 @@ use Rattle.pst_trials.proofs.Legality.{differ, in_preorder, are_linked, sources_
 use Rattle.pst_legal.specs.Shape.{HasShape, HasReferenceShape}
 use Rattle.pst_trials.proofs.Legality.{shape_by}
 use Rattle.pst_trials.proofs.Cases.{each_both}
+use Rattle.pst_legal.specs.Supplied.{AfterWriter}
+use Rattle.pst_trials.specs.States.{two}
+use Rattle.std.proofs.Common.{List}
 
 pub reads : read one 2 1 1 choices ≡ Whole row
 unfolding generator_at u32_at pcg32_seed word_bytes numbers_from
@@ -347,3 +350,37 @@ reader_before_second =
 
 pub second_before_itself : Must replaced 1 1
 second_before_itself = Through 1 2 1 (Directly 1 2 2 (differ 1 2 refl, Sequence before) Itself) reader_before_second
+
+-- ---- chains of writers
+
+pub options_in_chain : places two 2 1 0 (0 ∷ 0 ∷ 0 ∷ 1 ∷ 0 ∷ 0 ∷ 0 ∷ 1 ∷ []) ≡ Some 1 ∷ Some 1 ∷ Some 1 ∷ Some 2 ∷ Some 1 ∷ Some 4 ∷ Some 4 ∷ Some 4 ∷ []
+unfolding generator_at u32_at pcg32_seed word_bytes numbers_from
+options_in_chain = refl
+
+pub reads_chain : read two 2 1 0 (0 ∷ 0 ∷ 0 ∷ 1 ∷ 0 ∷ 0 ∷ 0 ∷ 1 ∷ []) ≡ Whole (writers link.Initial (link.Act 0 0))
+unfolding generator_at u32_at pcg32_seed word_bytes numbers_from
+reads_chain = refl
+
+pub options_back : places two 2 1 0 (0 ∷ 0 ∷ 0 ∷ 0 ∷ 1 ∷ []) ≡ Some 1 ∷ Some 1 ∷ Some 1 ∷ Some 2 ∷ Some 2 ∷ []
+unfolding generator_at u32_at pcg32_seed word_bytes numbers_from
+options_back = refl
+
+pub reads_ring : read two 2 1 0 (0 ∷ 0 ∷ 0 ∷ 0 ∷ 1 ∷ 0 ∷ 0 ∷ 1 ∷ []) ≡ Whole (writers (link.Act 1 0) (link.Act 0 0))
+unfolding generator_at u32_at pcg32_seed word_bytes numbers_from
+reads_ring = refl
+
+abbrev ring : List Acting
+ring = (writers (link.Act 1 0) (link.Act 0 0)).actions
+
+no_first : (a r : ℕ) (filled : Filled) → reference_at ring a r ≡ Some filled → filled.link ≡ link.Initial → ⊥
+no_first = each_reference (λ a r filled. filled.link ≡ link.Initial → ⊥) ring (((λ is. cc is), tt), (((λ is. cc is), tt), tt))
+
+no_chain : (a r : ℕ) → ComesFromFirst ring a r → ⊥
+no_chain _ _ (AtFirst a r filled is first) = no_first a r filled is first
+no_chain _ _ (AfterWriter a r b q filled is to rest) = no_chain b q rest
+
+pub ring_isn't_supplied : Supplied two (writers (link.Act 1 0) (link.Act 0 0)) → ⊥
+ring_isn't_supplied supplied = no_chain 0 0 (supplied.chains 0 0 _ refl refl)
+
+pub chain_from_first : ComesFromFirst (writers link.Initial (link.Act 0 0)).actions 1 0
+chain_from_first = AfterWriter 1 0 0 0 _ refl refl (AtFirst 0 0 _ refl refl)

@@ -27,6 +27,8 @@ use Rattle.rand_core.specs.Pcg32Seed.{pcg32_seed}
 use Rattle.pst_rng.specs.Words.{generator_at}
 use Rattle.pst_expr.specs.Spans.{numbers_from}
 use Rattle.pst_trials.specs.Streams.{model, scenario, in_pairs}
+use Rattle.pst_legal.specs.ValueReading.{Dead}
+use Rattle.pst_trials.specs.Streams.{bound, kept}
 
 pub reads : read model 2 1 2 (0 ∷ 0 ∷ 0 ∷ 0 ∷ 0 ∷ []) ≡ Whole scenario
 unfolding generator_at u32_at pcg32_seed word_bytes numbers_from
@@ -223,3 +225,17 @@ trace = record {
 
 pub whole : IsWhole scenario in_pairs
 whole = whole_by scenario in_pairs ((2, lit< tt, refl), ((7, lit< tt, refl), ((3, lit< tt, refl), ((6, lit< tt, refl), tt))))
+
+-- ---- an end that a bind fixes
+
+pub bound_options : places bound 2 1 1 (0 ∷ 0 ∷ 0 ∷ 0 ∷ 1 ∷ 0 ∷ []) ≡ Some 1 ∷ Some 1 ∷ Some 1 ∷ Some 1 ∷ Some 2 ∷ Some 1 ∷ []
+unfolding generator_at u32_at pcg32_seed word_bytes
+bound_options = refl
+
+pub taken_end : read bound 2 1 1 (0 ∷ 0 ∷ 0 ∷ 0 ∷ 0 ∷ []) ≡ Dead
+unfolding generator_at u32_at pcg32_seed word_bytes
+taken_end = refl
+
+pub kept_end : read bound 2 1 1 (0 ∷ 0 ∷ 0 ∷ 0 ∷ 1 ∷ 0 ∷ []) ≡ Whole kept
+unfolding generator_at u32_at pcg32_seed word_bytes
+kept_end = refl

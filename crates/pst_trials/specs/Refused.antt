@@ -1,8 +1,7 @@
 -- Why scenarios of the other trials have no plan, and the plan of one that has one.
-use Rattle.std.specs.Prelude.{true, ℕ, List, [], ◌∷◌}
+use Rattle.std.specs.Prelude.{true, [], ◌∷◌}
 use Rattle.pst_scen.specs.declared.tree.Fill.TheVariants as fill
-use Rattle.pst_scen.specs.declared.rows.Rows.{Rows}
-use Rattle.pst_scen.specs.Plan.{Entries, widest}
+use Rattle.pst_scen.specs.Plan.{Entries}
 use Rattle.pst_scen.specs.Plans.{IsPlanOf}
 use Rattle.pst_scen.specs.Refusals.{IsRefused, IsUnrefused, Cycle, GroupClash, ParallelOrder, ParallelClash}
 use Rattle.pst_trials.specs.Locks.{scenario as claiming}

@@ -11,6 +11,7 @@ use Rattle.pst_scen.specs.declared.tree.Fill.TheVariants as fill
 use Rattle.pst_scen.specs.declared.act.Act.{Act}
 use Rattle.pst_scen.specs.declared.act.Filled.{Filled}
 use Rattle.pst_scen.specs.declared.act.Flow.TheVariants.{StateIn, StateOut}
+use Rattle.pst_scen.specs.declared.act.Link.{Link}
 use Rattle.pst_scen.specs.declared.act.Link.TheVariants as link
 use Rattle.pst_scen.specs.declared.scenario.Scenario.{Scenario}
 use Rattle.pst_scen.specs.declared.event.Event.{Event}
@@ -21,6 +22,7 @@ use Rattle.pst_scen.specs.Order.{Must}
 use Rattle.pst_scen.specs.Conflicts.{Conflict}
 use Rattle.pst_scen.specs.Trace.{MayCome, Starts, IsLegalTrace, IsWhole, last_writer}
 use Rattle.pst_scen.specs.Plans.{CanRun}
+use Rattle.pst_legal.specs.Supplied.{Supplied, ComesFromFirst}
 use Rattle.pst_legal.specs.Legal.{Legal}
 use Rattle.pst_legal.specs.ValueReading.{Whole, read}
 use Rattle.pst_trials.specs.Parts.{name, field_to, atomic, compound, top, pool_of, serve, traverse, input, output, number, by, constraint, act_of, filled, root_node, node, scenario_of, start, places}
@@ -97,6 +99,17 @@ replaced = scenario_of 0
     ∷ act_of 1 (Some 3) (filled StateIn [] (link.Act 0 0) ∷ []) ∷ [])
     (record { pool = 0; values = pos 0 ∷ [] } ∷ [])
 
+-- do W; do W;
+abbrev pub two : ModelTree
+two = model (traverse 0 ∷ traverse 0 ∷ [])
+
+-- two writers with these previous ones; the first object has 0, and the writers write 1 and 2
+abbrev pub writers : Link → Link → Scenario
+writers first second = scenario_of 0
+    (root_node 2 [] ∷ node 0 (fill.Leaf 0) ∷ node 0 (fill.Leaf 1) ∷ [])
+    (act_of 0 (Some 1) (filled StateOut (pos 1 ∷ []) first ∷ []) ∷ act_of 0 (Some 2) (filled StateOut (pos 2 ∷ []) second ∷ []) ∷ [])
+    (record { pool = 0; values = pos 0 ∷ [] } ∷ [])
+
 pub record StatesAreTried : Type 0 where
   -- a reader may read the first object or a new writer's; then the writer's previous one, and two values
   pub reads : read one 2 1 1 choices ≡ Whole row
@@ -136,3 +149,13 @@ pub record StatesAreTried : Type 0 where
   pub reader_before_second : Must replaced 2 1
   pub second_before_itself : Must replaced 1 1
   pub replaced_can't_run : CanRun replaced → ⊥
+  -- Of two writers the first may come after the first object or after the second writer. After the first object only the
+  -- first writer is left for the second; after the second writer there is the first object, and the first writer too. The
+  -- words of seed 1 at places 3 to 7 leave 1 at 2 options, 0 at 2, and 0, 1 and 1 at 4.
+  pub options_in_chain : places two 2 1 0 (0 ∷ 0 ∷ 0 ∷ 1 ∷ 0 ∷ 0 ∷ 0 ∷ 1 ∷ []) ≡ Some 1 ∷ Some 1 ∷ Some 1 ∷ Some 2 ∷ Some 1 ∷ Some 4 ∷ Some 4 ∷ Some 4 ∷ []
+  pub reads_chain : read two 2 1 0 (0 ∷ 0 ∷ 0 ∷ 1 ∷ 0 ∷ 0 ∷ 0 ∷ 1 ∷ []) ≡ Whole (writers link.Initial (link.Act 0 0))
+  pub options_back : places two 2 1 0 (0 ∷ 0 ∷ 0 ∷ 0 ∷ 1 ∷ []) ≡ Some 1 ∷ Some 1 ∷ Some 1 ∷ Some 2 ∷ Some 2 ∷ []
+  -- each writer after the other reads whole, but isn't a chain from the first object
+  pub reads_ring : read two 2 1 0 (0 ∷ 0 ∷ 0 ∷ 0 ∷ 1 ∷ 0 ∷ 0 ∷ 1 ∷ []) ≡ Whole (writers (link.Act 1 0) (link.Act 0 0))
+  pub ring_isn't_supplied : Supplied two (writers (link.Act 1 0) (link.Act 0 0)) → ⊥
+  pub chain_from_first : ComesFromFirst (writers link.Initial (link.Act 0 0)).actions 1 0
