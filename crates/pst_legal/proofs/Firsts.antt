@@ -20,6 +20,7 @@ lists_are_ordered (x ∷ xs) (y ∷ ys) = by_head (cases_order x y) (lists_are_o
     by_tail same (inl equal) = inl (ap₂ ◌∷◌ same equal)
     by_tail same (inr (inl before)) = inr (inl (inr (same, before)))
     by_tail same (inr (inr after)) = inr (inr (inr (sym same, after)))
+
     by_head : (x ≡ y) ⊎ ((x < y) ⊎ (y < x)) → (xs ≡ ys) ⊎ (IsBefore xs ys ⊎ IsBefore ys xs) → ((x ∷ xs) ≡ (y ∷ ys)) ⊎ (IsBefore (x ∷ xs) (y ∷ ys) ⊎ IsBefore (y ∷ ys) (x ∷ xs))
     by_head (inl same) rest = by_tail same rest
     by_head (inr (inl less)) rest = inr (inl (inl less))

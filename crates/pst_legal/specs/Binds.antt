@@ -41,7 +41,7 @@ act_behind m nodes top handle = option_and_then (λ n. option_and_then (λ node.
 abbrev pub bound_by : ModelTree → List Node → ℕ → Tie → Option Bound
 bound_by m nodes top tie =
     option_and_then (λ a. option_map (λ b. record { from_act = a; from_reference = tie.from_reference; to_act = b; to_reference = tie.to_reference }) (act_behind m nodes top tie.to_handle))
-        (act_behind m nodes top tie.from_handle)
+    (act_behind m nodes top tie.from_handle)
 
 abbrev pub ties_in : Option ActivityTree → List Tie
 ties_in None = []

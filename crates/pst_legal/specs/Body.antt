@@ -115,7 +115,7 @@ abbrev pub call_of : Place → State → ℕ → Option FunctionTree → List Co
 call_of p state number None arguments go = Strays
 call_of p state number (Some function) arguments go =
     with_arguments p state arguments function.parameters []
-        (λ values. answered state number values state.left (λ v next. tested function.answer v next (go v next)))
+    (λ values. answered state number values state.left (λ v next. tested function.answer v next (go v next)))
 
 abbrev pub call : Place → State → ℕ → List ConstraintTree → (ℤ → State → Outcome) → Outcome
 call p state function arguments go = call_of p state function (slice_get p.model.functions function) arguments go
