@@ -1,5 +1,5 @@
 -- The binds of activities, as they join references of a scenario's actions.
-use Rattle.std.specs.Prelude.{ℕ, List, [], ◌∷◌, map, ◌&&◌, nat_eq, Bool, Option, Some, None, slice_get, flat_map, option_to_list}
+use Rattle.std.specs.Prelude.{ℕ, List, [], ◌&&◌, nat_eq, Bool, Option, Some, None, slice_get, flat_map, option_to_list}
 use Rattle.std.specs.List.{enumerate_from, find}
 use Rattle.std.specs.Option.{option_map, option_and_then}
 use Rattle.pst_model.specs.declared.activity.Tie.{Tie}

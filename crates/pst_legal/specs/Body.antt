@@ -1,10 +1,10 @@
 -- What the body of an atomic action does, given the answers of its calls.
 -- The statements are the standard's; the order of evaluation as written here, the traps and the limit on executed
 -- statements are this project's own.
-use Rattle.std.specs.Prelude.{ℕ, zero, suc, ◌+◌, ℤ, pos, negsuc, int_le, List, [], ◌∷◌, ◌++◌, map, Bool, ◌&&◌, nat_eq, nat_lt, if◌then◌else◌, Option, Some, None, slice_get}
+use Rattle.std.specs.Prelude.{ℕ, zero, suc, ◌+◌, ℤ, pos, negsuc, int_le, List, [], ◌∷◌, ◌++◌, map, ◌&&◌, nat_eq, nat_lt, if◌then◌else◌, Option, Some, None, slice_get}
 use Rattle.std.specs.List.{find}
 use Rattle.std.specs.Cmp.Lexicographic.{pointwise}
-use Rattle.std.specs.Option.{option_map, option_and_then, unwrap_or}
+use Rattle.std.specs.Option.{option_map, option_and_then}
 use Rattle.std.specs.Ordering.{int_eq}
 use Rattle.pst_expr.specs.declared.ranges.Span.{Span}
 use Rattle.pst_expr.specs.Value.{value, is_false}

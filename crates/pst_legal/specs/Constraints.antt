@@ -1,13 +1,11 @@
 -- Which constraints a scenario has, and when they hold.
 -- That constraints hold of the values that are used is the standard's; that a constraint without a value doesn't hold is
 -- this project's own.
-use Rattle.std.specs.Prelude.{◌≡◌, ℕ, ◌+◌, ℤ, List, map, Contains, Bool, true, Option, Some, None, slice_get}
-use Rattle.std.specs.List.{list_any}
+use Rattle.std.specs.Prelude.{◌≡◌, ℕ, ℤ, List, map, Contains, Bool, true, Option, Some, slice_get}
 use Rattle.pst_expr.specs.Value.{value}
 use Rattle.pst_domain.specs.Interval.{interval, is_refused}
 use Rattle.pst_model.specs.ConstraintTree.{SlotTree, ConstraintTree}
 use Rattle.pst_model.specs.ActivityTree.{Traverse}
-use Rattle.pst_model.specs.declared.action.Reference.{Reference}
 use Rattle.pst_model.specs.declared.action.Claim.{Claim}
 use Rattle.pst_model.specs.ModelTree.{ModelTree, ActionTree, ObjectTree}
 use Rattle.pst_scen.specs.declared.tree.Node.{Node}

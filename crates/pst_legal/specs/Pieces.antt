@@ -1,9 +1,8 @@
 -- The pieces of an activity, and the ways to fill one.
 -- What a statement allows is the standard's; the join forms, the limits, and what has no fill, are this project's own.
-use Rattle.std.specs.Prelude.{◌≡◌, ℕ, zero, suc, ◌+◌, ◌*◌, ◌≤◌, ℤ, pos, List, [], ◌∷◌, ◌++◌, ◌⊎◌, length, map, count_by, if◌then◌else◌, Contains, Any, Bool, true, false, not, Option, Some, None, slice_get}
+use Rattle.std.specs.Prelude.{◌≡◌, ℕ, zero, suc, ◌+◌, ◌*◌, ℤ, pos, List, [], ◌∷◌, ◌++◌, ◌⊎◌, length, map, count_by, if◌then◌else◌, Contains, Any, Bool, true, false, not, Option, Some, None, slice_get}
 use Rattle.std.specs.List.{AllZip}
 use Rattle.std.specs.Option.{option_map}
-use Rattle.pst_expr.specs.declared.ranges.Span.{Span}
 use Rattle.pst_expr.specs.Spans.{IsInSpan, IsInSpans}
 use Rattle.pst_expr.specs.Value.{value, is_false}
 use Rattle.pst_model.specs.declared.action.Field.{Field}

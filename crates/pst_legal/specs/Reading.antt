@@ -10,7 +10,7 @@ use Rattle.pst_scen.specs.declared.tree.Node.{Node}
 use Rattle.pst_scen.specs.declared.tree.Fill.{Fill}
 use Rattle.pst_scen.specs.declared.tree.Fill.TheVariants as fill
 use Rattle.pst_scen.specs.declared.scenario.Scenario.{Scenario}
-use Rattle.pst_legal.specs.Growing.{nothing_yet, Look, with_look, is_within, most_levels}
+use Rattle.pst_legal.specs.Growing.{Look, with_look, is_within, most_levels}
 use Rattle.pst_legal.specs.Pieces.{Piece, Action}
 use Rattle.pst_legal.specs.Menus.{Menu, Way, Place, Weighted, Closed, menu}
 

@@ -7,8 +7,7 @@ use Rattle.pst_expr.specs.declared.ranges.Span.{Span}
 use Rattle.pst_model.specs.declared.action.Field.{Field}
 use Rattle.pst_model.specs.declared.model.Pool.{Pool}
 use Rattle.pst_model.specs.ConstraintTree.{SlotTree, Own, Object, First as Initial-of, ClaimId, ClaimField, Prev, IsFirst, Id, Index, Local, Through, Outer}
-use Rattle.pst_model.specs.ActivityTree.{ActivityTree}
-use Rattle.pst_model.specs.ModelTree.{ModelTree, ActionTree, ObjectTree}
+use Rattle.pst_model.specs.ModelTree.{ModelTree}
 use Rattle.pst_scen.specs.declared.tree.Node.{Node}
 use Rattle.pst_scen.specs.declared.tree.Fill.{Fill}
 use Rattle.pst_scen.specs.declared.tree.Fill.TheVariants as fill

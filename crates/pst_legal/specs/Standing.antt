@@ -1,8 +1,7 @@
 -- Which statement of an activity a node fills, and where the node of a handle stands.
-use Rattle.std.specs.Prelude.{◌≡◌, ℕ, suc, ◌+◌, List, [], ◌∷◌, ◌++◌, map, nat_eq, if◌then◌else◌, Bool, true, false, Option, Some, None, slice_get}
+use Rattle.std.specs.Prelude.{◌≡◌, ℕ, ◌+◌, List, [], ◌∷◌, ◌++◌, map, nat_eq, if◌then◌else◌, true, false, Option, Some, None, slice_get}
 use Rattle.std.specs.List.{enumerate_from, filter}
 use Rattle.std.specs.Option.{option_map, option_and_then}
-use Rattle.pst_model.specs.declared.activity.Join.{Join}
 use Rattle.pst_model.specs.ConstraintTree.{ConstraintTree}
 use Rattle.pst_model.specs.ActivityTree.{StepTree, Traverse, Sequence, Parallel, Schedule, Joined, Select, Repeat, If, Match, StepRow, NoSteps, MoreSteps, ActivityTree, steps_of, branches_of, arms_of, step_of, branch_step, arm_step}
 use Rattle.pst_model.specs.ModelTree.{ModelTree}
@@ -66,10 +65,10 @@ abbrev mutual
   way_in_step handle (Parallel steps) = way_in_row handle 0 steps
   way_in_step handle (Schedule steps) = way_in_row handle 0 steps
   way_in_step handle (Joined parallel join steps) = way_in_row handle 0 steps
-  way_in_step handle (Select branches) = None
-  way_in_step handle (Repeat count body) = None
-  way_in_step handle (If condition holds fails) = None
-  way_in_step handle (Match matched arms other) = None
+  way_in_step handle (Select _) = None
+  way_in_step handle (Repeat _ _) = None
+  way_in_step handle (If _ _ _) = None
+  way_in_step handle (Match _ _ _) = None
 
   pub way_in_row : ℕ → ℕ → StepRow → Option (List ℕ)
   way_in_row handle index NoSteps = None

@@ -1,6 +1,6 @@
 -- Which scenarios have a source for every need.
 -- Buffers, streams and states are the standard's; how missing sources are inferred is this project's own.
-use Rattle.std.specs.Prelude.{◌≡◌, ◌≢◌, ℕ, ◌+◌, ◌<◌, ◌≤◌, max, List, [], ◌∷◌, length, map, Contains, Bool, true, false, Option, Some, None, slice_get, flat_map}
+use Rattle.std.specs.Prelude.{◌≡◌, ◌≢◌, ℕ, ◌+◌, ◌<◌, max, List, [], ◌∷◌, length, map, Contains, Bool, true, false, Some, None, slice_get, flat_map}
 use Rattle.std.specs.List.{enumerate_from, filter}
 use Rattle.pst_model.specs.ModelTree.{ModelTree, ActionTree}
 use Rattle.pst_scen.specs.declared.act.Act.{Act}
@@ -12,7 +12,7 @@ use Rattle.pst_scen.specs.declared.act.Link.TheVariants as link
 use Rattle.pst_scen.specs.declared.scenario.Scenario.{Scenario}
 use Rattle.pst_legal.specs.Types.{type_of, activity_in, action_instances}
 use Rattle.pst_scen.specs.Scenarios.{reference_at, leaves_of}
-use Rattle.pst_legal.specs.Binds.{Bound, bounds_of, fixed_source}
+use Rattle.pst_legal.specs.Binds.{bounds_of, fixed_source}
 
 -- a reference that wants a source: each input, each state output (its previous writer) and each stream output (its consumer)
 abbrev pub is_need : Flow → Bool

@@ -1,7 +1,6 @@
 -- How the sources of needs are read: the second part of a list of choices.
 use Rattle.std.specs.Prelude.{ℕ, ◌-◌, List, [], ◌∷◌, ◌++◌, length, map, Bool, true, false, not, ◌&&◌, ◌||◌, nat_eq, nat_lt, if◌then◌else◌, Option, Some, None, slice_get, flat_map}
 use Rattle.std.specs.List.{enumerate_from, filter, find, list_any}
-use Rattle.pst_model.specs.declared.action.Reference.{Reference}
 use Rattle.pst_model.specs.ModelTree.{ModelTree, ActionTree, ContentTree, Atomic, Compound}
 use Rattle.pst_scen.specs.declared.act.Act.{Act}
 use Rattle.pst_scen.specs.declared.act.Filled.{Filled}
@@ -15,7 +14,7 @@ use Rattle.pst_scen.specs.Scenarios.{leaves_of}
 use Rattle.pst_legal.specs.Growing.{open_act, most_acts}
 use Rattle.pst_legal.specs.Supplied.{is_need, is_source_for}
 use Rattle.pst_legal.specs.Binds.{bounds_of, fixed_source}
-use Rattle.pst_legal.specs.Reading.{Reading, Wants, Stops, Reads, Reader, read_seeded}
+use Rattle.pst_legal.specs.Reading.{Reading, Stops, Reads, Reader, read_seeded}
 
 -- a reference of an action
 pub record Spot : Type 0 where

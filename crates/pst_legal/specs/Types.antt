@@ -7,7 +7,6 @@ use Rattle.pst_model.specs.declared.action.Field.{Field}
 use Rattle.pst_model.specs.declared.action.Reference.{Reference}
 use Rattle.pst_model.specs.declared.action.Claim.{Claim}
 use Rattle.pst_model.specs.declared.model.Part.{Part}
-use Rattle.pst_model.specs.declared.model.Pool.{Pool}
 use Rattle.pst_model.specs.declared.object.ObjectKind.{ObjectKind}
 use Rattle.pst_model.specs.declared.object.ObjectKind.TheVariants.{Buffer, Stream, State, Resource}
 use Rattle.pst_model.specs.ActivityTree.{ActivityTree}

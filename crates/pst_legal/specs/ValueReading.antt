@@ -1,7 +1,7 @@
 -- How claimed instances and values are read: the last three parts of a list of choices, and the whole of it.
-use Rattle.std.specs.Prelude.{ℕ, ◌+◌, ℤ, List, [], ◌∷◌, ◌++◌, length, map, Bool, true, false, ◌&&◌, nat_eq, if◌then◌else◌, Option, Some, None, slice_get, flat_map}
+use Rattle.std.specs.Prelude.{ℕ, ℤ, List, [], ◌∷◌, ◌++◌, length, map, Bool, ◌&&◌, nat_eq, if◌then◌else◌, Option, Some, None, slice_get, flat_map}
 use Rattle.std.specs.List.{enumerate_from, filter, list_any, range_with_len}
-use Rattle.std.specs.Option.{option_map, option_and_then, unwrap_or}
+use Rattle.std.specs.Option.{unwrap_or}
 use Rattle.pst_expr.specs.Spans.{size_of}
 use Rattle.pst_model.specs.declared.action.Field.{Field}
 use Rattle.pst_model.specs.declared.action.Claim.{Claim}
