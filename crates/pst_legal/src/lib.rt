@@ -7,4 +7,4 @@
 
 mod laws;
 
-pub use laws::first_is_one;
+pub use laws::{bodies_end_once, first_is_one};
