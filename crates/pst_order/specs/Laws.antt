@@ -23,6 +23,10 @@ MustEndsBefore =
     → AreLegal s lanes (newer ++ Starts members used ∷ older) → IsWhole s (events (newer ++ Starts members used ∷ older))
     → Must s a b → Contains members b → Ended (events older) a
 
+-- What must come before an action must come before each member of its group.
+abbrev pub MustKeepsGroups : Type 0
+MustKeepsGroups = (s : Scenario) (a b c : ℕ) → Must s a b → Together s b c → Must s a c
+
 -- Where a whole legal trace exists no action must come before itself,
 abbrev pub WholeHasNoCycle : Type 0
 WholeHasNoCycle = (s : Scenario) (a : ℕ) → CanRun s → a < length s.actions → Must s a a → ⊥

@@ -12,7 +12,7 @@ mod rule;
 
 pub use commands::{core_is_by_rule, core_is_one};
 pub use groups::{groups_are_whole, members_are_those};
-pub use order::{blocks_are_one, must_is_kept, running_meet, whole_is_sound};
+pub use order::{blocks_are_one, must_is_kept, must_keeps_groups, running_meet, whole_is_sound};
 pub use refusals::unrefused_is_planned;
 pub use rule::{
     prefix_is_by_rule, readers_are_kept, rule_fits, rule_goes_on, rule_is_legal, rule_is_prefix,
