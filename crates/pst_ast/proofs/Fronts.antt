@@ -1,5 +1,5 @@
 -- Fronts of a rule, with the parts that stand open behind them.
-use Rattle.std.proofs.Common.{◌≡◌, ◌++◌, ◌∷◌, [], ◌≤◌, ◌<◌, List, refl, ap, sym, ◌∙◌, arith, append_assoc}
+use Rattle.std.proofs.Common.{◌≡◌, ◌++◌, ◌∷◌, [], ◌<◌, List, refl, ap, sym, ◌∙◌, arith, append_assoc}
 use Rattle.pst_token.specs.declared.token.Token.{Token}
 use Rattle.pst_ast.specs.declared.leaf.Operator.{Operator}
 use Rattle.pst_ast.specs.declared.leaf.Operator.TheVariants as the_operator

@@ -1,5 +1,5 @@
 -- Each alternative of a rule stands open as a whole: proper trees of its parts make a proper tree of the rule.
-use Rattle.std.proofs.Common.{◌≡◌, ◌++◌, ◌∷◌, [], ◌≤◌, ◌<◌, List, Option, Some, None, false, refl, ap, sym, arith, append-nil}
+use Rattle.std.proofs.Common.{◌++◌, ◌∷◌, [], ◌≤◌, ◌<◌, List, Some, None, refl, ap, sym, arith, append-nil}
 use Rattle.std.specs.List.{flat_map}
 use Rattle.pst_token.specs.declared.token.Token.{Token}
 use Rattle.pst_token.specs.declared.kind.Kind.TheVariants as kind

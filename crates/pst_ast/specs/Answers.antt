@@ -1,5 +1,5 @@
 -- What a parser of a rule answers, by what the proper trees of the rule spell.
-use Rattle.std.specs.Prelude.{ℕ, suc, ◌-◌, ◌<◌, ◌≤◌, ◌≡◌, List, ◌++◌, length, take, slice_range, Option, Some, None, Result, Ok, Err}
+use Rattle.std.specs.Prelude.{ℕ, suc, ◌-◌, ◌<◌, ◌≤◌, ◌≡◌, List, ◌++◌, length, take, slice_range, Some, None, Result, Ok, Err}
 use Rattle.pst_token.specs.declared.token.Token.{Token}
 use Rattle.pst_ast.specs.declared.fault.SyntaxFault.{SyntaxFault}
 use Rattle.pst_ast.specs.declared.fault.SyntaxFault.TheVariants as the_fault

@@ -1,18 +1,17 @@
 -- Trees at the limits, and trees that are not proper.
-use Rattle.std.specs.Prelude.{ℕ, zero, suc, ◌≡◌, List, [], ◌∷◌, Option, Some, None, pos}
-use Rattle.pst_base.specs.declared.position.Place.{Place}
+use Rattle.std.specs.Prelude.{ℕ, zero, suc, ◌≡◌, List, [], Some, None}
 use Rattle.pst_token.specs.declared.kind.Kind.TheVariants as kind
 use Rattle.pst_ast.specs.declared.leaf.Operator.{Operator}
 use Rattle.pst_ast.specs.declared.leaf.Operator.TheVariants as the_operator
 use Rattle.pst_ast.specs.declared.leaf.PrefixOperator.TheVariants as the_prefix_operator
 use Rattle.pst_ast.specs.Marks.{mark}
-use Rattle.pst_ast.specs.ExpressionTree.{ExprTree, ExprUnary, ExprBinary, ExprIn, UnaryTree, UnaryPrefix, UnaryPrimary, PrimaryGroup, PrimaryPath, PathDotted, MakePart, MakeIndex, NoNextPartRow, NoIndex, SomeIndex, RangesTree, MakeRanges, RangeSingle, RangeBetween, NoNextRangeRow}
+use Rattle.pst_ast.specs.ExpressionTree.{ExprTree, ExprUnary, ExprBinary, ExprIn, UnaryTree, UnaryPrefix, UnaryPrimary, PrimaryGroup, PrimaryPath, PathDotted, MakePart, MakeIndex, NoNextPartRow, NoIndex, SomeIndex, MakeRanges, RangeSingle, RangeBetween, NoNextRangeRow}
 use Rattle.pst_ast.specs.SharedTree.{MakeDomain, PlainBool, TypePlain}
-use Rattle.pst_ast.specs.ConstraintTree.{ConstraintTree, ConstraintOne, ConstraintBlock, ConstraintItemEmpty, ConstraintItemIf, ConstraintItemIfElse, ConstraintItemImplies, ConstraintItemForeach}
+use Rattle.pst_ast.specs.ConstraintTree.{ConstraintTree, ConstraintOne, ConstraintItemEmpty, ConstraintItemIf, ConstraintItemIfElse, ConstraintItemImplies, ConstraintItemForeach}
 use Rattle.pst_ast.specs.ActivityTree.{StatementTree, StatementEmpty, StatementLabeled, StatementPlain, CoreDo, CoreRepeat, CoreIf, CoreIfElse, CoreSequence, WithSet, NoStatementRow, MoreStatementRow}
 use Rattle.pst_ast.specs.BodyTree.{BodyStatementTree, BodyStatementEmpty, BodyStatementIf, BodyStatementIfElse, BodyStatementRepeat}
 use Rattle.pst_ast.specs.DeclarationTree.{MakeUnit}
-use Rattle.pst_ast.specs.Limits.{Count, counted, first_over}
+use Rattle.pst_ast.specs.Limits.{Count, first_over}
 use Rattle.pst_ast.specs.Rule.{TheExpr, TheType, TheConstraint, TheStatement, TheBodyStatement, TheUnit}
 use Rattle.pst_ast.specs.ProperOf.{IsProperOf}
 use Rattle.pst_ast.specs.CountsOf.{counts_of}

@@ -1,4 +1,4 @@
--- The alternatives of each rule: the grammar without its ambiguities.
+-- The alternatives of each rule: the grammar without its ambiguities. The parts of an `if` before its `else` have none of their own: they are read as other parts are, and may be such parts then.
 use Rattle.std.specs.Prelude.{List, [], ◌∷◌, ◌≤◌, ◌<◌}
 use Rattle.pst_token.specs.declared.kind.Kind.TheVariants as kind
 use Rattle.pst_ast.specs.declared.leaf.Operator.{Operator}

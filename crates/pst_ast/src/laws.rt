@@ -1,6 +1,6 @@
 //! Laws of the grammar: each function here does nothing, and its contract is a law.
 ghost use Rattle.pst_ast.specs.Examples.{NestingIsLimited, OperatorsAreLimited, OperatorsGroup, ElseBelongsToNearest, UnitsEndWithEnd};
-ghost use Rattle.pst_ast.specs.Laws.{ProductionsAreOpen, ClosingsClose, OpenFrontsAreViable, PartsAreRead, PartsAreBegun, ViableFrontsBegin};
+ghost use Rattle.pst_ast.specs.Laws.{OneTreeOfExpressions, AnswersAgree, ProductionsAreOpen, ClosingsClose, OpenFrontsAreViable, PartsAreRead, PartsAreBegun, ViableFrontsBegin};
 
 /// Each alternative of a rule stands open as a whole: whatever proper trees its parts get, they
 /// make a proper tree of the rule.
@@ -67,4 +67,17 @@ pub fn else_belongs_to_nearest()
 #[tactic(auto, using(crate::proofs::ExamplesHold::units_end))]
 pub fn units_end_with_end()
     ensures { UnitsEndWithEnd }
+{}
+
+/// At most one proper tree of each rule of expressions spells a list of tokens.
+#[tactic(auto, using(crate::proofs::ExpressionAgain::one_tree_of_expressions))]
+pub fn one_tree_of_expressions()
+    ensures { OneTreeOfExpressions }
+{}
+
+/// Of the answers that a parser may give, a tree, an unexpected token or a token that is too deep,
+/// only one fits, at one index and with one list of tokens.
+#[tactic(auto, using(crate::proofs::Agree::answers_agree))]
+pub fn answers_agree()
+    ensures { AnswersAgree }
 {}

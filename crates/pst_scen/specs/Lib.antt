@@ -4,3 +4,9 @@ pub mod Order
 pub mod Conflicts
 pub mod Trace
 pub mod Laws
+pub mod Rows
+pub mod Plan
+pub mod Plans
+pub mod Core
+pub mod Refusals
+pub mod Scenarios

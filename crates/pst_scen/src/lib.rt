@@ -7,6 +7,9 @@
 mod act;
 mod event;
 mod laws;
+mod next;
+mod plan;
+mod rows;
 mod scenario;
 mod tree;
 
@@ -15,5 +18,11 @@ pub use event::Event;
 pub use laws::{
     before_is_never_itself, prefixes_are_legal, whole_traces_are_prefixes, wider_traces_are_legal,
 };
+pub use next::Next;
+pub use plan::Plan;
+pub use rows::Rows;
 pub use scenario::{First, Scenario};
 pub use tree::{Fill, Node};
+
+#[cfg(test)]
+mod tests;

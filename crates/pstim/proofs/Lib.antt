@@ -1,7 +1,7 @@
-mod Bytes
+mod Shapes
 mod Grammar
 mod Lines
-pub mod Pieces
+mod Fed
 mod Turns
 mod Named
 mod Printed
@@ -11,3 +11,4 @@ mod Opened
 mod Plain
 mod Owed
 mod OneScenario
+mod OneAnswer

@@ -5,10 +5,11 @@ use Rattle.std.specs.List.{AllZip}
 use Rattle.pst_scen.specs.declared.scenario.Scenario.{Scenario}
 use Rattle.pstim.specs.declared.parsing.Declaration.{Declaration}
 use Rattle.pstim.specs.Source.{source_of}
-use Rattle.pstim.specs.Straight.{IsStraight, HasScenario, IsScenarioOf, PerformsIn, names_of, compound_scenario}
+use Rattle.pstim.specs.Straight.{HasScenario, IsScenarioOf, names_of, compound_scenario}
 use Rattle.pstim.specs.Laws.{ScenariosAreOne}
 use Rattle.pstim.proofs.Grammar.{same_source}
 use Rattle.pstim.proofs.Named.{name_at}
+use Rattle.pstim.proofs.Shapes.{one_spelling}
 
 -- names have one list of numbers
 pub one_numbering : (types names : List (List ℕ)) (numbers others : List ℕ) → ((i j : ℕ) (name : List ℕ) → slice_get types i ≡ Some name → slice_get types j ≡ Some name → i ≡ j)
@@ -43,7 +44,7 @@ one_of_root actions root s t a b =
 
 pub one_scenario : ScenariosAreOne
 one_scenario text root actions others s t a b =
-    let both : Some (source_of actions) ≡ Some (source_of others) = sym a.source ∙ b.source in
-    let spelled : source_of actions ≡ source_of others = cc (both) in
+    let shapes = one_spelling 0 a.source.names b.source.names text a.source.tokens b.source.tokens a.source.are b.source.are in
+    let spelled : source_of actions ≡ source_of others = sym a.source.spelled ∙ shapes ∙ b.source.spelled in
     let same : actions ≡ others = same_source actions others spelled in
     (same, one_of_root actions root s t a.has (subst (λ (ds : List Declaration). HasScenario ds root t) (sym same) b.has))

@@ -1,11 +1,15 @@
 -- What opening and reading a file tells.
-use Rattle.std.proofs.Common.{◌≡◌, ◌∙◌, ℕ, ◌≤◌, List, [], ◌++◌, length, refl, ap, sym, subst, true, false, Bool}
+use Rattle.std.proofs.Common.{◌≡◌, ◌∙◌, ℕ, ◌<◌, ◌≤◌, List, length, refl, ap, sym, subst, true, false, Bool}
 use Rattle.std.specs.Prelude.{Option, Some, None, is_some}
 use Rattle.std.specs.Option.{ForSome}
 use Rattle.std.specs.Bool.{OnTrue}
 use Rattle.pst_io.specs.Shelf.{Files, TellsWhether, HasOpened}
-use Rattle.pstim.specs.Outcome.{IsSource, most_bytes}
-use Rattle.pstim.specs.Loaded.{IsOpen}
+use Rattle.pst_lexer.specs.Lexing.{Lexing}
+use Rattle.pstim.specs.declared.loading.Loaded.{Loaded}
+use Rattle.pstim.specs.declared.loading.Loaded.TheVariants as loaded
+use Rattle.pstim.specs.Outcome.{IsSmall, IsTooLarge, most_bytes}
+use Rattle.pstim.specs.Loaded.{IsOpen, Finds, IsReadable}
+use Rattle.pstim.specs.Feeding.{IsFedWhole, Lexes}
 
 -- a file that was found is open
 pub opened : (old new : Option Files) (name : List ℕ) (rest : Option (List ℕ)) (found : Bool) → new ≡ old → TellsWhether old name found → found ≡ true
@@ -30,10 +34,38 @@ missing old name found tells is_false = λ f told.
     by_file None h = refl
     by_file (Some bytes) h = absurd (cc)
 
--- what was read whole is the source
-pub is_source : (files : Option Files) (name : List ℕ) (rest : Option (List ℕ)) (start items : List ℕ) → IsOpen files name rest → start ≡ []
-    → ForSome rest (λ left. items ≡ start ++ left) → length items ≤ most_bytes → ForSome files (λ f. IsSource f name items)
-is_source files name rest start items is_open none whole small = λ f told.
-    let file = is_open f told in
-    let all : items ≡ file.0 = whole file.0 file.2 ∙ ap (λ (s : List ℕ). s ++ file.0) none in
-    record { there = file.1 ∙ ap Some (sym all); small = small }
+-- what is left of an open file is the file
+pub is_small : (files : Option Files) (file : List ℕ) (rest : Option (List ℕ)) (text : List ℕ) → IsOpen files file rest
+    → ForSome rest (λ left. left ≡ text) → length text ≤ most_bytes → ForSome files (λ f. IsSmall f file text)
+is_small files file rest text is_open whole small = λ f told.
+    let bytes = is_open f told in
+    record { there = bytes.1 ∙ ap Some (whole bytes.0 bytes.2); small = small }
+
+-- a file of which too much is left is too large
+pub is_too_large : (files : Option Files) (file : List ℕ) (rest : Option (List ℕ)) → IsOpen files file rest
+    → ForSome rest (λ left. most_bytes < length left) → ForSome files (λ f. IsTooLarge f file)
+is_too_large files file rest is_open long = λ f told.
+    let bytes = is_open f told in
+    record { bytes = bytes.0; there = bytes.1; large = long bytes.0 bytes.2 }
+
+-- what the text of an open file is found to be is found of the file
+pub found_open : (files : Option Files) (before now : ℕ) (file : List ℕ) (rest : Option (List ℕ)) (names fed : List (List ℕ)) (lexing : Lexing) (found : Loaded)
+    → IsOpen files file rest → now ≡ before → (whole : IsFedWhole rest fed lexing) → Lexes names whole.text found → Finds files before now file names found
+found_open files before now file rest names fed lexing (loaded.Lexed tokens) is_open count whole lexes =
+    (count, record { text = whole.text; file_is = is_small files file rest whole.text is_open whole.all whole.small; are = lexes.1; few = lexes.2 })
+found_open files before now file rest names fed lexing loaded.Missing is_open count whole lexes = absurd lexes
+found_open files before now file rest names fed lexing loaded.Unread is_open count whole lexes = absurd lexes
+found_open files before now file rest names fed lexing loaded.TooLarge is_open count whole lexes = absurd lexes
+found_open files before now file rest names fed lexing loaded.TooMany is_open count whole lexes =
+    (count, λ f told. record { bytes = whole.text; file_is = is_small files file rest whole.text is_open whole.all whole.small f told; has = lexes })
+found_open files before now file rest names fed lexing (loaded.Faulty wide place) is_open count whole lexes =
+    (count, λ f told. record { bytes = whole.text; file_is = is_small files file rest whole.text is_open whole.all whole.small f told; has = lexes })
+
+-- and its tokens can be read
+pub readable_open : (rest : Option (List ℕ)) (names fed : List (List ℕ)) (lexing : Lexing) (found : Loaded) → (whole : IsFedWhole rest fed lexing) → Lexes names whole.text found → IsReadable names found
+readable_open rest names fed lexing (loaded.Lexed tokens) whole lexes = (lexes.0, (whole.text, lexes.1))
+readable_open rest names fed lexing loaded.Missing whole lexes = tt
+readable_open rest names fed lexing loaded.Unread whole lexes = tt
+readable_open rest names fed lexing loaded.TooLarge whole lexes = tt
+readable_open rest names fed lexing loaded.TooMany whole lexes = tt
+readable_open rest names fed lexing (loaded.Faulty wide place) whole lexes = tt

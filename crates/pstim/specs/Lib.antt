@@ -1,5 +1,4 @@
 pub mod Words
-pub mod Lexical
 pub mod Source
 pub mod Straight
 pub mod Numbering
@@ -7,6 +6,7 @@ pub mod Running
 pub mod Texts
 pub mod Outcome
 pub mod Loaded
+pub mod Feeding
 pub mod Replies
 pub mod Status
 pub mod Laws

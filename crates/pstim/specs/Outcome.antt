@@ -1,27 +1,42 @@
 -- What the program answers, and what it has printed then.
-use Rattle.std.specs.Prelude.{◌≡◌, ℕ, ◌<◌, ◌≤◌, List, length, take, Option, None, Some}
+use Rattle.std.specs.Prelude.{◌≡◌, ℕ, ◌+◌, ◌<◌, ◌≤◌, Bool, true, false, List, length, take, Option, None, Some}
 use Rattle.std.specs.Option.{ForSome}
 use Rattle.std.specs.Io.KnownBytes.{append_known}
 use Rattle.pst_base.specs.Fault.{HasRisen}
+use Rattle.pst_base.specs.declared.position.Place.{Place}
 use Rattle.pst_io.specs.Shelf.{Files}
+use Rattle.pst_lexer.specs.declared.fault.LexFault.{LexFault}
+use Rattle.pst_lexer.specs.declared.fault.LexFault.TheVariants as fault
+use Rattle.pst_lexer.specs.Fault.{HasFault, HasTokens}
 use Rattle.pst_scen.specs.declared.scenario.Scenario.{Scenario}
 use Rattle.pst_scen.specs.declared.event.Event.{Event}
 use Rattle.pst_scen.specs.Trace.{IsLegalTrace, IsWhole}
 use Rattle.pstim.specs.declared.answer.Answer.{Answer}
-use Rattle.pstim.specs.declared.answer.Answer.TheVariants.{Done, NoFile, ReadFault, WriteFault, NoMemory, Unbuilt}
+use Rattle.pstim.specs.declared.answer.Answer.TheVariants.{Done, NoFile, ReadFault, Large, Lexical, WriteFault, NoMemory, Unbuilt}
+use Rattle.pstim.specs.declared.answer.What.{What}
+use Rattle.pstim.specs.declared.answer.What.TheVariants.{Bytes, Trace, Tokens, Instances}
 use Rattle.pstim.specs.Words.{IsLine}
 use Rattle.pstim.specs.declared.parsing.Declaration.{Declaration}
 use Rattle.pstim.specs.Straight.{IsStraight, names_of}
-use Rattle.pstim.specs.Texts.{trace_text, no_file_text, read_fault_text, unbuilt_text}
+use Rattle.pstim.specs.Texts.{trace_text, no_file_text, read_fault_text, large_text, lexical_text, unbuilt_text}
 
--- the most bytes of a file that is read
+-- the most bytes of a file
 abbrev pub most_bytes : ℕ
 most_bytes = 1048576
 
--- the shelf has the file, and it isn't too large
-pub record IsSource (files : Files) (file text : List ℕ) : Type 0 where
+-- the most tokens of a file
+abbrev pub most_tokens : ℕ
+most_tokens = 262144
+
+-- the shelf has the file, of so many bytes at most
+pub record IsSmall (files : Files) (file text : List ℕ) : Type 0 where
   pub there : files file ≡ Some text
   pub small : length text ≤ most_bytes
+
+-- the shelf has the file, and it is a list of tokens, of so many at most
+pub record IsSource (files : Files) (file text : List ℕ) : Type 0 where
+  pub file_is : IsSmall files file text
+  pub lexed : HasTokens most_tokens text
 
 -- The text is that of a whole legal run, on one lane, of the scenario of a source and its root, of so many actions.
 pub record ShowsRun (source root : List ℕ) (count : ℕ) (text : List ℕ) : Type 0 where
@@ -40,11 +55,29 @@ pub record RunsFile (files : Files) (root file : List ℕ) (count : ℕ) (text :
   pub source : IsSource files file bytes
   pub shows : ShowsRun bytes root count text
 
--- the file is too large
+-- the file has too many bytes
 pub record IsTooLarge (files : Files) (file : List ℕ) : Type 0 where
   pub bytes : List ℕ
   pub there : files file ≡ Some bytes
   pub large : most_bytes < length bytes
+
+-- the file isn't too large, and its text has this fault
+pub record HasLexicalFault (files : Files) (file : List ℕ) (f : LexFault) : Type 0 where
+  pub bytes : List ℕ
+  pub file_is : IsSmall files file bytes
+  pub has : HasFault 0 most_tokens bytes f
+
+-- a count of the file exceeds its limit, and the number is the limit plus 1
+abbrev pub Exceeds : Option Files → List ℕ → What → ℕ → Type 0
+Exceeds files file Bytes number = (number ≡ most_bytes + 1) × ForSome files (λ f. IsTooLarge f file)
+Exceeds files file Tokens number = (number ≡ most_tokens + 1) × ForSome files (λ f. HasLexicalFault f file fault.Many)
+Exceeds files file Trace number = ⊥
+Exceeds files file Instances number = ⊥
+
+-- a number above 2^63-1 begins at the place, or nothing begins there
+abbrev pub lexical_fault : Bool → Place → LexFault
+lexical_fault true place = fault.Wide place
+lexical_fault false place = fault.Bad place
 
 -- the file isn't of the straight form, or doesn't have the root
 pub record IsOtherForm (files : Files) (root file : List ℕ) : Type 0 where
@@ -55,7 +88,6 @@ pub record IsOtherForm (files : Files) (root file : List ℕ) : Type 0 where
 -- why a line or a file isn't served yet
 pub data IsUnbuilt (words : List (List ℕ)) (files : Option Files) : Type 0 where
   OtherWords : ((root file : List ℕ) → IsLine words root file → ⊥) → IsUnbuilt words files
-  TooLarge : (root file : List ℕ) → IsLine words root file → ForSome files (λ f. IsTooLarge f file) → IsUnbuilt words files
   OtherForm : (root file : List ℕ) → IsLine words root file → ForSome files (λ f. IsOtherForm f root file) → IsUnbuilt words files
 
 -- a run of the root of the file was made
@@ -82,12 +114,30 @@ pub record IsUnread (words : List (List ℕ)) (word : ℕ) (text : List ℕ) : T
   pub word_is : word ≡ 2
   pub text_is : text ≡ read_fault_text file
 
+-- a count of the file is too large
+pub record IsLarge (words : List (List ℕ)) (files : Option Files) (what : What) (number : ℕ) (text : List ℕ) : Type 0 where
+  pub root : List ℕ
+  pub file : List ℕ
+  pub line : IsLine words root file
+  pub exceeds : Exceeds files file what number
+  pub text_is : text ≡ large_text what number
+
+-- the file is no list of tokens
+pub record IsLexical (words : List (List ℕ)) (files : Option Files) (wide : Bool) (place : Place) (text : List ℕ) : Type 0 where
+  pub root : List ℕ
+  pub file : List ℕ
+  pub line : IsLine words root file
+  pub has : ForSome files (λ f. HasLexicalFault f file (lexical_fault wide place))
+  pub text_is : text ≡ lexical_text file wide place
+
 -- Before anything is written: this answer and its text are right for the words, the files where they are told, and the shelf's
 -- count of faults before and now. An answer that only writing or memory gives is never right then.
 abbrev pub IsOwed : List (List ℕ) → Option Files → ℕ → ℕ → Answer → List ℕ → Type 0
 IsOwed words files before now (Done count) text = (now ≡ before) × IsDone words files count text
 IsOwed words files before now (NoFile word) text = (now ≡ before) × IsMissing words files word text
 IsOwed words files before now (ReadFault word) text = HasRisen before now × IsUnread words word text
+IsOwed words files before now (Large what number) text = (now ≡ before) × IsLarge words files what number text
+IsOwed words files before now (Lexical wide place) text = (now ≡ before) × IsLexical words files wide place text
 IsOwed words files before now Unbuilt text = (now ≡ before) × IsUnbuilt words files × (text ≡ unbuilt_text)
 IsOwed words files before now WriteFault text = ⊥
 IsOwed words files before now NoMemory text = ⊥
@@ -126,6 +176,8 @@ abbrev pub Answers : List (List ℕ) → Option Files → ℕ → ℕ → Writin
 Answers words files before now w (Done count) = HasAnswered words files before now w (Done count)
 Answers words files before now w (NoFile word) = HasAnswered words files before now w (NoFile word)
 Answers words files before now w (ReadFault word) = HasAnswered words files before now w (ReadFault word)
+Answers words files before now w (Large what number) = HasAnswered words files before now w (Large what number)
+Answers words files before now w (Lexical wide place) = HasAnswered words files before now w (Lexical wide place)
 Answers words files before now w Unbuilt = HasAnswered words files before now w Unbuilt
 Answers words files before now w WriteFault = HasBroken words files before now w
 Answers words files before now w NoMemory = HasGivenUp w
@@ -139,3 +191,5 @@ AnswersNoLane w NoMemory = HasGivenUp w
 AnswersNoLane w (Done count) = ⊥
 AnswersNoLane w (NoFile word) = ⊥
 AnswersNoLane w (ReadFault word) = ⊥
+AnswersNoLane w (Large what number) = ⊥
+AnswersNoLane w (Lexical wide place) = ⊥

@@ -1,17 +1,19 @@
 -- Replies: an answer and its text, before it is written.
-use Rattle.std.specs.Prelude.{◌≡◌, ℕ, ◌<◌, List, length, take, Option, string_bytes, ◌⊎◌}
+use Rattle.std.specs.Prelude.{◌≡◌, ℕ, ◌+◌, ◌<◌, List, length, take, Option, string_bytes, ◌⊎◌}
 use Rattle.std.specs.Io.KnownBytes.{append_known}
 use Rattle.pst_base.specs.Fault.{HasRisen}
+use Rattle.pst_token.specs.Tokens.{AreTokens}
 use Rattle.pst_scen.specs.declared.scenario.Scenario.{Scenario}
 use Rattle.pstim.specs.declared.answer.Answer.{Answer}
-use Rattle.pstim.specs.declared.answer.Answer.TheVariants.{Done, NoFile, ReadFault, WriteFault, NoMemory, Unbuilt}
+use Rattle.pstim.specs.declared.answer.Answer.TheVariants.{Done, NoFile, ReadFault, Large, Lexical, WriteFault, NoMemory, Unbuilt}
+use Rattle.pstim.specs.declared.answer.What.TheVariants.{Bytes, Tokens}
 use Rattle.pstim.specs.declared.parsing.Declaration.{Declaration}
 use Rattle.pstim.specs.declared.loading.Loaded.{Loaded}
 use Rattle.pstim.specs.declared.loading.Loaded.TheVariants as loaded
 use Rattle.pstim.specs.declared.replying.Reply.{Reply}
 use Rattle.pstim.specs.Straight.{IsStraight}
-use Rattle.pstim.specs.Texts.{no_file_text, read_fault_text, unbuilt_text}
-use Rattle.pstim.specs.Outcome.{ShowsRun, Writing}
+use Rattle.pstim.specs.Texts.{no_file_text, read_fault_text, large_text, lexical_text, unbuilt_text}
+use Rattle.pstim.specs.Outcome.{ShowsRun, Writing, most_bytes, most_tokens}
 
 -- the reply shows a run of the source
 pub record RepliesRun (source root : List ℕ) (reply : Reply) : Type 0 where
@@ -30,11 +32,14 @@ pub record RefusesOther (source root : List ℕ) (reply : Reply) : Type 0 where
   pub says : Says Unbuilt unbuilt_text reply
 
 -- the reply to what was found under the file's name
-abbrev pub RepliesTo : List ℕ → List ℕ → Loaded → Reply → Type 0
-RepliesTo root file (loaded.Text source) reply = RepliesRun source.items root reply ⊎ RefusesOther source.items root reply
-RepliesTo root file loaded.Missing reply = Says (NoFile 2) (no_file_text file) reply
-RepliesTo root file loaded.Unread reply = Says (ReadFault 2) (read_fault_text file) reply
-RepliesTo root file loaded.TooLarge reply = Says Unbuilt unbuilt_text reply
+abbrev pub RepliesTo : List ℕ → List ℕ → List (List ℕ) → Loaded → Reply → Type 0
+RepliesTo root file names (loaded.Lexed tokens) reply =
+    (source : List ℕ) → AreTokens 0 names source tokens.items → RepliesRun source root reply ⊎ RefusesOther source root reply
+RepliesTo root file names loaded.Missing reply = Says (NoFile 2) (no_file_text file) reply
+RepliesTo root file names loaded.Unread reply = Says (ReadFault 2) (read_fault_text file) reply
+RepliesTo root file names loaded.TooLarge reply = Says (Large Bytes (most_bytes + 1)) (large_text Bytes (most_bytes + 1)) reply
+RepliesTo root file names loaded.TooMany reply = Says (Large Tokens (most_tokens + 1)) (large_text Tokens (most_tokens + 1)) reply
+RepliesTo root file names (loaded.Faulty wide place) reply = Says (Lexical wide place) (lexical_text file wide place) reply
 
 -- the text was written whole
 pub record Writes (w : Writing) (text : List ℕ) : Type 0 where

@@ -1,12 +1,14 @@
 -- The exit status of each answer.
 use Rattle.std.specs.Prelude.{ℕ}
 use Rattle.pstim.specs.declared.answer.Answer.{Answer}
-use Rattle.pstim.specs.declared.answer.Answer.TheVariants.{Done, NoFile, ReadFault, WriteFault, NoMemory, Unbuilt}
+use Rattle.pstim.specs.declared.answer.Answer.TheVariants.{Done, NoFile, ReadFault, Large, Lexical, WriteFault, NoMemory, Unbuilt}
 
 abbrev pub status_of : Answer → ℕ
 status_of (Done actions) = 0
+status_of (Lexical wide place) = 1
 status_of (NoFile word) = 2
 status_of (ReadFault word) = 6
 status_of WriteFault = 7
 status_of NoMemory = 8
+status_of (Large what number) = 9
 status_of Unbuilt = 10

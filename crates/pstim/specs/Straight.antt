@@ -5,9 +5,8 @@ use Rattle.pst_scen.specs.declared.tree.Node.{Node}
 use Rattle.pst_scen.specs.declared.tree.Fill.TheVariants.{Compound, Leaf}
 use Rattle.pst_scen.specs.declared.act.Act.{Act}
 use Rattle.pst_scen.specs.declared.scenario.Scenario.{Scenario}
-use Rattle.pstim.specs.Lexical.{tokens_of}
 use Rattle.pstim.specs.declared.parsing.Declaration.{Declaration}
-use Rattle.pstim.specs.Source.{source_of}
+use Rattle.pstim.specs.Source.{Spells}
 
 -- the name of each action type, by number
 abbrev pub names_of : List Declaration → List (List ℕ)
@@ -97,5 +96,5 @@ pub record HasScenario (actions : List Declaration) (root : List ℕ) (s : Scena
 
 -- The text is of the straight form, these are its actions, and this is the scenario of the root.
 pub record IsStraight (text root : List ℕ) (actions : List Declaration) (s : Scenario) : Type 0 where
-  pub source : tokens_of text ≡ Some (source_of actions)
+  pub source : Spells text actions
   pub has : HasScenario actions root s

@@ -1,5 +1,6 @@
 -- The texts that the program prints.
 use Rattle.std.specs.Prelude.{ℕ, ◌+◌, List, [], ◌∷◌, ◌++◌, length, get_or, Bool, false, if◌then◌else◌, codes, decimal}
+use Rattle.pst_base.specs.declared.position.Place.{Place}
 use Rattle.pst_scen.specs.declared.tree.Node.{Node}
 use Rattle.pst_scen.specs.declared.tree.Fill.{Fill}
 use Rattle.pst_scen.specs.declared.tree.Fill.TheVariants.{Compound, Leaf, Sequence, Parallel, Schedule, Joined, Select, Repeat, Turn, If, Match}
@@ -7,6 +8,8 @@ use Rattle.pst_scen.specs.declared.act.Act.{Act}
 use Rattle.pst_scen.specs.declared.scenario.Scenario.{Scenario}
 use Rattle.pst_scen.specs.declared.event.Event.{Event}
 use Rattle.pst_scen.specs.declared.event.Event.TheVariants.{Start, End}
+use Rattle.pstim.specs.declared.answer.What.{What}
+use Rattle.pstim.specs.declared.answer.What.TheVariants.{Bytes, Trace, Tokens, Instances}
 
 abbrev pub line : List ℕ → List ℕ
 line text = text ++ 10 ∷ []
@@ -79,6 +82,22 @@ no_file_text file = line (codes "nofile " ++ file)
 
 abbrev pub read_fault_text : List ℕ → List ℕ
 read_fault_text file = line (codes "readfault " ++ file)
+
+abbrev pub what_text : What → List ℕ
+what_text Bytes = codes "bytes"
+what_text Trace = codes "trace"
+what_text Tokens = codes "tokens"
+what_text Instances = codes "instances"
+
+abbrev pub large_text : What → ℕ → List ℕ
+large_text what number = line (codes "large " ++ what_text what ++ codes " " ++ decimal number)
+
+-- the file's name, the line and the column
+abbrev pub place_text : List ℕ → Place → List ℕ
+place_text file place = file ++ codes ":" ++ decimal place.line ++ codes ":" ++ decimal place.column
+
+abbrev pub lexical_text : List ℕ → Bool → Place → List ℕ
+lexical_text file wide place = line (codes "lexical " ++ (if wide then codes "wide" else codes "bad") ++ codes " " ++ place_text file place)
 
 abbrev pub unbuilt_text : List ℕ
 unbuilt_text = line (codes "unbuilt")

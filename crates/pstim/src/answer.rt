@@ -2,6 +2,21 @@
 ghost use Rattle.std.specs.Prelude.{◌≡◌};
 ghost use Rattle.pstim.specs.Status.{status_of};
 
+use pst_base::Place;
+
+/// What a limit is on.
+#[derive(Clone, Copy, Debug, PartialEq, Eq)]
+pub enum What {
+    /// The bytes of the sources.
+    Bytes,
+    /// The bytes of a trace file.
+    Trace,
+    /// The tokens of the sources.
+    Tokens,
+    /// The component instances.
+    Instances,
+}
+
 /// What a line of words was answered.
 #[derive(Clone, Copy, Debug, PartialEq, Eq)]
 pub enum Answer {
@@ -20,6 +35,21 @@ pub enum Answer {
         /// The index of the word that names the file.
         word: u32,
     },
+    /// A count exceeds its limit.
+    Large {
+        /// What is counted.
+        what: What,
+        /// The limit plus 1.
+        number: u64,
+    },
+    /// The file is no list of tokens.
+    Lexical {
+        /// Whether a number above 2^63-1 begins at the place; else no blank, comment or token begins
+        /// there.
+        wide: bool,
+        /// The place of the first fault.
+        place: Place,
+    },
     /// The sink's count of faults rose; a part of the text of another answer was written.
     WriteFault,
     /// Memory ran out; nothing was written.
@@ -35,10 +65,12 @@ impl Answer {
     {
         match self {
             Answer::Done { .. } => 0,
+            Answer::Lexical { .. } => 1,
             Answer::NoFile { .. } => 2,
             Answer::ReadFault { .. } => 6,
             Answer::WriteFault => 7,
             Answer::NoMemory => 8,
+            Answer::Large { .. } => 9,
             Answer::Unbuilt => 10,
         }
     }

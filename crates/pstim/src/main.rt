@@ -3,12 +3,11 @@
 #![tactic(auto)]
 
 mod answer;
+mod cursor;
 mod laws;
-mod lexing;
 mod loading;
 mod parsing;
 mod printing;
-mod reading;
 mod replying;
 mod running;
 mod scenario;
@@ -18,8 +17,8 @@ mod text;
 mod top;
 mod words;
 
-pub use answer::Answer;
-pub use laws::scenarios_are_one;
+pub use answer::{Answer, What};
+pub use laws::{answers_are_one, scenarios_are_one};
 use pst_base::NoMemory;
 use pst_io::{FileShelf, OutSink};
 use pst_target::{OpenGate, ScriptTarget};

@@ -1,10 +1,11 @@
 //! The texts that the program prints.
 ghost use Rattle.std.specs.Prelude.{◌≡◌, ◌++◌, ◌<◌, ◌^◌, [], get_or, length, false, codes, string_bytes, IfOk, OnOk};
 ghost use Rattle.pstim.specs.Straight.{names_of};
-ghost use Rattle.pstim.specs.Texts.{compound_line, compound_text, compound_lines, count_lines, action_line, action_lines, event_lines, event_text, goes_on, header, trace_text as trace_text_of, no_file_text as no_file_text_of, read_fault_text as read_fault_text_of, unbuilt_text as unbuilt_text_of};
+ghost use Rattle.pstim.specs.Texts.{compound_line, compound_text, compound_lines, count_lines, action_line, action_lines, event_lines, event_text, goes_on, header, trace_text as trace_text_of, no_file_text as no_file_text_of, read_fault_text as read_fault_text_of, what_text as what_text_of, large_text as large_text_of, lexical_text as lexical_text_of, unbuilt_text as unbuilt_text_of};
 
+use crate::answer::What;
 use crate::parsing::Declaration;
-use pst_base::NoMemory;
+use pst_base::{NoMemory, Place};
 use pst_scen::{Act, Event, Fill, Node, Scenario};
 use std::alloc::Global;
 
@@ -143,6 +144,35 @@ pub fn read_fault_text(alloc: Global, file: &str) -> Result<String, NoMemory>
     ensures { IfOk result (λ text. string_bytes text ≡ read_fault_text_of file.now) }
 {
     Ok(format!(in alloc; "readfault {file}\n")?)
+}
+
+/// What a limit is on.
+fn what_text(what: What) -> &'static str
+    ensures { result.now ≡ what_text_of what }
+{
+    match what {
+        What::Bytes => "bytes",
+        What::Trace => "trace",
+        What::Tokens => "tokens",
+        What::Instances => "instances",
+    }
+}
+
+/// `large WHAT NUMBER`.
+pub fn large_text(alloc: Global, what: What, number: u64) -> Result<String, NoMemory>
+    ensures { IfOk result (λ text. string_bytes text ≡ large_text_of what number) }
+{
+    let what = what_text(what);
+    Ok(format!(in alloc; "large {what} {number}\n")?)
+}
+
+/// `lexical bad NAME:LINE:COLUMN`, or `wide` for `bad`.
+pub fn lexical_text(alloc: Global, file: &str, wide: bool, place: Place) -> Result<String, NoMemory>
+    ensures { IfOk result (λ text. string_bytes text ≡ lexical_text_of file.now wide place) }
+{
+    let sort = if wide { "wide" } else { "bad" };
+    let (line, column) = (place.line, place.column);
+    Ok(format!(in alloc; "lexical {sort} {file}:{line}:{column}\n")?)
 }
 
 /// `unbuilt`.

@@ -1,24 +1,28 @@
 //! Making the reply to a line of words.
-ghost use Rattle.std.specs.Prelude.{◌≡◌, ◌<◌, ◌^◌, List, ℕ, length, map, string_bytes, IfOk, MatchOption, ◌⊎◌};
+ghost use Rattle.std.specs.Prelude.{◌≡◌, ◌+◌, ◌≤◌, List, ℕ, length, map, string_bytes, IfOk, MatchOption, ◌⊎◌};
+ghost use Rattle.pst_token.specs.Tokens.{AreTokens};
 ghost use Rattle.pst_scen.specs.declared.scenario.Scenario.{Scenario as AnyScenario};
 ghost use Rattle.pstim.specs.declared.parsing.Declaration.{Declaration as AnyDeclaration};
 ghost use Rattle.pstim.specs.Straight.{IsStraight};
-ghost use Rattle.pstim.specs.Texts.{unbuilt_text as unbuilt_text_of};
-ghost use Rattle.pstim.specs.Outcome.{IsOwed};
+ghost use Rattle.pstim.specs.Texts.{large_text as large_text_of, lexical_text as lexical_text_of, unbuilt_text as unbuilt_text_of};
+ghost use Rattle.pstim.specs.Outcome.{IsOwed, most_tokens};
 ghost use Rattle.pstim.specs.Replies.{RepliesRun, RefusesOther, RepliesTo, Says};
-ghost use Rattle.pstim.specs.Loaded.{IsSmall};
+ghost use Rattle.pstim.specs.Loaded.{IsReadable};
 ghost use Rattle.pstim.specs.Words.{IsLine};
 
-use crate::answer::Answer;
-use crate::loading::{Loaded, load};
-use crate::printing::{no_file_text, read_fault_text, trace_text, unbuilt_text};
-use crate::reading::lex;
+use crate::answer::{Answer, What};
+use crate::cursor::Cursor;
+use crate::loading::{Loaded, MOST_BYTES, MOST_TOKENS, load};
+use crate::printing::{
+    large_text, lexical_text, no_file_text, read_fault_text, trace_text, unbuilt_text,
+};
 use crate::running::run_in_turn;
 use crate::source::parse;
 use crate::straight::find_scenario;
 use crate::words::{Line, line_of};
-use pst_base::NoMemory;
+use pst_base::{Names, NoMemory, Place};
 use pst_io::Shelf;
+use pst_token::Token;
 use std::alloc::Global;
 
 /// An answer, and the text that is to be written for it.
@@ -28,17 +32,21 @@ pub struct Reply {
     pub text: String,
 }
 
-/// Runs the root of a source; none where the source isn't of the straight form.
-fn run_source(alloc: Global, root: &[u8], source: &[u8]) -> Result<Option<Reply>, NoMemory>
-    requires { length source.now < 2 ^ 31 }
-    ensures { IfOk result (λ reply. MatchOption reply
-        ((actions : List AnyDeclaration) (s : AnyScenario) → IsStraight source.now root.now actions s → ⊥)
-        (λ reply. RepliesRun source.now root.now reply)) }
+/// Runs the root of the source of these tokens; none where it isn't of the straight form.
+fn run_source(
+    alloc: Global,
+    root: &[u8],
+    names: &Names,
+    tokens: &[Token],
+) -> Result<Option<Reply>, NoMemory>
+    requires few { length tokens.now ≤ most_tokens + 1 }
+    requires are { (source : List ℕ) × AreTokens 0 names.now source tokens.now }
+    ensures { IfOk result (λ reply. (source : List ℕ) → AreTokens 0 names.now source tokens.now → MatchOption reply
+        ((actions : List AnyDeclaration) (s : AnyScenario) → IsStraight source root.now actions s → ⊥)
+        (λ reply. RepliesRun source root.now reply)) }
 {
-    let Some(tokens) = lex(alloc, source)? else {
-        return Ok(None);
-    };
-    let Some(all) = parse(alloc, tokens)? else {
+    let mut cursor = Cursor::new(names, tokens);
+    let Some(all) = parse(alloc, &mut cursor)? else {
         return Ok(None);
     };
     let Some(scenario) = find_scenario(alloc, all.as_slice(), root)? else {
@@ -64,21 +72,50 @@ pub fn unbuilt(alloc: Global) -> Result<Reply, NoMemory>
     })
 }
 
-/// The reply to a source.
-fn reply_to_source(alloc: Global, root: &[u8], source: &[u8]) -> Result<Reply, NoMemory>
-    requires { length source.now < 2 ^ 31 }
-    ensures { IfOk result (λ reply. RepliesRun source.now root.now reply ⊎ RefusesOther source.now root.now reply) }
+/// The reply where a count exceeds its limit; the number is the limit plus 1.
+fn large(alloc: Global, what: What, number: u64) -> Result<Reply, NoMemory>
+    ensures { IfOk result (λ reply. Says (Answer.Large what number) (large_text_of what number) reply) }
 {
-    match run_source(alloc, root, source)? {
+    let text = large_text(alloc, what, number)?;
+    Ok(Reply {
+        answer: Answer::Large { what, number },
+        text,
+    })
+}
+
+/// The reply to a file that is no list of tokens.
+fn lexical(alloc: Global, file: &str, wide: bool, place: Place) -> Result<Reply, NoMemory>
+    ensures { IfOk result (λ reply. Says (Answer.Lexical wide place) (lexical_text_of file.now wide place) reply) }
+{
+    let text = lexical_text(alloc, file, wide, place)?;
+    Ok(Reply {
+        answer: Answer::Lexical { wide, place },
+        text,
+    })
+}
+
+/// The reply to a source.
+fn reply_to_source(
+    alloc: Global,
+    root: &[u8],
+    names: &Names,
+    tokens: &[Token],
+) -> Result<Reply, NoMemory>
+    requires few { length tokens.now ≤ most_tokens + 1 }
+    requires are { (source : List ℕ) × AreTokens 0 names.now source tokens.now }
+    ensures { IfOk result (λ reply. (source : List ℕ) → AreTokens 0 names.now source tokens.now
+        → RepliesRun source root.now reply ⊎ RefusesOther source root.now reply) }
+{
+    match run_source(alloc, root, names, tokens)? {
         Some(reply) => Ok(reply),
         None => unbuilt(alloc),
     }
 }
 
 /// The reply to what was found under the file's name.
-fn reply_to(alloc: Global, line: Line<'_>, loaded: Loaded) -> Result<Reply, NoMemory>
-    requires { IsSmall loaded }
-    ensures { IfOk result (λ reply. RepliesTo line.entry.root.now line.entry.file.now loaded reply) }
+fn reply_to(alloc: Global, line: Line<'_>, names: &Names, loaded: Loaded) -> Result<Reply, NoMemory>
+    requires { IsReadable names.now loaded }
+    ensures { IfOk result (λ reply. RepliesTo line.entry.root.now line.entry.file.now names.now loaded reply) }
 {
     match loaded {
         Loaded::Missing => {
@@ -95,8 +132,10 @@ fn reply_to(alloc: Global, line: Line<'_>, loaded: Loaded) -> Result<Reply, NoMe
                 text,
             })
         }
-        Loaded::TooLarge => unbuilt(alloc),
-        Loaded::Text(source) => reply_to_source(alloc, line.root, source.as_slice()),
+        Loaded::TooLarge => large(alloc, What::Bytes, MOST_BYTES as u64 + 1),
+        Loaded::TooMany => large(alloc, What::Tokens, MOST_TOKENS as u64 + 1),
+        Loaded::Faulty { wide, place } => lexical(alloc, line.file, wide, place),
+        Loaded::Lexed(tokens) => reply_to_source(alloc, line.root, names, tokens.as_slice()),
     }
 }
 
@@ -106,8 +145,9 @@ fn reply_to_line<S: Shelf>(alloc: Global, line: Line<'_>, shelf: &mut S) -> Resu
     ensures owed { IfOk result (λ reply. (words : List (List ℕ)) → IsLine words line.entry.root.now line.entry.file.now
         → IsOwed words (S.files shelf.old) (S.faults shelf.old) (S.faults shelf.new) reply.answer (string_bytes reply.text)) }
 {
-    let loaded = load(alloc, shelf, line.file)?;
-    reply_to(alloc, line, loaded)
+    let mut names = Names::new(alloc);
+    let loaded = load(alloc, shelf, line.file, &mut names)?;
+    reply_to(alloc, line, &names, loaded)
 }
 
 /// The reply to words.

@@ -1,82 +1,65 @@
 //! Reading tokens into declarations.
-ghost use Rattle.std.specs.Prelude.{◌≡◌, ◌∷◌, ◌++◌, ℕ, List, Option, codes, IfOk, MatchOption, MatchBool};
+ghost use Rattle.std.specs.Prelude.{◌≡◌, ◌∷◌, [], ◌++◌, ℕ, List, Option, codes, IfOk, MatchOption, MatchBool};
 ghost use Rattle.std.specs.List.{flat_map};
-ghost use Rattle.pstim.specs.declared.lexing.Token.{Token as AnyToken};
-ghost use Rattle.pstim.specs.declared.lexing.Token.TheVariants.{Component, Action, Open, Close, Name, Semicolon};
-ghost use Rattle.pstim.specs.Source.{do_of, activity_of, action_of, source_of};
+ghost use Rattle.pst_token.specs.declared.kind.Kind.TheVariants as kind;
+ghost use Rattle.pstim.specs.Source.{Shape, named, of_kind, do_of, activity_of, action_of, source_of};
 ghost use Rattle.pstim.specs.declared.parsing.Declaration.{Declaration as AnyDeclaration};
 
-use crate::lexing::Token;
+use crate::cursor::Cursor;
 use crate::parsing::Declaration;
 use crate::text::Text;
 use pst_base::{Items, NoMemory};
+use pst_token::Kind;
 use std::alloc::Global;
-use std::collections::VecDeque;
 
 /// Takes `NAME ;` from the front.
-fn performed_name(tokens: &mut VecDeque<Token>) -> Option<Text>
+fn performed_name<'a>(cursor: &mut Cursor<'a>) -> Option<&'a str>
     ensures { MatchOption result
-        ((name : List ℕ) (rest : List AnyToken) → tokens.old.items ≡ Name name ∷ Semicolon ∷ rest → ⊥)
-        (λ name. tokens.old.items ≡ Name name ∷ Semicolon ∷ tokens.new.items) }
+        ((name : List ℕ) (rest : List Shape) → cursor.old ≡ named name ∷ of_kind kind.Semicolon ∷ rest → ⊥)
+        (λ name. cursor.old ≡ named name.now ∷ of_kind kind.Semicolon ∷ cursor.new) }
 {
-    let Some(Token::Name(name)) = tokens.pop_front() else {
-        return None;
-    };
-    let Some(Token::Semicolon) = tokens.pop_front() else {
-        return None;
-    };
-    Some(name)
+    let name = cursor.take_name()?;
+    if cursor.takes(Kind::Semicolon) {
+        Some(name)
+    } else {
+        None
+    }
 }
 
 /// Takes any number of `do NAME ;` and the `}` behind them from the front.
-fn performed(alloc: Global, tokens: &mut VecDeque<Token>) -> Result<Option<Vec<Text>>, NoMemory>
+fn performed(alloc: Global, cursor: &mut Cursor<'_>) -> Result<Option<Vec<Text>>, NoMemory>
     ensures { IfOk result (λ found. MatchOption found
-        ((names : List (List ℕ)) (rest : List AnyToken) → tokens.old.items ≡ flat_map do_of names ++ Close ∷ rest → ⊥)
-        (λ names. tokens.old.items ≡ flat_map do_of names.items ++ Close ∷ tokens.new.items)) }
+        ((names : List (List ℕ)) (rest : List Shape) → cursor.old ≡ flat_map do_of names ++ of_kind kind.RightBrace ∷ rest → ⊥)
+        (λ names. cursor.old ≡ flat_map do_of names.items ++ of_kind kind.RightBrace ∷ cursor.new)) }
 {
     let mut names = Vec::new(alloc);
-    while let Some(token) = tokens.pop_front() {
-        match token {
-            Token::Close => return Ok(Some(names)),
-            Token::Do => match performed_name(tokens) {
-                Some(name) => names.push(name)?,
-                None => return Ok(None),
-            },
-            _ => return Ok(None),
-        }
+    while cursor.takes(Kind::Do) {
+        let Some(name) = performed_name(cursor) else {
+            return Ok(None);
+        };
+        names.push(Text::from_str(alloc, name)?)?;
     }
-    Ok(None)
-}
-
-/// Takes `{` from the front.
-fn takes_open(tokens: &mut VecDeque<Token>) -> bool
-    ensures { MatchBool result (tokens.old.items ≡ Open ∷ tokens.new.items)
-        ((rest : List AnyToken) → tokens.old.items ≡ Open ∷ rest → ⊥) }
-{
-    matches!(tokens.pop_front(), Some(Token::Open))
-}
-
-/// Takes `}` from the front.
-fn takes_close(tokens: &mut VecDeque<Token>) -> bool
-    ensures { MatchBool result (tokens.old.items ≡ Close ∷ tokens.new.items)
-        ((rest : List AnyToken) → tokens.old.items ≡ Close ∷ rest → ⊥) }
-{
-    matches!(tokens.pop_front(), Some(Token::Close))
+    if cursor.takes(Kind::RightBrace) {
+        Ok(Some(names))
+    } else {
+        Ok(None)
+    }
 }
 
 /// Takes what stands behind `activity`, with the `}` of its action, from the front.
-fn block(alloc: Global, tokens: &mut VecDeque<Token>) -> Result<Option<Vec<Text>>, NoMemory>
+fn block(alloc: Global, cursor: &mut Cursor<'_>) -> Result<Option<Vec<Text>>, NoMemory>
     ensures { IfOk result (λ found. MatchOption found
-        ((names : List (List ℕ)) (rest : List AnyToken) → tokens.old.items ≡ Open ∷ (flat_map do_of names ++ Close ∷ Close ∷ rest) → ⊥)
-        (λ names. tokens.old.items ≡ Open ∷ (flat_map do_of names.items ++ Close ∷ Close ∷ tokens.new.items))) }
+        ((names : List (List ℕ)) (rest : List Shape)
+        → cursor.old ≡ of_kind kind.LeftBrace ∷ (flat_map do_of names ++ of_kind kind.RightBrace ∷ of_kind kind.RightBrace ∷ rest) → ⊥)
+        (λ names. cursor.old ≡ of_kind kind.LeftBrace ∷ (flat_map do_of names.items ++ of_kind kind.RightBrace ∷ of_kind kind.RightBrace ∷ cursor.new))) }
 {
-    if !takes_open(tokens) {
+    if !cursor.takes(Kind::LeftBrace) {
         return Ok(None);
     }
-    let Some(names) = performed(alloc, tokens)? else {
+    let Some(names) = performed(alloc, cursor)? else {
         return Ok(None);
     };
-    if takes_close(tokens) {
+    if cursor.takes(Kind::RightBrace) {
         Ok(Some(names))
     } else {
         Ok(None)
@@ -84,97 +67,102 @@ fn block(alloc: Global, tokens: &mut VecDeque<Token>) -> Result<Option<Vec<Text>
 }
 
 /// Takes what stands behind the `{` of an action, with the `}`, from the front.
-fn activity(
-    alloc: Global,
-    tokens: &mut VecDeque<Token>,
-) -> Result<Option<Option<Items<Text>>>, NoMemory>
+fn activity(alloc: Global, cursor: &mut Cursor<'_>) -> Result<Option<Option<Items<Text>>>, NoMemory>
     ensures { IfOk result (λ found. MatchOption found
-        ((activity : Option (List (List ℕ))) (rest : List AnyToken) → tokens.old.items ≡ activity_of activity ++ Close ∷ rest → ⊥)
-        (λ activity. tokens.old.items ≡ activity_of activity ++ Close ∷ tokens.new.items)) }
+        ((activity : Option (List (List ℕ))) (rest : List Shape) → cursor.old ≡ activity_of activity ++ of_kind kind.RightBrace ∷ rest → ⊥)
+        (λ activity. cursor.old ≡ activity_of activity ++ of_kind kind.RightBrace ∷ cursor.new)) }
 {
-    match tokens.pop_front() {
-        Some(Token::Close) => Ok(Some(None)),
-        Some(Token::Activity) => match block(alloc, tokens)? {
-            Some(names) => Ok(Some(Some(Items::from_vec(names)))),
-            None => Ok(None),
-        },
-        _ => Ok(None),
+    if cursor.takes(Kind::RightBrace) {
+        return Ok(Some(None));
+    }
+    if !cursor.takes(Kind::Activity) {
+        return Ok(None);
+    }
+    match block(alloc, cursor)? {
+        Some(names) => Ok(Some(Some(Items::from_vec(names)))),
+        None => Ok(None),
     }
 }
 
 /// Takes a declaration, of which `action` is taken already, from the front.
-fn declaration(alloc: Global, tokens: &mut VecDeque<Token>) -> Result<Option<Declaration>, NoMemory>
+fn declaration(alloc: Global, cursor: &mut Cursor<'_>) -> Result<Option<Declaration>, NoMemory>
     ensures { IfOk result (λ found. MatchOption found
-        ((declaration : AnyDeclaration) (rest : List AnyToken) → Action ∷ tokens.old.items ≡ action_of declaration ++ rest → ⊥)
-        (λ declaration. Action ∷ tokens.old.items ≡ action_of declaration ++ tokens.new.items)) }
+        ((declaration : AnyDeclaration) (rest : List Shape) → of_kind kind.Action ∷ cursor.old ≡ action_of declaration ++ rest → ⊥)
+        (λ declaration. of_kind kind.Action ∷ cursor.old ≡ action_of declaration ++ cursor.new)) }
 {
-    let Some(Token::Name(name)) = tokens.pop_front() else {
+    let Some(name) = cursor.take_name() else {
         return Ok(None);
     };
-    if !takes_open(tokens) {
+    if !cursor.takes(Kind::LeftBrace) {
         return Ok(None);
     }
-    let Some(activity) = activity(alloc, tokens)? else {
+    let Some(activity) = activity(alloc, cursor)? else {
         return Ok(None);
     };
+    let name = Text::from_str(alloc, name)?;
     Ok(Some(Declaration { name, activity }))
 }
 
 /// Takes any number of declarations and the `}` behind them from the front.
 fn declarations(
     alloc: Global,
-    tokens: &mut VecDeque<Token>,
+    cursor: &mut Cursor<'_>,
 ) -> Result<Option<Vec<Declaration>>, NoMemory>
     ensures { IfOk result (λ found. MatchOption found
-        ((all : List AnyDeclaration) (rest : List AnyToken) → tokens.old.items ≡ flat_map action_of all ++ Close ∷ rest → ⊥)
-        (λ all. tokens.old.items ≡ flat_map action_of all.items ++ Close ∷ tokens.new.items)) }
+        ((all : List AnyDeclaration) (rest : List Shape) → cursor.old ≡ flat_map action_of all ++ of_kind kind.RightBrace ∷ rest → ⊥)
+        (λ all. cursor.old ≡ flat_map action_of all.items ++ of_kind kind.RightBrace ∷ cursor.new)) }
 {
     let mut all = Vec::new(alloc);
-    while let Some(token) = tokens.pop_front() {
-        match token {
-            Token::Close => return Ok(Some(all)),
-            Token::Action => match declaration(alloc, tokens)? {
-                Some(declaration) => all.push(declaration)?,
-                None => return Ok(None),
-            },
-            _ => return Ok(None),
-        }
+    while cursor.takes(Kind::Action) {
+        let Some(declaration) = declaration(alloc, cursor)? else {
+            return Ok(None);
+        };
+        all.push(declaration)?;
     }
-    Ok(None)
+    if cursor.takes(Kind::RightBrace) {
+        Ok(Some(all))
+    } else {
+        Ok(None)
+    }
 }
 
 /// Takes `component pss_top {` from the front.
-fn takes_head(tokens: &mut VecDeque<Token>) -> bool
+fn takes_head(cursor: &mut Cursor<'_>) -> bool
     ensures { MatchBool result
-        (tokens.old.items ≡ Component ∷ Name (codes "pss_top") ∷ Open ∷ tokens.new.items)
-        ((rest : List AnyToken) → tokens.old.items ≡ Component ∷ Name (codes "pss_top") ∷ Open ∷ rest → ⊥) }
+        (cursor.old ≡ of_kind kind.Component ∷ named (codes "pss_top") ∷ of_kind kind.LeftBrace ∷ cursor.new)
+        ((rest : List Shape) → cursor.old ≡ of_kind kind.Component ∷ named (codes "pss_top") ∷ of_kind kind.LeftBrace ∷ rest → ⊥) }
 {
-    let Some(Token::Component) = tokens.pop_front() else {
+    if !cursor.takes(Kind::Component) {
+        return false;
+    }
+    let Some(name) = cursor.take_name() else {
         return false;
     };
-    let Some(Token::Name(name)) = tokens.pop_front() else {
-        return false;
-    };
-    name.as_str() == "pss_top" && takes_open(tokens)
+    name == "pss_top" && cursor.takes(Kind::LeftBrace)
+}
+
+/// Takes the end of the tokens, and nothing may stand behind it.
+fn takes_end(cursor: &mut Cursor<'_>) -> bool
+    ensures { MatchBool result (cursor.old ≡ of_kind kind.End ∷ []) (cursor.old ≡ of_kind kind.End ∷ [] → ⊥) }
+{
+    cursor.takes(Kind::End) && cursor.is_at_end()
 }
 
 /// The declarations that the tokens spell, if they spell any.
-pub fn parse(
-    alloc: Global,
-    mut tokens: VecDeque<Token>,
-) -> Result<Option<Vec<Declaration>>, NoMemory>
+pub fn parse(alloc: Global, cursor: &mut Cursor<'_>) -> Result<Option<Vec<Declaration>>, NoMemory>
     ensures { IfOk result (λ found. MatchOption found
-        ((all : List AnyDeclaration) → tokens.items ≡ source_of all → ⊥)
-        (λ all. tokens.items ≡ source_of all.items)) }
+        ((all : List AnyDeclaration) → cursor.old ≡ source_of all → ⊥)
+        (λ all. cursor.old ≡ source_of all.items)) }
 {
-    if !takes_head(&mut tokens) {
+    if !takes_head(cursor) {
         return Ok(None);
     }
-    let Some(all) = declarations(alloc, &mut tokens)? else {
+    let Some(all) = declarations(alloc, cursor)? else {
         return Ok(None);
     };
-    match tokens.pop_front() {
-        None => Ok(Some(all)),
-        Some(_) => Ok(None),
+    if takes_end(cursor) {
+        Ok(Some(all))
+    } else {
+        Ok(None)
     }
 }

@@ -1,4 +1,5 @@
 use super::*;
+use pst_base::Place;
 use pst_io::{MemoryShelf, MemorySink};
 use pst_target::SureTarget;
 use std::test::Fail;
@@ -41,11 +42,11 @@ fn words(alloc: Global, file: &str) -> Result<Vec<String>, AllocError> {
 }
 
 /// A shelf with one source, `a.pss`.
-fn shelf(alloc: Global, source: &str, failing: Vec<u64>) -> Result<MemoryShelf, AllocError> {
+fn shelf(alloc: Global, source: &[u8], failing: Vec<u64>) -> Result<MemoryShelf, AllocError> {
     let mut files = Vec::new(alloc);
     files.push((
         String::from_str(alloc, "a.pss")?,
-        Vec::from_slice(alloc, source.as_bytes())?,
+        Vec::from_slice(alloc, source)?,
     ))?;
     Ok(MemoryShelf::new(files, failing))
 }
@@ -78,11 +79,17 @@ fn runs_straight_sources(rt: HostRuntime) -> Result<(), Fail> {
         ),
         (
             "component pss_top { action entry { } } /*/",
-            10,
-            "unbuilt\n",
+            1,
+            "lexical bad a.pss:1:40\n",
         ),
+        ("07", 1, "lexical bad a.pss:1:1\n"),
+        ("9223372036854775808", 1, "lexical wide a.pss:1:1\n"),
+        ("/* a", 1, "lexical bad a.pss:1:1\n"),
+        ("do\n 9223372036854775808 07", 1, "lexical wide a.pss:2:2\n"),
+        ("9223372036854775807 0x0f <= a..b", 10, "unbuilt\n"),
+        ("", 10, "unbuilt\n"),
     ] {
-        let mut shelf = shelf(alloc, source, Vec::new(alloc))?;
+        let mut shelf = shelf(alloc, source.as_bytes(), Vec::new(alloc))?;
         let mut sink = MemorySink::new(alloc, 7, Vec::new(alloc));
         let mut lane = SureTarget::new(alloc, Vec::new(alloc));
         let words = words(alloc, "a.pss")?;
@@ -90,6 +97,53 @@ fn runs_straight_sources(rt: HostRuntime) -> Result<(), Fail> {
         assert_eq!(rt; answer.status(), status, "in {source}");
         assert_eq!(rt; sink.bytes(), text.as_bytes(), "in {source}");
         assert_eq!(rt; lane.calls().len(), 0);
+    }
+    Ok(())
+}
+
+/// A byte outside ASCII may stand in comments alone.
+#[test]
+fn places_a_bad_byte(rt: HostRuntime) -> Result<(), Fail> {
+    let alloc = rt.alloc();
+    let mut shelf = shelf(alloc, b"component \x80", Vec::new(alloc))?;
+    let mut sink = MemorySink::new(alloc, 4096, Vec::new(alloc));
+    let mut lane = SureTarget::new(alloc, Vec::new(alloc));
+    let words = words(alloc, "a.pss")?;
+    let answer = portable_alone(alloc, &words, &mut shelf, &mut sink, &mut lane);
+    let place = Place {
+        file: 0,
+        line: 1,
+        column: 11,
+    };
+    assert_eq!(rt; answer, Answer::Lexical { wide: false, place });
+    assert_eq!(rt; sink.bytes(), b"lexical bad a.pss:1:11\n".as_slice());
+    Ok(())
+}
+
+/// The limits on bytes and tokens, and what goes before what.
+#[test]
+fn keeps_the_limits(rt: HostRuntime) -> Result<(), Fail> {
+    let alloc = rt.alloc();
+    for (first, byte, count, status, text) in [
+        (b' ', b' ', 1_048_577usize, 9, "large bytes 1048577\n"),
+        (b'@', b' ', 1_048_577, 9, "large bytes 1048577\n"),
+        (b' ', b' ', 1_048_576, 10, "unbuilt\n"),
+        (b'@', b' ', 1_048_576, 1, "lexical bad a.pss:1:1\n"),
+        (b';', b';', 262_145, 9, "large tokens 262145\n"),
+        (b'@', b';', 262_145, 1, "lexical bad a.pss:1:1\n"),
+        (b';', b';', 262_144, 10, "unbuilt\n"),
+    ] {
+        let mut source = vec![in alloc; byte; count]?;
+        if let Some(place) = source.first_mut() {
+            *place = first;
+        }
+        let mut shelf = shelf(alloc, &source, Vec::new(alloc))?;
+        let mut sink = MemorySink::new(alloc, 4096, Vec::new(alloc));
+        let mut lane = SureTarget::new(alloc, Vec::new(alloc));
+        let words = words(alloc, "a.pss")?;
+        let answer = portable_alone(alloc, &words, &mut shelf, &mut sink, &mut lane);
+        assert_eq!(rt; answer.status(), status, "at {text}");
+        assert_eq!(rt; sink.bytes(), text.as_bytes());
     }
     Ok(())
 }
@@ -105,7 +159,7 @@ fn answers_what_fails(rt: HostRuntime) -> Result<(), Fail> {
         ("a=b", 1, 0, 10, "unbuilt\n"),
     ] {
         let failing = vec![in alloc; fails_read]?;
-        let mut shelf = shelf(alloc, TWO_ACTIONS, failing)?;
+        let mut shelf = shelf(alloc, TWO_ACTIONS.as_bytes(), failing)?;
         let mut sink = MemorySink::new(alloc, 16, vec![in alloc; fails_write]?);
         let mut lane = SureTarget::new(alloc, Vec::new(alloc));
         let words = words(alloc, file)?;
@@ -120,7 +174,7 @@ fn answers_what_fails(rt: HostRuntime) -> Result<(), Fail> {
 fn needs_a_lane(rt: HostRuntime) -> Result<(), Fail> {
     let alloc = rt.alloc();
     for (count, status) in [(0, 10), (2, 0)] {
-        let mut shelf = shelf(alloc, TWO_ACTIONS, Vec::new(alloc))?;
+        let mut shelf = shelf(alloc, TWO_ACTIONS.as_bytes(), Vec::new(alloc))?;
         let mut sink = MemorySink::new(alloc, 16, Vec::new(alloc));
         let mut lanes = Vec::new(alloc);
         for _ in 0..count {

@@ -1,58 +1,10 @@
 //! The words of the command line, and names.
 ghost use Rattle.std.specs.Prelude.{◌≡◌, ◌∷◌, [], List, ℕ, map, string_bytes, ◌++◌, nat_eq, codes, MatchOption, MatchBool};
 ghost use Rattle.std.specs.List.{list_any, list_all};
-ghost use Rattle.std.specs.Str.{bytes_eq};
-ghost use Rattle.pstim.specs.Words.{is_letter as is_letter_code, is_word_byte as is_word_code, is_reserved as is_reserved_text, is_name as is_name_text, is_file_name as is_file_text, IsLine};
+ghost use Rattle.pst_token.specs.Lexemes.{is_name_start, is_word_byte, is_word, IsName};
+ghost use Rattle.pstim.specs.Words.{is_file_name as is_file_text, IsLine};
 
-/// The reserved words of the language.
-const RESERVED: [&str; 46] = [
-    "abstract",
-    "action",
-    "activity",
-    "bind",
-    "bit",
-    "body",
-    "bool",
-    "buffer",
-    "component",
-    "constraint",
-    "default",
-    "do",
-    "else",
-    "enum",
-    "exec",
-    "false",
-    "foreach",
-    "function",
-    "if",
-    "import",
-    "in",
-    "input",
-    "int",
-    "join_branch",
-    "join_first",
-    "join_none",
-    "join_select",
-    "lock",
-    "match",
-    "output",
-    "parallel",
-    "pool",
-    "rand",
-    "repeat",
-    "resource",
-    "schedule",
-    "select",
-    "sequence",
-    "share",
-    "state",
-    "stream",
-    "target",
-    "true",
-    "unique",
-    "void",
-    "with",
-];
+use pst_token::kind_of;
 
 /// A line of words that is served.
 #[derive(Clone, Copy)]
@@ -63,39 +15,28 @@ pub struct Line<'a> {
     pub file: &'a str,
 }
 
-/// Whether the byte is an ASCII letter or an underscore.
-pub fn is_letter(byte: u8) -> bool
-    ensures { result ≡ is_letter_code byte }
+/// Whether the byte is an ASCII letter or `_`.
+fn is_name_start(byte: u8) -> bool
+    ensures { result ≡ is_name_start byte }
 {
-    matches!(byte, b'A'..=b'Z' | b'a'..=b'z' | b'_')
+    byte.is_ascii_alphabetic() || byte == b'_'
 }
 
-/// Whether the byte is a letter, a digit or an underscore.
-pub fn is_word_byte(byte: u8) -> bool
-    ensures { result ≡ is_word_code byte }
-{
-    is_letter(byte) || byte.is_ascii_digit()
-}
-
-/// Whether the word is one of these.
-fn is_one_of(words: &[&str], word: &[u8]) -> bool
-    ensures { result ≡ list_any (λ w. bytes_eq w.now word.now) words.now }
-{
-    words.iter().any(|w| w.as_bytes() == word)
-}
-
-/// Whether the word is reserved by the language.
-pub fn is_reserved(word: &[u8]) -> bool
-    ensures { result ≡ is_reserved_text word.now }
-{
-    is_one_of(&RESERVED, word)
-}
-
-/// Whether each byte is a letter, a digit or an underscore.
+/// Whether each byte is a letter, a digit or `_`.
 fn are_word_bytes(word: &[u8]) -> bool
-    ensures { result ≡ list_all is_word_code word.now }
+    ensures { result ≡ list_all is_word_byte word.now }
 {
-    word.iter().all(|b| is_word_byte(*b))
+    word.iter().all(|b| b.is_ascii_alphanumeric() || *b == b'_')
+}
+
+/// Whether the word is a letter or `_`, and then letters, digits and `_`.
+fn is_word(word: &[u8]) -> bool
+    ensures { result ≡ is_word word.now }
+{
+    match word.split_first() {
+        Some((first, more)) => is_name_start(*first) && are_word_bytes(more),
+        None => false,
+    }
 }
 
 /// Whether there is a `=`.
@@ -105,14 +46,11 @@ fn has_equals_sign(word: &[u8]) -> bool
     word.iter().any(|b| *b == b'=')
 }
 
-/// Whether the word is a name.
+/// Whether the word is a name of the language.
 fn is_name(word: &[u8]) -> bool
-    ensures { result ≡ is_name_text word.now }
+    ensures { MatchBool result (IsName word.now) (IsName word.now → ⊥) }
 {
-    if word.is_empty() {
-        return false;
-    }
-    is_letter(word[0]) && are_word_bytes(word) && !is_reserved(word)
+    is_word(word) && kind_of(word).is_none()
 }
 
 /// Whether the word names a file: it isn't empty and has no `=`.

@@ -1,12 +1,11 @@
-use Rattle.std.proofs.Common.{◌≡◌, ◌++◌}
-use Rattle.std.specs.VecDeque.{deque_len}
+use Rattle.std.proofs.Common.{◌≡◌, ◌++◌, length}
 use Rattle.std.specs.List.{flat_map}
 use Rattle.pstim.specs.Source.{do_of}
 use Rattle.pstim.proofs.source.performed.Given as goal
 
 -- the names so far, and the tokens that are left
-abbrev pub invariant-loop-token : goal.invariant-loop-token
-invariant-loop-token l = l.fn.tokens.items ≡ flat_map do_of l.names.items ++ l.tokens.items
+abbrev pub invariant-loop-alloc : goal.invariant-loop-alloc
+invariant-loop-alloc l = l.fn.cursor ≡ flat_map do_of l.names.items ++ l.cursor
 
-abbrev pub decreases-loop-token : goal.decreases-loop-token
-decreases-loop-token l = deque_len l.tokens
+abbrev pub decreases-loop-alloc : goal.decreases-loop-alloc
+decreases-loop-alloc l = length l.cursor

@@ -1,0 +1,16 @@
+mod Elements
+mod Events
+mod Lists
+mod Loops
+mod Idle
+mod Starting
+mod Openings
+mod Steps
+mod RowPlanned
+mod Numbers
+mod Changing
+mod Ties
+mod Pushes
+mod Going
+mod Founding
+mod Parting

@@ -1,0 +1,11 @@
+use Rattle.std.proofs.Common.{ℕ, ◌<◌, subst}
+use Rattle.std.specs.Prelude.{IsTrue, ◌↔◌}
+use Rattle.pst_scen.specs.Trace.{Ended, IsWhole}
+use Rattle.pst_book.specs.Books.{View}
+use Rattle.pst_book.proofs.book.Book.finished.Goals as goal
+
+pub returns : goal.returns
+returns c =
+    let b = c.self.inside in
+    subst (λ (v : View). IsTrue c.all_ended.result ↔ IsWhole v.scenario v.trace) c.self.view_is
+    (subst (λ n. IsTrue c.all_ended.result ↔ ((a : ℕ) → a < n → Ended b.run.trace a)) c.self.invariant.plan.entries.many c.all_ended.ensures)

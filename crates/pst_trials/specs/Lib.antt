@@ -1,0 +1,17 @@
+pub mod Parts
+pub mod Locks
+pub mod Inference
+pub mod Streams
+pub mod Binds
+pub mod States
+pub mod Selects
+pub mod OwnClaims
+pub mod Joins
+pub mod Arrays
+pub mod Bodies
+pub mod Refused
+pub mod Inlines
+pub mod Repeats
+pub mod Instances
+pub mod Cores
+pub mod ClaimValues
