@@ -14,7 +14,7 @@ use Rattle.rand_core.specs.Steps.{u32_at, word_bytes}
 use Rattle.rand_core.specs.Pcg32Seed.{pcg32_seed}
 use Rattle.pst_rng.specs.Words.{generator_at}
 use Rattle.pst_expr.specs.Spans.{numbers_from}
-use Rattle.pst_trials.specs.Inlines.{is_next, is_nine, is_outer, entry, model, scenario, row, choices, begun}
+use Rattle.pst_trials.specs.Inlines.{is_next, is_nine, is_outer, entry, model, scenario, filling, choices, begun}
 use Rattle.pst_legal.specs.Constraints.{OfCompound, Inline}
 use Rattle.pst_legal.specs.Standing.{IsBranch, AtTop as AtTopStatement}
 use Rattle.pst_scen.specs.declared.tree.Fill.{Fill}
@@ -26,7 +26,7 @@ use Rattle.std.proofs.Common.{sym, subst, lit<, true≢false, Contains, slice_ge
 use Rattle.pst_trials.proofs.Cases.{each, each_contained, EachOf, false_true}
 use Rattle.pst_trials.proofs.Legality.{holds_by}
 
-pub reads : read model 1 1 0 choices ≡ Whole row
+pub reads : read model 1 1 0 choices ≡ Whole filling
 unfolding generator_at u32_at pcg32_seed word_bytes numbers_from
 reads = refl
 
@@ -34,15 +34,15 @@ pub options : places model 1 1 0 choices ≡ Some 1 ∷ Some 16 ∷ Some 1 ∷ S
 unfolding generator_at u32_at pcg32_seed word_bytes numbers_from
 options = refl
 
-pub handle : handle_node model row.nodes 0 1 0 ≡ Some 1
+pub handle : handle_node model filling.nodes 0 1 0 ≡ Some 1
 unfolding generator_at u32_at pcg32_seed word_bytes numbers_from
 handle = refl
 
-pub handle_value : node_slot model row 0 (Through 0 (Own 0)) ≡ Known (pos 3)
+pub handle_value : node_slot model filling 0 (Through 0 (Own 0)) ≡ Known (pos 3)
 unfolding generator_at u32_at pcg32_seed word_bytes numbers_from
 handle_value = refl
 
-pub outer_value : inline_slot model row 3 0 [] (Outer (Own 0)) ≡ Known (pos 2)
+pub outer_value : inline_slot model filling 3 0 [] (Outer (Own 0)) ≡ Known (pos 2)
 unfolding generator_at u32_at pcg32_seed word_bytes numbers_from
 outer_value = refl
 
@@ -58,27 +58,27 @@ pub own_unread : node_slot model begun 0 (Own 0) ≡ Between (span 0 15)
 unfolding generator_at u32_at pcg32_seed word_bytes numbers_from
 own_unread = refl
 
-pub is_next_value : value_at is_next (node_slot model row 0) ≡ Some (pos 1)
+pub is_next_value : value_at is_next (node_slot model filling 0) ≡ Some (pos 1)
 unfolding generator_at u32_at pcg32_seed word_bytes numbers_from
 is_next_value = refl
 
-pub is_nine_value : value_at is_nine (inline_slot model row 2 0 []) ≡ Some (pos 1)
+pub is_nine_value : value_at is_nine (inline_slot model filling 2 0 []) ≡ Some (pos 1)
 unfolding generator_at u32_at pcg32_seed word_bytes numbers_from
 is_nine_value = refl
 
-pub is_outer_value : value_at is_outer (inline_slot model row 3 0 []) ≡ Some (pos 1)
+pub is_outer_value : value_at is_outer (inline_slot model filling 3 0 []) ≡ Some (pos 1)
 unfolding generator_at u32_at pcg32_seed word_bytes numbers_from
 is_outer_value = refl
 
 -- ---- the constraints
 
-pub handle_has : HasConstraint model row is_next (node_slot model row 0)
+pub handle_has : HasConstraint model filling is_next (node_slot model filling 0)
 handle_has = OfCompound 0 1 0 (pos 2 ∷ []) _ entry is_next refl refl refl (0, lit< tt, refl)
 
-pub nine_has : HasConstraint model row is_nine (inline_slot model row 2 0 [])
+pub nine_has : HasConstraint model filling is_nine (inline_slot model filling 2 0 [])
 nine_has = Inline 2 0 0 None (is_nine ∷ []) [] is_nine (AtTopStatement 2 1 1 0 (pos 2 ∷ []) _ _ _ refl refl refl refl refl) (0, lit< tt, refl)
 
-pub outer_has : HasConstraint model row is_outer (inline_slot model row 3 0 [])
+pub outer_has : HasConstraint model filling is_outer (inline_slot model filling 3 0 [])
 outer_has = Inline 3 0 0 None (is_outer ∷ []) [] is_outer (AtTopStatement 3 2 1 0 (pos 2 ∷ []) _ _ _ refl refl refl refl refl) (0, lit< tt, refl)
 
 pub eight_fails : Holds model (scenario (pos 2) (pos 3) (pos 8) (pos 2)) → ⊥
@@ -92,11 +92,11 @@ fifteen_is_refused live = true≢false (live.live is_next _ (OfCompound 0 1 0 (p
 -- ---- all of them
 
 abbrev Inlined : ℕ → ℕ → StepTree → Type 0
-Inlined n top step = (action : ℕ) (handle : Option ℕ) (inline : List ConstraintTree) (k : ConstraintTree) → step ≡ Traverse action handle inline → Contains inline k → HoldsAt (inline_slot model row n top []) k
+Inlined n top step = (action : ℕ) (handle : Option ℕ) (inline : List ConstraintTree) (k : ConstraintTree) → step ≡ Traverse action handle inline → Contains inline k → HoldsAt (inline_slot model filling n top []) k
 
-inline_of : (n top own : ℕ) (mine : Option ℕ) (list : List ConstraintTree) → EachOf (HoldsAt (inline_slot model row n top [])) list → Inlined n top (Traverse own mine list)
+inline_of : (n top own : ℕ) (mine : Option ℕ) (list : List ConstraintTree) → EachOf (HoldsAt (inline_slot model filling n top [])) list → Inlined n top (Traverse own mine list)
 inline_of n top own mine list facts action handle inline k same contained =
-    each_contained (HoldsAt (inline_slot model row n top [])) list facts k (subst (λ l. Contains l k) (sym (inline_same own action mine handle list inline same)) contained)
+    each_contained (HoldsAt (inline_slot model filling n top [])) list facts k (subst (λ l. Contains l k) (sym (inline_same own action mine handle list inline same)) contained)
   where
     inline_same : (a b : ℕ) (g h : Option ℕ) (xs ys : List ConstraintTree) → Traverse a g xs ≡ Traverse b h ys → xs ≡ ys
     inline_same a b g h xs ys e = cc e
@@ -104,7 +104,7 @@ inline_of n top own mine list facts action handle inline k same contained =
 abbrev steps : List StepTree
 steps = traverse_by 0 0 ∷ Traverse 0 None (is_nine ∷ []) ∷ Traverse 0 None (is_outer ∷ []) ∷ []
 
-by_index : Each (λ index step. (n : ℕ) → IsBranch row.nodes 0 index n → Inlined n 0 step) steps
+by_index : Each (λ index step. (n : ℕ) → IsBranch filling.nodes 0 index n → Inlined n 0 step) steps
 by_index = (
   (λ n branch. subst (λ n. Inlined n 0 (traverse_by 0 0)) (some_same 1 n branch) (inline_of 1 0 0 (Some 0) [] tt)),
   (
@@ -121,19 +121,19 @@ IsRoot n _ = Unit {0}
 abbrev activity : ActivityTree
 activity = record { handles = 0 ∷ []; steps = steps; binds = [] }
 
-inlines : EachInline HoldsAt model row
+inlines : EachInline HoldsAt model filling
 inlines n top action handle inline indices k stands contained =
-    let t : StandsAtTop model row.nodes top n (Traverse action handle inline) indices = stands_at_top model row.nodes (tt, ((refl, (refl, (refl, tt))), tt)) top n (Traverse action handle inline) indices stands in
-    let root : (top ≡ 0) × (t.action ≡ 1) = subst (IsRoot top) t.compound (each (λ n node. IsRoot n node.fill) row.nodes ((refl, refl), (tt, (tt, (tt, tt)))) top t.node t.is_node) in
+    let t : StandsAtTop model filling.nodes top n (Traverse action handle inline) indices = stands_at_top model filling.nodes (tt, ((refl, (refl, (refl, tt))), tt)) top n (Traverse action handle inline) indices stands in
+    let root : (top ≡ 0) × (t.action ≡ 1) = subst (IsRoot top) t.compound (each (λ n node. IsRoot n node.fill) filling.nodes ((refl, refl), (tt, (tt, (tt, tt)))) top t.node t.is_node) in
     let same : activity ≡ t.activity = some_same activity t.activity (subst (λ a. activity_of model a ≡ Some t.activity) root.1 t.has) in
     let is : slice_get steps t.index ≡ Some (Traverse action handle inline) = subst (λ (a : ActivityTree). slice_get a.steps t.index ≡ Some (Traverse action handle inline)) (sym same) t.is in
-    let branch : IsBranch row.nodes 0 t.index n = subst (λ top. IsBranch row.nodes top t.index n) root.0 t.branch in
-    let holds : HoldsAt (inline_slot model row n 0 []) k =
-    each (λ index step. (n : ℕ) → IsBranch row.nodes 0 index n → Inlined n 0 step) steps by_index t.index (Traverse action handle inline) is n branch action handle inline k refl contained in
-    subst (λ top. HoldsAt (inline_slot model row n top indices) k) (sym root.0) (subst (λ l. HoldsAt (inline_slot model row n 0 l) k) (sym t.no_turns) holds)
+    let branch : IsBranch filling.nodes 0 t.index n = subst (λ top. IsBranch filling.nodes top t.index n) root.0 t.branch in
+    let holds : HoldsAt (inline_slot model filling n 0 []) k =
+    each (λ index step. (n : ℕ) → IsBranch filling.nodes 0 index n → Inlined n 0 step) steps by_index t.index (Traverse action handle inline) is n branch action handle inline k refl contained in
+    subst (λ top. HoldsAt (inline_slot model filling n top indices) k) (sym root.0) (subst (λ l. HoldsAt (inline_slot model filling n 0 l) k) (sym t.no_turns) holds)
 
-pub all_hold : Holds model row
-all_hold = holds_by model row (record {
+pub all_hold : Holds model filling
+all_hold = holds_by model filling (record {
   inlines = inlines;
   compounds = ((refl, tt), (tt, (tt, (tt, tt))));
   acts = (tt, (tt, (tt, tt)));

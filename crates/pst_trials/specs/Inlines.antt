@@ -48,8 +48,8 @@ scenario n a b c = scenario_of 0
     (act_with 0 (Some 1) (a ∷ []) ∷ act_with 0 (Some 2) (b ∷ []) ∷ act_with 0 (Some 3) (c ∷ []) ∷ [])
     []
 
-abbrev pub row : Scenario
-row = scenario (pos 2) (pos 3) (pos 9) (pos 2)
+abbrev pub filling : Scenario
+filling = scenario (pos 2) (pos 3) (pos 9) (pos 2)
 
 -- The words of seed 1 at places 1, 5, 6 and 7 leave 7, 8, 5 and 1 at 16 values.
 abbrev pub choices : List ℕ
@@ -60,24 +60,24 @@ abbrev pub begun : Scenario
 begun = scenario_of 0 (root_node 1 [] ∷ []) [] []
 
 pub record InlinesAreTried : Type 0 where
-  pub reads : read model 1 1 0 choices ≡ Whole row
+  pub reads : read model 1 1 0 choices ≡ Whole filling
   pub options : places model 1 1 0 choices ≡ Some 1 ∷ Some 16 ∷ Some 1 ∷ Some 1 ∷ Some 1 ∷ Some 16 ∷ Some 16 ∷ Some 16 ∷ []
   -- what the handle and the action round a traversal stand for
-  pub handle : handle_node model row.nodes 0 1 0 ≡ Some 1
-  pub handle_value : node_slot model row 0 (Through 0 (Own 0)) ≡ Known (pos 3)
-  pub outer_value : inline_slot model row 3 0 [] (Outer (Own 0)) ≡ Known (pos 2)
+  pub handle : handle_node model filling.nodes 0 1 0 ≡ Some 1
+  pub handle_value : node_slot model filling 0 (Through 0 (Own 0)) ≡ Known (pos 3)
+  pub outer_value : inline_slot model filling 3 0 [] (Outer (Own 0)) ≡ Known (pos 2)
   -- before it is there, what the handle traverses has its declared values
   pub no_handle_yet : handle_node model begun.nodes 0 1 0 ≡ None
   pub handle_unread : node_slot model begun 0 (Through 0 (Own 0)) ≡ Between (span 0 15)
   pub own_unread : node_slot model begun 0 (Own 0) ≡ Between (span 0 15)
   -- which constraints there are, and their values
-  pub handle_has : HasConstraint model row is_next (node_slot model row 0)
-  pub nine_has : HasConstraint model row is_nine (inline_slot model row 2 0 [])
-  pub outer_has : HasConstraint model row is_outer (inline_slot model row 3 0 [])
-  pub is_next_value : value_at is_next (node_slot model row 0) ≡ Some (pos 1)
-  pub is_nine_value : value_at is_nine (inline_slot model row 2 0 []) ≡ Some (pos 1)
-  pub is_outer_value : value_at is_outer (inline_slot model row 3 0 []) ≡ Some (pos 1)
-  pub all_hold : Holds model row
+  pub handle_has : HasConstraint model filling is_next (node_slot model filling 0)
+  pub nine_has : HasConstraint model filling is_nine (inline_slot model filling 2 0 [])
+  pub outer_has : HasConstraint model filling is_outer (inline_slot model filling 3 0 [])
+  pub is_next_value : value_at is_next (node_slot model filling 0) ≡ Some (pos 1)
+  pub is_nine_value : value_at is_nine (inline_slot model filling 2 0 []) ≡ Some (pos 1)
+  pub is_outer_value : value_at is_outer (inline_slot model filling 3 0 []) ≡ Some (pos 1)
+  pub all_hold : Holds model filling
   pub eight_fails : Holds model (scenario (pos 2) (pos 3) (pos 8) (pos 2)) → ⊥
   -- where n is 15 no value of a.v is left, before it is read
   pub fifteen_is_refused : IsLive model 1 1 0 (0 ∷ 8 ∷ []) → ⊥
