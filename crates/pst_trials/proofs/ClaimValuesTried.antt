@@ -11,13 +11,13 @@ use Rattle.rand_core.specs.Steps.{u32_at, word_bytes}
 use Rattle.rand_core.specs.Pcg32Seed.{pcg32_seed}
 use Rattle.pst_rng.specs.Words.{generator_at}
 use Rattle.pst_expr.specs.Spans.{numbers_from}
-use Rattle.pst_trials.specs.ClaimValues.{five_more, is_second, above_five, resource, model, act, scenario_with, row, unread}
+use Rattle.pst_trials.specs.ClaimValues.{five_more, is_second, above_five, resource, model, act, scenario_with, filling, unread}
 use Rattle.pst_legal.specs.Constraints.{OfClaim, OfAct, is_refused_at}
 use Rattle.pst_legal.specs.First.{NoneRefused}
 use Rattle.pst_trials.proofs.Legality.{Property, each_constraint, none_inline}
 use Rattle.std.proofs.Common.{lit<, true≢false}
 
-pub reads : read model 0 1 0 (0 ∷ 0 ∷ 6 ∷ []) ≡ Whole row
+pub reads : read model 0 1 0 (0 ∷ 0 ∷ 6 ∷ []) ≡ Whole filling
 unfolding generator_at u32_at pcg32_seed word_bytes numbers_from
 reads = refl
 
@@ -49,11 +49,11 @@ pub own_known : resource_slot model (act 1 (pos 6 ∷ [])) 0 Id ≡ Known (pos 1
 unfolding generator_at u32_at pcg32_seed word_bytes numbers_from
 own_known = refl
 
-pub field_known : act_slot model row (act 1 (pos 6 ∷ [])) (ClaimField 0 0) ≡ Known (pos 6)
+pub field_known : act_slot model filling (act 1 (pos 6 ∷ [])) (ClaimField 0 0) ≡ Known (pos 6)
 unfolding generator_at u32_at pcg32_seed word_bytes numbers_from
 field_known = refl
 
-pub no_second_claim : act_slot model row (act 1 (pos 6 ∷ [])) (ClaimId 1) ≡ Lacking
+pub no_second_claim : act_slot model filling (act 1 (pos 6 ∷ [])) (ClaimId 1) ≡ Lacking
 unfolding generator_at u32_at pcg32_seed word_bytes numbers_from
 no_second_claim = refl
 
@@ -65,11 +65,11 @@ pub seven : value_at five_more (resource_slot model (act 1 (pos 7 ∷ [])) 0) �
 unfolding generator_at u32_at pcg32_seed word_bytes numbers_from
 seven = refl
 
-pub second : value_at is_second (act_slot model row (act 1 (pos 6 ∷ []))) ≡ Some (pos 1)
+pub second : value_at is_second (act_slot model filling (act 1 (pos 6 ∷ []))) ≡ Some (pos 1)
 unfolding generator_at u32_at pcg32_seed word_bytes numbers_from
 second = refl
 
-pub above : value_at above_five (act_slot model row (act 1 (pos 6 ∷ []))) ≡ Some (pos 1)
+pub above : value_at above_five (act_slot model filling (act 1 (pos 6 ∷ []))) ≡ Some (pos 1)
 unfolding generator_at u32_at pcg32_seed word_bytes numbers_from
 above = refl
 
@@ -78,7 +78,7 @@ above = refl
 pub has_unread : HasConstraint model (scenario_with unread) five_more (resource_slot model unread 0)
 has_unread = OfClaim 0 0 unread _ (claim true 0) resource five_more (record { is = refl; of_type = refl }) refl refl (0, lit< tt, refl)
 
-pub has : HasConstraint model row five_more (resource_slot model (act 1 (pos 6 ∷ [])) 0)
+pub has : HasConstraint model filling five_more (resource_slot model (act 1 (pos 6 ∷ [])) 0)
 has = OfClaim 0 0 (act 1 (pos 6 ∷ [])) _ (claim true 0) resource five_more (record { is = refl; of_type = refl }) refl refl (0, lit< tt, refl)
 
 pub first_is_refused : IsLive model 0 1 0 (0 ∷ 1 ∷ []) → ⊥

@@ -11,7 +11,7 @@ use Rattle.pst_legal.specs.Binds.{bounds_of}
 use Rattle.pst_scen.specs.Order.{Before, Must}
 use Rattle.pst_scen.specs.Trace.{MayCome, Starts, IsLegalTrace, IsWhole}
 use Rattle.pst_legal.specs.ValueReading.{Dead, Whole, read}
-use Rattle.pst_trials.specs.Parts.{traverse_by, row, start, places}
+use Rattle.pst_trials.specs.Parts.{traverse_by, filling, start, places}
 use Rattle.std.proofs.Common.{refl}
 use Rattle.rand_core.specs.Steps.{u32_at, word_bytes}
 use Rattle.rand_core.specs.Pcg32Seed.{pcg32_seed}
@@ -62,11 +62,11 @@ pub too_many : read (model (Joined true (Choose 3) branches)) 3 1 0 (0 ∷ []) �
 unfolding generator_at u32_at pcg32_seed word_bytes numbers_from
 too_many = refl
 
-pub crossed_reads : read (across (Joined true (Fixed 0) (row (traverse_by 1 0 ∷ [])))) 2 1 0 choices ≡ Whole (crossed (fill.Joined true 0))
+pub crossed_reads : read (across (Joined true (Fixed 0) (filling (traverse_by 1 0 ∷ [])))) 2 1 0 choices ≡ Whole (crossed (fill.Joined true 0))
 unfolding generator_at u32_at pcg32_seed word_bytes numbers_from
 crossed_reads = refl
 
-pub crossed_bound : bounds_of (across (Joined true (Fixed 0) (row (traverse_by 1 0 ∷ [])))) (crossed (fill.Joined true 0)).nodes ≡ record { from_act = 1; from_reference = 0; to_act = 0; to_reference = 0 } ∷ []
+pub crossed_bound : bounds_of (across (Joined true (Fixed 0) (filling (traverse_by 1 0 ∷ [])))) (crossed (fill.Joined true 0)).nodes ≡ record { from_act = 1; from_reference = 0; to_act = 0; to_reference = 0 } ∷ []
 unfolding generator_at u32_at pcg32_seed word_bytes numbers_from
 crossed_bound = refl
 

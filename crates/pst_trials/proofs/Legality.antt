@@ -239,8 +239,8 @@ plain_arm_step (MakeArm spans step) plain = plain
 
 plain_in_branches : (branches : BranchRow) → ArePlainBranches branches → (k : ℕ) (step : StepTree) → option_map branch_step (slice_get (branches_of branches) k) ≡ Some step → IsPlain step
 plain_in_branches NoBranches plain k step is = absurd (none_some step is)
-plain_in_branches (MoreBranches branch row) plain zero step is = subst IsPlain (some_same (branch_step branch) step is) (plain_branch_step branch plain.0)
-plain_in_branches (MoreBranches branch row) plain (suc k) step is = plain_in_branches row plain.1 k step is
+plain_in_branches (MoreBranches branch filling) plain zero step is = subst IsPlain (some_same (branch_step branch) step is) (plain_branch_step branch plain.0)
+plain_in_branches (MoreBranches branch filling) plain (suc k) step is = plain_in_branches filling plain.1 k step is
 
 plain_in_arms : (arms : ArmRow) → ArePlainArms arms → (k : ℕ) (step : StepTree) → option_map arm_step (slice_get (arms_of arms) k) ≡ Some step → IsPlain step
 plain_in_arms NoArms plain k step is = absurd (none_some step is)
@@ -257,8 +257,8 @@ plain_below _ (Sequence steps) index step plain is = plain_in_row steps plain in
 plain_below _ (Parallel steps) index step plain is = plain_in_row steps plain index step is
 plain_below _ (Schedule steps) index step plain is = plain_in_row steps plain index step is
 plain_below _ (Joined parallel join steps) index step plain is = plain_in_row steps plain index step is
-plain_below (fill.Select branch) (Select row) index step plain is = plain_in_branches row plain branch step is
-plain_below _ (Select row) index step plain is = absurd (none_some step is)
+plain_below (fill.Select branch) (Select filling) index step plain is = plain_in_branches filling plain branch step is
+plain_below _ (Select filling) index step plain is = absurd (none_some step is)
 plain_below _ (Repeat count body) index step plain is = absurd (none_some step is)
 plain_below (fill.If true) (If condition holds fails) index step plain is = subst IsPlain (some_same holds step is) plain.0
 plain_below (fill.If false) (If condition holds fails) index step plain is = plain_other fails plain.1 step is
@@ -404,7 +404,7 @@ is_traverse (Sequence steps) = false
 is_traverse (Parallel steps) = false
 is_traverse (Schedule steps) = false
 is_traverse (Joined parallel join steps) = false
-is_traverse (Select row) = false
+is_traverse (Select filling) = false
 is_traverse (Repeat count body) = false
 is_traverse (If condition holds fails) = false
 is_traverse (Match matched arms other) = false
@@ -442,7 +442,7 @@ below_traverse _ (Sequence steps) index step is some = false_true is
 below_traverse _ (Parallel steps) index step is some = false_true is
 below_traverse _ (Schedule steps) index step is some = false_true is
 below_traverse _ (Joined parallel join steps) index step is some = false_true is
-below_traverse _ (Select row) index step is some = false_true is
+below_traverse _ (Select filling) index step is some = false_true is
 below_traverse _ (Repeat count body) index step is some = false_true is
 below_traverse _ (If condition holds fails) index step is some = false_true is
 below_traverse _ (Match matched arms other) index step is some = false_true is

@@ -19,7 +19,7 @@ use Rattle.rand_core.specs.Steps.{u32_at, word_bytes}
 use Rattle.rand_core.specs.Pcg32Seed.{pcg32_seed}
 use Rattle.pst_rng.specs.Words.{generator_at}
 use Rattle.pst_expr.specs.Spans.{numbers_from}
-use Rattle.pst_trials.specs.States.{writers, at_first, one_more, is_one, state, written, reader, scenario, one, row, choices, of_written, of_first, of_reader, writer_first, replaced}
+use Rattle.pst_trials.specs.States.{writers, at_first, one_more, is_one, state, written, reader, scenario, one, filling, choices, of_written, of_first, of_reader, writer_first, replaced}
 use Rattle.pst_scen.specs.Conflicts.{Uses, SecondWrites}
 use Rattle.pst_scen.specs.Order.{Source, Replaced}
 use Rattle.pst_scen.specs.Flows.{Reads, Writes}
@@ -59,7 +59,7 @@ use Rattle.pst_legal.specs.Supplied.{AfterWriter}
 use Rattle.pst_trials.specs.States.{two}
 use Rattle.std.proofs.Common.{List}
 
-pub reads : read one 2 1 1 choices ≡ Whole row
+pub reads : read one 2 1 1 choices ≡ Whole filling
 unfolding generator_at u32_at pcg32_seed word_bytes numbers_from
 reads = refl
 
@@ -67,27 +67,27 @@ pub options : places one 2 1 1 choices ≡ Some 1 ∷ Some 1 ∷ Some 2 ∷ Some
 unfolding generator_at u32_at pcg32_seed word_bytes numbers_from
 options = refl
 
-pub written_isn't_first : output_slot one row (written (pos 1)) IsFirst ≡ Known (pos 0)
+pub written_isn't_first : output_slot one filling (written (pos 1)) IsFirst ≡ Known (pos 0)
 unfolding generator_at u32_at pcg32_seed word_bytes numbers_from
 written_isn't_first = refl
 
-pub written_follows : output_slot one row (written (pos 1)) (Prev 0) ≡ Known (pos 0)
+pub written_follows : output_slot one filling (written (pos 1)) (Prev 0) ≡ Known (pos 0)
 unfolding generator_at u32_at pcg32_seed word_bytes numbers_from
 written_follows = refl
 
-pub written_value : output_slot one row (written (pos 1)) (Own 0) ≡ Known (pos 1)
+pub written_value : output_slot one filling (written (pos 1)) (Own 0) ≡ Known (pos 1)
 unfolding generator_at u32_at pcg32_seed word_bytes numbers_from
 written_value = refl
 
-pub first_is_first : first_object_slot one row 0 IsFirst ≡ Known (pos 1)
+pub first_is_first : first_object_slot one filling 0 IsFirst ≡ Known (pos 1)
 unfolding generator_at u32_at pcg32_seed word_bytes numbers_from
 first_is_first = refl
 
-pub first_follows_nothing : first_object_slot one row 0 (Prev 0) ≡ Lacking
+pub first_follows_nothing : first_object_slot one filling 0 (Prev 0) ≡ Lacking
 unfolding generator_at u32_at pcg32_seed word_bytes numbers_from
 first_follows_nothing = refl
 
-pub read_value : act_slot one row reader (Object 0 0) ≡ Known (pos 1)
+pub read_value : act_slot one filling reader (Object 0 0) ≡ Known (pos 1)
 unfolding generator_at u32_at pcg32_seed word_bytes numbers_from
 read_value = refl
 
@@ -123,23 +123,23 @@ pub read_two : of_reader is_one (pos 0) (pos 2) ≡ Some (pos 0)
 unfolding generator_at u32_at pcg32_seed word_bytes numbers_from
 read_two = refl
 
-pub no_writer_yet : last_writer row 0 (start 1 0 ∷ []) ≡ None
+pub no_writer_yet : last_writer filling 0 (start 1 0 ∷ []) ≡ None
 unfolding generator_at u32_at pcg32_seed word_bytes numbers_from
 no_writer_yet = refl
 
-pub then_the_writer : last_writer row 0 (start 1 0 ∷ End 1 ∷ []) ≡ Some 1
+pub then_the_writer : last_writer filling 0 (start 1 0 ∷ End 1 ∷ []) ≡ Some 1
 unfolding generator_at u32_at pcg32_seed word_bytes numbers_from
 then_the_writer = refl
 
 -- ---- the constraints of the scenario
 
-pub written_has : HasConstraint one row one_more (output_slot one row (written (pos 1)))
+pub written_has : HasConstraint one filling one_more (output_slot one filling (written (pos 1)))
 written_has = OfOutput 1 0 (written (pos 1)) state one_more refl refl refl (1, lit< tt, refl)
 
-pub first_has : HasConstraint one row at_first (first_object_slot one row 0)
+pub first_has : HasConstraint one filling at_first (first_object_slot one filling 0)
 first_has = OfFirst 1 0 (written (pos 1)) state at_first refl refl refl (0, lit< tt, refl)
 
-pub reader_has : HasConstraint one row is_one (act_slot one row reader)
+pub reader_has : HasConstraint one filling is_one (act_slot one filling reader)
 reader_has = OfAct 0 reader _ is_one (record { is = refl; of_type = refl }) (0, lit< tt, refl)
 
 pub another_first : Legal one 2 (scenario (pos 1) (pos 2)) → ⊥
@@ -147,30 +147,30 @@ another_first legal = false_true (legal.holds at_first _ (OfFirst 1 0 (written (
 
 -- ---- the order
 
-in_order : IsPreorder row.nodes
-in_order = preorder_by row.nodes (refl, (refl, tt))
+in_order : IsPreorder filling.nodes
+in_order = preorder_by filling.nodes (refl, (refl, tt))
 
-reads_object : Reads row 0 0 (link.Act 1 0)
+reads_object : Reads filling 0 0 (link.Act 1 0)
 reads_object = record { act = _; reference = 0; filled = _; is_act = refl; is = refl; of_flow = refl; of_pool = refl; linked = refl }
 
-writes_object : Writes row 1 0 link.Initial
+writes_object : Writes filling 1 0 link.Initial
 writes_object = record { act = _; reference = 0; filled = _; is_act = refl; is = refl; of_flow = refl; of_pool = refl; linked = refl }
 
-pub order : Must row 1 0
+pub order : Must filling 1 0
 order = Directly 1 0 0 (differ 1 0 refl, Source 0 (link.Act 1 0) reads_object (0, refl)) Itself
 
-pub conflict : Conflict row 0 1
+pub conflict : Conflict filling 0 1
 conflict = (differ 0 1 refl, SecondWrites 0 link.Initial (link.Act 1 0, inl reads_object) writes_object)
 
-pub reader_waits : MayCome row 2 (start 1 0 ∷ []) (Starts (0 ∷ []) (1 ∷ [])) → ⊥
+pub reader_waits : MayCome filling 2 (start 1 0 ∷ []) (Starts (0 ∷ []) (1 ∷ [])) → ⊥
 reader_waits may = none_some 1 (may.source 0 0 (link.Act 1 0) (here 0 []) reads_object)
 
-pub reader_not_first : MayCome row 2 [] (Starts (0 ∷ []) (1 ∷ [])) → ⊥
+pub reader_not_first : MayCome filling 2 [] (Starts (0 ∷ []) (1 ∷ [])) → ⊥
 reader_not_first may = none_some 1 (may.source 0 0 (link.Act 1 0) (here 0 []) reads_object)
 
 -- ---- the trace
 
-pub trace : IsLegalTrace row 1 writer_first
+pub trace : IsLegalTrace filling 1 writer_first
 trace = record {
   blocks = Ends 0 ∷ Starts (0 ∷ []) (0 ∷ []) ∷ Ends 1 ∷ Starts (1 ∷ []) (0 ∷ []) ∷ [];
   are = refl;
@@ -179,39 +179,39 @@ trace = record {
       (
         (
           tt,
-          starts_next row 1 [] 1 0 tt (lit< tt) (lit< tt) tt (awaits row [] 1 in_order tt) (tt, tt) (tt, (refl, tt)),
+          starts_next filling 1 [] 1 0 tt (lit< tt) (lit< tt) tt (awaits filling [] 1 in_order tt) (tt, tt) (tt, (refl, tt)),
         ),
         runs_by (start 1 0 ∷ []) 1 0 false (0, lit< tt, refl) (tt, tt),
       ),
-      starts_next row 1 (start 1 0 ∷ End 1 ∷ []) 0 0 tt (lit< tt) (lit< tt) ((tt, inl (1, lit< tt, refl)), (tt, tt)) (awaits row (start 1 0 ∷ End 1 ∷ []) 0 in_order tt) ((1, lit< tt, refl), tt) (refl, (tt, tt)),
+      starts_next filling 1 (start 1 0 ∷ End 1 ∷ []) 0 0 tt (lit< tt) (lit< tt) ((tt, inl (1, lit< tt, refl)), (tt, tt)) (awaits filling (start 1 0 ∷ End 1 ∷ []) 0 in_order tt) ((1, lit< tt, refl), tt) (refl, (tt, tt)),
     ),
     runs_by (start 1 0 ∷ End 1 ∷ start 0 0 ∷ []) 0 0 false (2, lit< tt, refl) (tt, (tt, (tt, tt))),
   );
 }
 
-pub whole : IsWhole row writer_first
-whole = whole_by row writer_first ((3, lit< tt, refl), ((1, lit< tt, refl), tt))
+pub whole : IsWhole filling writer_first
+whole = whole_by filling writer_first ((3, lit< tt, refl), ((1, lit< tt, refl), tt))
 
 -- ---- a legal scenario
 
-is_scenario : IsScenario row
+is_scenario : IsScenario filling
 is_scenario = record {
-  nodes = in_preorder row.nodes (tt, (refl, tt));
+  nodes = in_preorder filling.nodes (tt, (refl, tt));
   leaves = record { numbers = refl; nodes = refl };
-  links = are_linked row.actions (((tt, (_, refl, tt)), tt), (((tt, tt), tt), tt));
+  links = are_linked filling.actions (((tt, (_, refl, tt)), tt), (((tt, tt), tt), tt));
   firsts = record {
     ascending = λ i j d less below. let under : j < 1 = below in absurd (omega arith);
     used = λ pool. (
-      (each_contained (λ pool. (a : ℕ) × Uses row a pool) (0 ∷ []) ((1, (link.Initial, inr writes_object)), tt) pool),
+      (each_contained (λ pool. (a : ℕ) × Uses filling a pool) (0 ∷ []) ((1, (link.Initial, inr writes_object)), tt) pool),
       (λ u. subst (Contains (0 ∷ [])) (sym (pool_of_use u.0 pool u.1)) (here 0 [])),
     );
   };
 }
   where
-    only : (a : ℕ) (flow : Flow) (pool : ℕ) (to : Link) → Refers row a flow pool to → pool ≡ 0
-    only = each_refers (λ a flow pool to. pool ≡ 0) row (refl, (refl, tt))
+    only : (a : ℕ) (flow : Flow) (pool : ℕ) (to : Link) → Refers filling a flow pool to → pool ≡ 0
+    only = each_refers (λ a flow pool to. pool ≡ 0) filling (refl, (refl, tt))
 
-    pool_of_use : (a pool : ℕ) → Uses row a pool → pool ≡ 0
+    pool_of_use : (a pool : ℕ) → Uses filling a pool → pool ≡ 0
     pool_of_use a pool (to, inl reads) = only a StateIn pool to reads
     pool_of_use a pool (to, inr writes) = only a StateOut pool to writes
 
@@ -220,7 +220,7 @@ reader_way = record { type = _; is = refl; instance = 0; inside = (0, lit< tt, r
 
 -- the scenario before its sources are read
 abbrev tree : Scenario
-tree = scenario_of 1 row.nodes (act_of 1 (Some 1) (filled StateIn [] link.Nothing ∷ []) ∷ []) []
+tree = scenario_of 1 filling.nodes (act_of 1 (Some 1) (filled StateIn [] link.Nothing ∷ []) ∷ []) []
 
 fills : Fills one most_levels (Action 2 None) None (nothing_yet 1) tree
 fills = (_, _, record { type = _; is = refl; instance = 0; inside = (0, lit< tt, refl); content = ([], tt, refl, refl) }, (_, (_, _, reader_way, refl), refl))
@@ -259,12 +259,12 @@ is_writer = record {
   claims = λ k claim claimed is. absurd (none_some claim is);
 }
 
-fits : Fits one 2 row
+fits : Fits one 2 filling
 fits = record {
   tree = record { tree = tree; fills = fills; nodes = refl; leaves = (record { action = refl; instance = refl; node = refl }, tt) };
   values = record {
-    acts = each (λ a act. IsActOf one act) row.actions (is_reader, (is_writer, tt));
-    firsts = each (λ k first. AreObjectValues (pool_object one first.pool) first.values) row.firsts ((small 0 tt tt, tt), tt);
+    acts = each (λ a act. IsActOf one act) filling.actions (is_reader, (is_writer, tt));
+    firsts = each (λ k first. AreObjectValues (pool_object one first.pool) first.values) filling.firsts ((small 0 tt tt, tt), tt);
   };
   within = record { few_nodes = lit≤ tt; few_acts = lit≤ tt };
 }
@@ -276,37 +276,37 @@ not_writer is = false_true (ap writes is)
     writes StateOut = true
     writes _ = false
 
-one_writer : ArePreviousOnce row.actions
+one_writer : ArePreviousOnce filling.actions
 one_writer a r b q first other is_first is_other writes also_writes pools links =
-    each_reference (λ a r first. (b q : ℕ) (other : Filled) → reference_at row.actions b q ≡ Some other → first.flow ≡ StateOut → other.flow ≡ StateOut → (a ≡ b) × (r ≡ q)) row.actions (
+    each_reference (λ a r first. (b q : ℕ) (other : Filled) → reference_at filling.actions b q ≡ Some other → first.flow ≡ StateOut → other.flow ≡ StateOut → (a ≡ b) × (r ≡ q)) filling.actions (
       ((λ b q other is_other writes. absurd (not_writer writes)), tt),
-      (((λ b q other is_other writes also. each_reference (λ b q other. other.flow ≡ StateOut → (1 ≡ b) × (0 ≡ q)) row.actions (((λ writes. absurd (not_writer writes)), tt), (((λ writes. (refl, refl)), tt), tt)) b q other is_other also), tt), tt),
+      (((λ b q other is_other writes also. each_reference (λ b q other. other.flow ≡ StateOut → (1 ≡ b) × (0 ≡ q)) filling.actions (((λ writes. absurd (not_writer writes)), tt), (((λ writes. (refl, refl)), tt), tt)) b q other is_other also), tt), tt),
     )
     a r first is_first b q other is_other writes also_writes
 
-supplied : Supplied one row
+supplied : Supplied one filling
 supplied = record {
-  sources = sources_by row.actions (((refl, (_, refl, refl, refl)), tt), ((tt, tt), tt));
+  sources = sources_by filling.actions (((refl, (_, refl, refl, refl)), tt), ((tt, tt), tt));
   previous = one_writer;
-  chains = each_reference (λ a r filled. filled.flow ≡ StateOut → ComesFromFirst row.actions a r) row.actions
+  chains = each_reference (λ a r filled. filled.flow ≡ StateOut → ComesFromFirst filling.actions a r) filling.actions
       (((λ writes. absurd (not_writer writes)), tt), (((λ writes. AtFirst 1 0 (written (pos 1)) refl refl), tt), tt));
-  bound = bounds_by (bounds_of one row.nodes) row.actions ((tt, tt), ((tt, tt), tt));
-  inferred = inferred_by one row.actions (tt, (record { type = _; is = refl; atomic = refl; concrete = refl; inside = (0, lit< tt, refl) }, tt));
+  bound = bounds_by (bounds_of one filling.nodes) filling.actions ((tt, tt), ((tt, tt), tt));
+  inferred = inferred_by one filling.actions (tt, (record { type = _; is = refl; atomic = refl; concrete = refl; inside = (0, lit< tt, refl) }, tt));
   numbered = (lit< tt, lit< tt, (lit< tt, tt, refl));
 }
 
-shape : HasShape one row
-shape = shape_by one row (record { type = _; is = refl; activity = _; compound = refl; inside = lit< tt; many = refl }, (tt, tt))
+shape : HasShape one filling
+shape = shape_by one filling (record { type = _; is = refl; activity = _; compound = refl; inside = lit< tt; many = refl }, (tt, tt))
     (record { type = _; is = refl; atomic = refl; inside = lit< tt; many_fields = refl; many_references = refl; references = each_both (λ k r f. HasReferenceShape one r f) (input 0 ∷ []) (reader).references (record { pool = lit< tt; output = λ e. absurd (false_true e); input = λ e. refl }, tt); many_claims = refl; claims = λ k claim claimed is. absurd (none_some claim is) }, (record { type = _; is = refl; atomic = refl; inside = lit< tt; many_fields = refl; many_references = refl; references = each_both (λ k r f. HasReferenceShape one r f) (output 0 ∷ []) (writer).references (record { pool = lit< tt; output = λ e. record { type = _; is = refl; many = refl }; input = λ e. absurd (true≢false e) }, tt); many_claims = refl; claims = λ k claim claimed is. absurd (none_some claim is) }, tt)) ((lit< tt, record { type = _; is = refl; many = refl }), tt)
 
-pub legal : Legal one 2 row
+pub legal : Legal one 2 filling
 legal = record {
   scenario = is_scenario;
   shape = shape;
   fits = fits;
   supplied = supplied;
-  holds = holds_by one row (record {
-    inlines = none_inline HoldsAt one row (tt, (tt, ((refl, tt), tt)));
+  holds = holds_by one filling (record {
+    inlines = none_inline HoldsAt one filling (tt, (tt, ((refl, tt), tt)));
     compounds = (tt, (tt, tt));
     acts = ((refl, tt), (tt, tt));
     claims = (tt, (tt, tt));
@@ -314,10 +314,10 @@ legal = record {
     firsts = (((refl, (refl, tt)), tt), (((refl, (refl, tt)), tt), tt));
   });
   parallel = record {
-    unordered = each_parallel (λ a b. Must row a b → ⊥) row in_order tt;
-    undisputed = λ a b stand. absurd (each_parallel (λ a b. ⊥) row in_order tt a b stand);
+    unordered = each_parallel (λ a b. Must filling a b → ⊥) filling in_order tt;
+    undisputed = λ a b stand. absurd (each_parallel (λ a b. ⊥) filling in_order tt a b stand);
   };
-  alone = λ a below. none_clashes row (tt, (tt, tt)) a;
+  alone = λ a below. none_clashes filling (tt, (tt, tt)) a;
   runs = record { lanes = 1; trace = writer_first; legal = trace; whole = whole };
 }
 

@@ -16,7 +16,7 @@ use Rattle.pst_scen.specs.Trace.{IsLegalTrace, IsWhole}
 use Rattle.pst_scen.specs.Plans.{KeepsParallel}
 use Rattle.pst_legal.specs.Legal.{Legal}
 use Rattle.pst_legal.specs.ValueReading.{Whole, read}
-use Rattle.pst_trials.specs.Parts.{compound, traverse_by, row, act_of, filled, root_node, node, scenario_of, start, places}
+use Rattle.pst_trials.specs.Parts.{compound, traverse_by, filling, act_of, filled, root_node, node, scenario_of, start, places}
 use Rattle.pst_trials.specs.Inference.{flow_model}
 
 -- P p; C c; activity { .. bind p.o c.i; }
@@ -25,7 +25,7 @@ model step = flow_model Buffer (compound (0 ∷ 1 ∷ []) (step ∷ []) (record 
 
 -- p; c;
 abbrev pub both : StepRow
-both = row (traverse_by 0 0 ∷ traverse_by 1 1 ∷ [])
+both = filling (traverse_by 0 0 ∷ traverse_by 1 1 ∷ [])
 
 abbrev pub scenario : Fill → Scenario
 scenario block = scenario_of 0

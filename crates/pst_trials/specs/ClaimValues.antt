@@ -48,8 +48,8 @@ act instance values = act_claims 0 (Some 0) (record { pool = 0; lock = true; ins
 abbrev pub scenario_with : Act → Scenario
 scenario_with a = scenario_of 0 (record { parent = None; fill = fill.Leaf 0 } ∷ []) (a ∷ []) []
 
-abbrev pub row : Scenario
-row = scenario_with (act 1 (pos 6 ∷ []))
+abbrev pub filling : Scenario
+filling = scenario_with (act 1 (pos 6 ∷ []))
 
 -- nothing of the claim is read
 abbrev pub unread : Act
@@ -57,7 +57,7 @@ unread = act_claims 0 (Some 0) []
 
 pub record ClaimValuesAreTried : Type 0 where
   -- The words of seed 1 at places 1 and 2 leave 1 and 0 at 2 and 16 options.
-  pub reads : read model 0 1 0 (0 ∷ 0 ∷ 6 ∷ []) ≡ Whole row
+  pub reads : read model 0 1 0 (0 ∷ 0 ∷ 6 ∷ []) ≡ Whole filling
   pub options : places model 0 1 0 (0 ∷ 0 ∷ 6 ∷ []) ≡ Some 1 ∷ Some 2 ∷ Some 16 ∷ []
   -- what the slots stand for, before the claim is read, before its value is, and then
   pub instance_open : act_slot model (scenario_with unread) unread (ClaimId 0) ≡ Between (span 0 1)
@@ -66,15 +66,15 @@ pub record ClaimValuesAreTried : Type 0 where
   pub instance_known : act_slot model (scenario_with (act 1 [])) (act 1 []) (ClaimId 0) ≡ Known (pos 1)
   pub field_still_open : resource_slot model (act 1 []) 0 (Own 0) ≡ Between (span 0 15)
   pub own_known : resource_slot model (act 1 (pos 6 ∷ [])) 0 Id ≡ Known (pos 1)
-  pub field_known : act_slot model row (act 1 (pos 6 ∷ [])) (ClaimField 0 0) ≡ Known (pos 6)
-  pub no_second_claim : act_slot model row (act 1 (pos 6 ∷ [])) (ClaimId 1) ≡ Lacking
+  pub field_known : act_slot model filling (act 1 (pos 6 ∷ [])) (ClaimField 0 0) ≡ Known (pos 6)
+  pub no_second_claim : act_slot model filling (act 1 (pos 6 ∷ [])) (ClaimId 1) ≡ Lacking
   -- the resource's constraint is there before the claim is read
   pub has_unread : HasConstraint model (scenario_with unread) five_more (resource_slot model unread 0)
-  pub has : HasConstraint model row five_more (resource_slot model (act 1 (pos 6 ∷ [])) 0)
+  pub has : HasConstraint model filling five_more (resource_slot model (act 1 (pos 6 ∷ [])) 0)
   pub six : value_at five_more (resource_slot model (act 1 (pos 6 ∷ [])) 0) ≡ Some (pos 1)
   pub seven : value_at five_more (resource_slot model (act 1 (pos 7 ∷ [])) 0) ≡ Some (pos 0)
-  pub second : value_at is_second (act_slot model row (act 1 (pos 6 ∷ []))) ≡ Some (pos 1)
-  pub above : value_at above_five (act_slot model row (act 1 (pos 6 ∷ []))) ≡ Some (pos 1)
+  pub second : value_at is_second (act_slot model filling (act 1 (pos 6 ∷ []))) ≡ Some (pos 1)
+  pub above : value_at above_five (act_slot model filling (act 1 (pos 6 ∷ []))) ≡ Some (pos 1)
   -- the claim of instance 0 is refused before its value is read, that of instance 1 is not
   pub first_is_refused : IsLive model 0 1 0 (0 ∷ 1 ∷ []) → ⊥
   pub second_is_live : IsLive model 0 1 0 (0 ∷ 0 ∷ [])

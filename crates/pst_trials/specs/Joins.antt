@@ -16,7 +16,7 @@ use Rattle.pst_legal.specs.Fits.{FillsRoot}
 use Rattle.pst_scen.specs.Order.{Before, Must}
 use Rattle.pst_scen.specs.Trace.{MayCome, Starts, IsLegalTrace, IsWhole}
 use Rattle.pst_legal.specs.ValueReading.{Dead, Whole, read}
-use Rattle.pst_trials.specs.Parts.{atomic, compound, top, traverse, traverse_by, row, act_of, filled, root_node, node, scenario_of, start, places}
+use Rattle.pst_trials.specs.Parts.{atomic, compound, top, traverse, traverse_by, filling, act_of, filled, root_node, node, scenario_of, start, places}
 use Rattle.pst_trials.specs.Inference.{flow_model}
 
 -- action A { } action B { } action C { }
@@ -32,7 +32,7 @@ model block = record {
 
 -- do A; do B;
 abbrev pub branches : StepRow
-branches = row (traverse 0 ∷ traverse 1 ∷ [])
+branches = filling (traverse 0 ∷ traverse 1 ∷ [])
 
 -- parallel .. { do A; do B; } do C;
 abbrev pub scenario : Fill → Scenario
@@ -77,8 +77,8 @@ pub record JoinsAreTried : Type 0 where
   pub chosen_first : read (model (Joined true (Choose 1) branches)) 3 1 0 (0 ∷ 1 ∷ 0 ∷ 0 ∷ 0 ∷ 0 ∷ []) ≡ Whole (scenario (fill.Joined true 1))
   pub too_many : read (model (Joined true (Choose 3) branches)) 3 1 0 (0 ∷ []) ≡ Dead
   -- a bind across a block that waits for nothing
-  pub crossed_reads : read (across (Joined true (Fixed 0) (row (traverse_by 1 0 ∷ [])))) 2 1 0 choices ≡ Whole (crossed (fill.Joined true 0))
-  pub crossed_bound : bounds_of (across (Joined true (Fixed 0) (row (traverse_by 1 0 ∷ [])))) (crossed (fill.Joined true 0)).nodes ≡ record { from_act = 1; from_reference = 0; to_act = 0; to_reference = 0 } ∷ []
+  pub crossed_reads : read (across (Joined true (Fixed 0) (filling (traverse_by 1 0 ∷ [])))) 2 1 0 choices ≡ Whole (crossed (fill.Joined true 0))
+  pub crossed_bound : bounds_of (across (Joined true (Fixed 0) (filling (traverse_by 1 0 ∷ [])))) (crossed (fill.Joined true 0)).nodes ≡ record { from_act = 1; from_reference = 0; to_act = 0; to_reference = 0 } ∷ []
   pub crossed_released : Before (crossed (fill.Joined true 0)) 0 1 → ⊥
   pub crossed_order : Must (crossed (fill.Joined true 0)) 1 0
   pub crossed_trace : IsLegalTrace (crossed (fill.Joined true 0)) 1 second_first

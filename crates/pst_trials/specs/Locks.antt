@@ -15,7 +15,7 @@ use Rattle.pst_scen.specs.Plans.{KeepsParallel}
 use Rattle.pst_legal.specs.Legal.{Legal}
 use Rattle.pst_legal.specs.First.{IsFirst}
 use Rattle.pst_legal.specs.ValueReading.{Whole, read}
-use Rattle.pst_trials.specs.Parts.{bare, atomic, compound, top, pool_of, serve, traverse, row, claim, act_claims, claimed, root_node, node, scenario_of, start, places}
+use Rattle.pst_trials.specs.Parts.{bare, atomic, compound, top, pool_of, serve, traverse, filling, claim, act_claims, claimed, root_node, node, scenario_of, start, places}
 
 -- resource r_t { }
 -- component pss_top { pool r_t r; bind r *; action A { lock r_t k; } action entry { activity { .. } } }, or share for lock
@@ -31,7 +31,7 @@ model locks step = record {
 
 -- do A; do A;
 abbrev pub twice : StepRow
-twice = row (traverse 0 ∷ traverse 0 ∷ [])
+twice = filling (traverse 0 ∷ traverse 0 ∷ [])
 
 abbrev pub act : Bool → ℕ → Act
 act locks n = act_claims 0 (Some n) (claimed locks 0 ∷ [])

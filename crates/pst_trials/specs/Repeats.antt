@@ -13,7 +13,7 @@ use Rattle.pst_legal.specs.Constraints.{HasConstraint, value_at}
 use Rattle.pst_legal.specs.Fits.{FillsRoot}
 use Rattle.pst_scen.specs.Order.{Before}
 use Rattle.pst_legal.specs.ValueReading.{Dead, Whole, read}
-use Rattle.pst_trials.specs.Parts.{field_to, atomic_with, compound, top, traverse, row, number, by, constraint, act_with, root_node, node, scenario_of, places}
+use Rattle.pst_trials.specs.Parts.{field_to, atomic_with, compound, top, traverse, filling, number, by, constraint, act_with, root_node, node, scenario_of, places}
 
 abbrev pub plain : Expression → ConstraintTree
 plain expression = constraint expression []
@@ -32,7 +32,7 @@ traversal = Traverse 0 None (turn_value ∷ [])
 
 -- { if (i == 1) do A with { v == i + 1; }; }
 abbrev pub body : StepTree
-body = Sequence (row (If second_turn traversal NoStep ∷ []))
+body = Sequence (filling (If second_turn traversal NoStep ∷ []))
 
 -- component pss_top { action A { rand bit[4] v; } action entry { activity { .. } } }
 abbrev pub model : StepTree → ModelTree

@@ -71,8 +71,8 @@ scenario first x = scenario_of 1
 abbrev pub one : ModelTree
 one = model (traverse 1 ∷ [])
 
-abbrev pub row : Scenario
-row = scenario (pos 0) (pos 1)
+abbrev pub filling : Scenario
+filling = scenario (pos 0) (pos 1)
 
 -- The words of seed 1 at places 2, 4 and 5 leave 0 at 2, 4 and 4 options, so each digit there is its option's number.
 abbrev pub choices : List ℕ
@@ -112,18 +112,18 @@ writers first second = scenario_of 0
 
 pub record StatesAreTried : Type 0 where
   -- a reader may read the first object or a new writer's; then the writer's previous one, and two values
-  pub reads : read one 2 1 1 choices ≡ Whole row
+  pub reads : read one 2 1 1 choices ≡ Whole filling
   pub options : places one 2 1 1 choices ≡ Some 1 ∷ Some 1 ∷ Some 2 ∷ Some 1 ∷ Some 4 ∷ Some 4 ∷ []
   -- which constraints there are, and where
-  pub written_has : HasConstraint one row one_more (output_slot one row (written (pos 1)))
-  pub first_has : HasConstraint one row at_first (first_object_slot one row 0)
-  pub reader_has : HasConstraint one row is_one (act_slot one row reader)
-  pub written_isn't_first : output_slot one row (written (pos 1)) IsFirst ≡ Known (pos 0)
-  pub written_follows : output_slot one row (written (pos 1)) (Prev 0) ≡ Known (pos 0)
-  pub written_value : output_slot one row (written (pos 1)) (Own 0) ≡ Known (pos 1)
-  pub first_is_first : first_object_slot one row 0 IsFirst ≡ Known (pos 1)
-  pub first_follows_nothing : first_object_slot one row 0 (Prev 0) ≡ Lacking
-  pub read_value : act_slot one row reader (Object 0 0) ≡ Known (pos 1)
+  pub written_has : HasConstraint one filling one_more (output_slot one filling (written (pos 1)))
+  pub first_has : HasConstraint one filling at_first (first_object_slot one filling 0)
+  pub reader_has : HasConstraint one filling is_one (act_slot one filling reader)
+  pub written_isn't_first : output_slot one filling (written (pos 1)) IsFirst ≡ Known (pos 0)
+  pub written_follows : output_slot one filling (written (pos 1)) (Prev 0) ≡ Known (pos 0)
+  pub written_value : output_slot one filling (written (pos 1)) (Own 0) ≡ Known (pos 1)
+  pub first_is_first : first_object_slot one filling 0 IsFirst ≡ Known (pos 1)
+  pub first_follows_nothing : first_object_slot one filling 0 (Prev 0) ≡ Lacking
+  pub read_value : act_slot one filling reader (Object 0 0) ≡ Known (pos 1)
   -- and their values
   pub written_by_one : of_written one_more (pos 0) (pos 1) ≡ Some (pos 1)
   pub written_by_two : of_written one_more (pos 0) (pos 2) ≡ Some (pos 0)
@@ -134,15 +134,15 @@ pub record StatesAreTried : Type 0 where
   pub read_one : of_reader is_one (pos 0) (pos 1) ≡ Some (pos 1)
   pub read_two : of_reader is_one (pos 0) (pos 2) ≡ Some (pos 0)
   -- the writer first
-  pub order : Must row 1 0
-  pub conflict : Conflict row 0 1
-  pub no_writer_yet : last_writer row 0 (start 1 0 ∷ []) ≡ None
-  pub then_the_writer : last_writer row 0 (start 1 0 ∷ End 1 ∷ []) ≡ Some 1
-  pub reader_waits : MayCome row 2 (start 1 0 ∷ []) (Starts (0 ∷ []) (1 ∷ [])) → ⊥
-  pub reader_not_first : MayCome row 2 [] (Starts (0 ∷ []) (1 ∷ [])) → ⊥
-  pub trace : IsLegalTrace row 1 writer_first
-  pub whole : IsWhole row writer_first
-  pub legal : Legal one 2 row
+  pub order : Must filling 1 0
+  pub conflict : Conflict filling 0 1
+  pub no_writer_yet : last_writer filling 0 (start 1 0 ∷ []) ≡ None
+  pub then_the_writer : last_writer filling 0 (start 1 0 ∷ End 1 ∷ []) ≡ Some 1
+  pub reader_waits : MayCome filling 2 (start 1 0 ∷ []) (Starts (0 ∷ []) (1 ∷ [])) → ⊥
+  pub reader_not_first : MayCome filling 2 [] (Starts (0 ∷ []) (1 ∷ [])) → ⊥
+  pub trace : IsLegalTrace filling 1 writer_first
+  pub whole : IsWhole filling writer_first
+  pub legal : Legal one 2 filling
   -- other values are not legal
   pub another_first : Legal one 2 (scenario (pos 1) (pos 2)) → ⊥
   -- a reader of what was replaced before it stands in a cycle, and nothing runs whole
