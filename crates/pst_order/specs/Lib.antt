@@ -1,3 +1,4 @@
 pub mod Rule
 pub mod Facts
+pub mod Built
 pub mod Laws
