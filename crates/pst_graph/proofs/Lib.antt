@@ -1,0 +1,7 @@
+mod Climbs
+mod Awaits
+mod Bits
+mod Acted
+mod Loops
+mod Grouped
+mod Words

@@ -1,0 +1,5 @@
+pub mod Over
+pub mod Links
+pub mod Acts
+pub mod Grouping
+pub mod Words

@@ -1,0 +1,11 @@
+//! The plan of a scenario: its groups, its order and its conflicts, or why it has none.
+#![tactic(auto)]
+
+mod before;
+mod cause;
+mod climb;
+mod direct;
+mod groups;
+mod links;
+mod parallel;
+mod rows;
