@@ -5,3 +5,5 @@ mod Acted
 mod Loops
 mod Grouped
 mod Words
+mod Joins
+mod Closes

@@ -4,6 +4,7 @@
 mod before;
 mod cause;
 mod climb;
+mod closure;
 mod direct;
 mod groups;
 mod links;
