@@ -4,4 +4,5 @@ mod Bits
 mod Acted
 mod Loops
 mod Grouped
-mod Words
+mod Squares
+mod Adding

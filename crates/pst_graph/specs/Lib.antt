@@ -2,4 +2,4 @@ pub mod Over
 pub mod Links
 pub mod Acts
 pub mod Grouping
-pub mod Words
+pub mod Squares

@@ -9,3 +9,4 @@ mod groups;
 mod links;
 mod parallel;
 mod rows;
+mod square;
