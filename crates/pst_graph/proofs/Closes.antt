@@ -1,8 +1,9 @@
 -- Closure by one middle after another.
-use Rattle.std.proofs.Common.{◌≡◌, ◌↔◌, ◌⊎◌, inl, inr, ⊎_elim, ◌<◌, ◌≤◌, ◌+◌, ◌/◌, ℕ, List, length, refl, sym, subst, ◌∙◌, arith}
+use Rattle.std.proofs.Common.{◌≡◌, ◌↔◌, ◌⊎◌, inl, inr, ⊎_elim, ◌<◌, ◌≤◌, ◌+◌, ◌/◌, ◌++◌, ℕ, List, length, take, refl, sym, ap, subst, ◌∙◌, arith}
+use Rattle.std.proofs.Math.Seq.{take-append_seam}
 use Rattle.pst_scen.specs.Rows.{row_words}
 use Rattle.pst_graph.specs.Chains.{IsChain, Once, Through}
-use Rattle.pst_graph.specs.Squares.{HasBit, GoThrough, IsClosure}
+use Rattle.pst_graph.specs.Bits.{HasBit, GoThrough, IsClosure}
 use Rattle.pst_graph.proofs.Grouped.{same_or_not}
 
 pub word_in : (size row b : ℕ) → row ≡ row_words size → b < size → b / 64 < row
@@ -65,3 +66,7 @@ closed_all size row base words k all h = record { many = h.many; chains = λ a b
     has : (a b : ℕ) → a < size → b < size → IsChain (HasBit row base) size a b → HasBit row words a b
     has _ _ a_in b_in (Once a b m) = h.has a b a_in b_in m
     has _ _ a_in b_in (Through a c b c_in p q) = h.through a c b (omega (arith, c_in, all)) a_in c_in b_in (has a c a_in c_in p) (has c b c_in b_in q)
+
+-- what stands in a list whose items were all written anew
+pub written : (n : ℕ) (new rest is : List ℕ) → n ≡ length new → is ≡ take n (new ++ rest) → is ≡ new
+written n new rest is all same = same ∙ ap (λ m. take m (new ++ rest)) all ∙ take-append_seam new rest

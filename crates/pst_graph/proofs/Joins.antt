@@ -5,7 +5,7 @@ use Rattle.std.specs.Int.{bit_at}
 use Rattle.std.proofs.lemmas.Bool.{cases_lt}
 use Rattle.std.proofs.lemmas.Nat.{bit_set_by_shift, same_from_place}
 use Rattle.std.proofs.lemmas.Nat.Bits.{shr_and_one, bit_at_or, bit_at-lt}
-use Rattle.pst_graph.specs.Squares.{HasBit, IsJoined, LeadsThrough, GoThrough}
+use Rattle.pst_graph.specs.Bits.{HasBit, IsJoined, LeadsThrough, GoThrough}
 use Rattle.pst_graph.proofs.Grouped.{same_or_not}
 
 -- BITS OF WORDS

@@ -4,6 +4,7 @@ mod Bits
 mod Acted
 mod Loops
 mod Grouped
-mod Words
+mod Squares
+mod Adding
 mod Joins
 mod Closes

@@ -2,6 +2,6 @@ pub mod Over
 pub mod Links
 pub mod Acts
 pub mod Grouping
-pub mod Words
-pub mod Chains
 pub mod Squares
+pub mod Chains
+pub mod Bits

@@ -1,32 +1,51 @@
--- Squares of bits by their words, of which so many stand in a row.
-use Rattle.std.specs.Prelude.{◌≡◌, ◌≢◌, ◌↔◌, ◌⊎◌, ◌+◌, ◌*◌, ◌/◌, ◌%◌, ◌<◌, ℕ, List, length, get_or, IsBitSet, bit_or}
-use Rattle.pst_graph.specs.Chains.{IsChain}
+-- Squares of bits in the making.
+use Rattle.std.specs.Prelude.{◌≡◌, ◌↔◌, ◌⊎◌, ◌≤◌, ◌<◌, ◌/◌, ◌%◌, ℕ, IsBitSet}
+use Rattle.pst_scen.specs.declared.rows.Rows.{Rows}
+use Rattle.pst_scen.specs.Rows.{Has}
 
--- the pair's bit is set
-abbrev pub HasBit : ℕ → List ℕ → ℕ → ℕ → Type 0
-HasBit row words a b = IsBitSet (get_or words (a * row + b / 64) 0) (b % 64)
+-- a square of that size that has no pair
+pub record IsBlank (rows : Rows) (size : ℕ) : Type 0 where
+  pub sized : rows.size ≡ size
+  pub none : (a b : ℕ) → Has rows a b → ⊥
 
--- the row of a has the bits of m's row too
-pub record IsJoined (row : ℕ) (old new : List ℕ) (a m : ℕ) : Type 0 where
-  pub many : length new ≡ length old
-  pub joined : (w : ℕ) → w < row → get_or new (a * row + w) 0 ≡ bit_or (get_or old (a * row + w) 0) (get_or old (m * row + w) 0)
-  pub others : (c w : ℕ) → w < row → c ≢ a → get_or new (c * row + w) 0 ≡ get_or old (c * row + w) 0
+-- the second square has the pairs of the first and those of the relation, and no other
+pub record Adds (old new : Rows) (P : ℕ → ℕ → Type 0) : Type 0 where
+  pub sized : new.size ≡ old.size
+  pub has : (a b : ℕ) → a < old.size → b < old.size → Has new a b ↔ Has old a b ⊎ P a b
 
--- the pairs of a that lead through m are there too
-pub record LeadsThrough (row : ℕ) (old new : List ℕ) (a m : ℕ) : Type 0 where
-  pub many : length new ≡ length old
-  pub keeps : (c b : ℕ) → b / 64 < row → HasBit row old c b → HasBit row new c b
-  pub adds : (b : ℕ) → b / 64 < row → HasBit row old a m → HasBit row old m b → HasBit row new a b
-  pub only : (c b : ℕ) → b / 64 < row → HasBit row new c b → HasBit row old c b ⊎ ((c ≡ a) × HasBit row old a m × HasBit row old m b)
+-- the pair is that one
+pub record IsPair (a b c d : ℕ) : Type 0 where
+  pub first : c ≡ a
+  pub second : d ≡ b
 
--- the pairs of the numbers below a limit that lead through m are there too
-pub record GoThrough (row : ℕ) (old new : List ℕ) (limit m : ℕ) : Type 0 where
-  pub many : length new ≡ length old
-  pub keeps : (c b : ℕ) → b / 64 < row → HasBit row old c b → HasBit row new c b
-  pub adds : (c b : ℕ) → c < limit → b / 64 < row → HasBit row old c m → HasBit row old m b → HasBit row new c b
-  pub only : (c b : ℕ) → b / 64 < row → HasBit row new c b → HasBit row old c b ⊎ (HasBit row old c m × HasBit row old m b)
+-- the pair stands in that word of the row, at a bit that the mask has
+pub record IsMasked (a w mask c d : ℕ) : Type 0 where
+  pub first : c ≡ a
+  pub word : d / 64 ≡ w
+  pub bit : IsBitSet mask (d % 64)
 
--- the pairs that a chain of the old ones joins
-pub record IsClosure (size row : ℕ) (old new : List ℕ) : Type 0 where
-  pub many : length new ≡ length old
-  pub chains : (a b : ℕ) → a < size → b < size → HasBit row new a b ↔ IsChain (HasBit row old) size a b
+-- the pair is of that row, and its second number lies in the range
+pub record IsInRange (a from to c d : ℕ) : Type 0 where
+  pub first : c ≡ a
+  pub least : from ≤ d
+  pub below : d < to
+
+-- the pair is that one, and the relation has it
+pub record IsOnly (P : ℕ → ℕ → Type 0) (a b c d : ℕ) : Type 0 where
+  pub pair : IsPair a b c d
+  pub related : P c d
+
+-- the pair is of that row, and the relation has it
+pub record IsInRow (P : ℕ → ℕ → Type 0) (a c d : ℕ) : Type 0 where
+  pub first : c ≡ a
+  pub related : P c d
+
+-- the second number is below that one, and the relation has the pair
+pub record IsBelow (P : ℕ → ℕ → Type 0) (to c d : ℕ) : Type 0 where
+  pub below : d < to
+  pub related : P c d
+
+-- the first number is below that one, and the relation has the pair
+pub record IsAbove (P : ℕ → ℕ → Type 0) (to c d : ℕ) : Type 0 where
+  pub below : c < to
+  pub related : P c d

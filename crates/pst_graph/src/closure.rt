@@ -2,7 +2,7 @@
 ghost use Rattle.std.specs.Prelude.{◌≡◌, ◌≢◌, ◌↔◌, ◌≤◌, ◌<◌, ◌+◌, ◌*◌, ◌/◌, ℕ, length, get_or, bit_or, IsTrue, IfOk};
 ghost use Rattle.pst_scen.specs.Rows.{row_words, IsSquare, Has};
 ghost use Rattle.pst_graph.specs.Chains.{IsChain};
-ghost use Rattle.pst_graph.specs.Squares.{HasBit, IsJoined, LeadsThrough, GoThrough, IsClosure};
+ghost use Rattle.pst_graph.specs.Bits.{HasBit, IsJoined, LeadsThrough, GoThrough, IsClosure};
 
 use pst_base::{Items, NoMemory};
 use pst_scen::Rows;

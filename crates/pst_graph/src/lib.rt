@@ -10,3 +10,4 @@ mod groups;
 mod links;
 mod parallel;
 mod rows;
+mod square;

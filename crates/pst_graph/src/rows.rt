@@ -1,90 +1,41 @@
-//! Squares of bits, a word at a time.
-ghost use Rattle.std.specs.Prelude.{◌≡◌, ◌↔◌, ◌⊎◌, ◌<◌, ◌+◌, ◌*◌, ◌^◌, ℕ, length, IsTrue, IsBitSet, IfOk};
+//! Squares of the pairs of actions that are related.
+ghost use Rattle.std.specs.Prelude.{◌≡◌, ◌↔◌, ◌<◌, ◌*◌, ◌^◌, ℕ, length, get_or, IfOk};
 ghost use Rattle.pst_scen.specs.Conflicts.{Conflict};
-ghost use Rattle.pst_scen.specs.Rows.{row_words, IsSquare, Has};
-ghost use Rattle.pst_graph.specs.Words.{IsConflictAt, IsConflictWord, AreConflictWords};
+ghost use Rattle.pst_scen.specs.Plans.{IsGroupNumber};
+ghost use Rattle.pst_scen.specs.Rows.{IsSquare, Has};
+ghost use Rattle.pst_order.specs.Facts.{IsLinked};
+ghost use Rattle.pst_graph.specs.Grouping.{MustDirectly};
+ghost use Rattle.pst_graph.specs.Squares.{Adds, IsOnly, IsInRow};
 
 use crate::cause::conflicts;
-use pst_base::{Items, NoMemory};
+use crate::direct::must_directly;
+use crate::square::Square;
+use pst_base::NoMemory;
 use pst_scen::{Rows, Scenario};
 use std::alloc::Global;
 
-/// The word with that bit set too.
-fn with_bit(word: u64, k: u32) -> u64
-    requires { k < 64 }
-    ensures { (j : ℕ) → IsBitSet result j ↔ IsBitSet word j ⊎ (j ≡ k) }
-{
-    word | 1 << k
-}
-
-/// Whether there is an action of the number `first` + `k`, and the given one conflicts with it.
-fn is_conflict_at(scenario: &Scenario, count: u32, a: u32, first: u32, k: u32) -> bool
-    requires count { count ≡ length scenario.now.actions }
+/// Adds the pair of actions where they conflict.
+fn add_conflict(square: &mut Square, scenario: &Scenario, a: u32, b: u32)
+    requires size { square.old.size ≡ length scenario.now.actions }
     requires a_in { a < length scenario.now.actions }
-    requires first_in { first < count }
-    ensures { IsTrue result ↔ IsConflictAt scenario.now a first k }
+    requires b_in { b < length scenario.now.actions }
+    ensures { Adds square.old square.new (IsOnly (Conflict scenario.now) a b) }
 {
-    if k >= count - first {
-        return false;
+    if conflicts(scenario, a, b) {
+        square.add(a, b);
     }
-    conflicts(scenario, a, first + k)
 }
 
-/// The word of the row of conflicts of the action whose lowest bit is of the action `first`.
-fn conflict_word(scenario: &Scenario, count: u32, a: u32, first: u32) -> u64
+/// Adds the row of conflicts of the action.
+fn add_conflicts(square: &mut Square, scenario: &Scenario, count: u32, a: u32)
     requires count { count ≡ length scenario.now.actions }
+    requires size { square.old.size ≡ length scenario.now.actions }
     requires a_in { a < length scenario.now.actions }
-    requires first_in { first < count }
-    ensures { IsConflictWord scenario.now result a first }
+    ensures { Adds square.old square.new (IsInRow (Conflict scenario.now) a) }
 {
-    let mut word = 0;
-    for k in 0..64 {
-        if is_conflict_at(scenario, count, a, first, k) {
-            word = with_bit(word, k);
-        }
+    for b in 0..count {
+        add_conflict(square, scenario, a, b);
     }
-    word
-}
-
-/// Appends the next word of the row of conflicts.
-fn push_word(
-    words: &mut Vec<u64>,
-    scenario: &Scenario,
-    count: u32,
-    a: u32,
-    w: u32,
-) -> Result<(), NoMemory>
-    requires count { count ≡ length scenario.now.actions }
-    requires a_in { a < length scenario.now.actions }
-    requires w_in { w < row_words count }
-    requires place { length words.old.items ≡ a * row_words count + w }
-    requires words { AreConflictWords scenario.now (row_words count) words.old.items }
-    ensures { IfOk result (λ u. (length words.new.items ≡ length words.old.items + 1) × AreConflictWords scenario.now (row_words count) words.new.items) }
-{
-    let word = conflict_word(scenario, count, a, w * 64);
-    words.push(word)?;
-    Ok(())
-}
-
-/// Appends the row of conflicts of the action.
-fn push_row(
-    words: &mut Vec<u64>,
-    scenario: &Scenario,
-    count: u32,
-    row: u32,
-    a: u32,
-) -> Result<(), NoMemory>
-    requires count { count ≡ length scenario.now.actions }
-    requires row { row ≡ row_words count }
-    requires a_in { a < length scenario.now.actions }
-    requires place { length words.old.items ≡ a * row_words count }
-    requires words { AreConflictWords scenario.now (row_words count) words.old.items }
-    ensures { IfOk result (λ u. (length words.new.items ≡ length words.old.items + row_words count) × AreConflictWords scenario.now (row_words count) words.new.items) }
-{
-    for w in 0..row {
-        push_word(words, scenario, count, a, w)?;
-    }
-    Ok(())
 }
 
 /// The square of the pairs of actions that conflict.
@@ -96,13 +47,60 @@ pub(crate) fn conflict_rows(
     requires { count ≡ length scenario.now.actions }
     ensures { IfOk result (λ rows. (rows.size ≡ length scenario.now.actions) × IsSquare rows × ((a b : ℕ) → a < length scenario.now.actions → b < length scenario.now.actions → Has rows a b ↔ Conflict scenario.now a b)) }
 {
-    let row = ((count as usize + 63) / 64) as u32;
-    let mut words = Vec::new(alloc);
+    let mut square = Square::new(alloc, count)?;
     for a in 0..count {
-        push_row(&mut words, scenario, count, row, a)?;
+        add_conflicts(&mut square, scenario, count, a);
     }
-    Ok(Rows {
-        size: count,
-        words: Items::from_vec(words),
-    })
+    Ok(square.into_rows())
+}
+
+/// Adds the pair of actions where the first is a direct cause for a member of the second's group.
+fn add_direct(square: &mut Square, scenario: &Scenario, groups: &[u32], count: u32, a: u32, b: u32)
+    requires linked { IsLinked scenario.now }
+    requires many { length groups.now ≡ length scenario.now.actions }
+    requires numbers { (c : ℕ) → c < length scenario.now.actions → IsGroupNumber scenario.now c (get_or groups.now c 0) }
+    requires count { count ≡ length scenario.now.actions }
+    requires size { square.old.size ≡ length scenario.now.actions }
+    requires a_in { a < length scenario.now.actions }
+    requires b_in { b < length scenario.now.actions }
+    ensures { Adds square.old square.new (IsOnly (MustDirectly scenario.now) a b) }
+{
+    if must_directly(scenario, groups, count, a, b) {
+        square.add(a, b);
+    }
+}
+
+/// Adds the row of the pairs of which the action is the first.
+fn add_directs(square: &mut Square, scenario: &Scenario, groups: &[u32], count: u32, a: u32)
+    requires linked { IsLinked scenario.now }
+    requires many { length groups.now ≡ length scenario.now.actions }
+    requires numbers { (c : ℕ) → c < length scenario.now.actions → IsGroupNumber scenario.now c (get_or groups.now c 0) }
+    requires count { count ≡ length scenario.now.actions }
+    requires size { square.old.size ≡ length scenario.now.actions }
+    requires a_in { a < length scenario.now.actions }
+    ensures { Adds square.old square.new (IsInRow (MustDirectly scenario.now) a) }
+{
+    for b in 0..count {
+        add_direct(square, scenario, groups, count, a, b);
+    }
+}
+
+/// The square of the pairs of which the first is a direct cause for a member of the second's group.
+pub(crate) fn direct_rows(
+    alloc: Global,
+    scenario: &Scenario,
+    groups: &[u32],
+    count: u32,
+) -> Result<Rows, NoMemory>
+    requires linked { IsLinked scenario.now }
+    requires many { length groups.now ≡ length scenario.now.actions }
+    requires numbers { (c : ℕ) → c < length scenario.now.actions → IsGroupNumber scenario.now c (get_or groups.now c 0) }
+    requires count { count ≡ length scenario.now.actions }
+    ensures { IfOk result (λ rows. (rows.size ≡ length scenario.now.actions) × IsSquare rows × ((a b : ℕ) → a < length scenario.now.actions → b < length scenario.now.actions → Has rows a b ↔ MustDirectly scenario.now a b)) }
+{
+    let mut square = Square::new(alloc, count)?;
+    for a in 0..count {
+        add_directs(&mut square, scenario, groups, count, a);
+    }
+    Ok(square.into_rows())
 }

@@ -1,4 +1,4 @@
-use Rattle.pst_graph.specs.Squares.{GoThrough}
+use Rattle.pst_graph.specs.Bits.{GoThrough}
 use Rattle.pst_graph.proofs.closure.go_through.Given as goal
 
 abbrev pub invariant-loop-a : goal.invariant-loop-a
