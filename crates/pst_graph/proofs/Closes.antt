@@ -2,7 +2,7 @@
 use Rattle.std.proofs.Common.{◌≡◌, ◌↔◌, ◌⊎◌, inl, inr, ⊎_elim, ◌<◌, ◌≤◌, ◌+◌, ◌/◌, ◌++◌, ℕ, List, length, take, refl, sym, ap, subst, ◌∙◌, arith}
 use Rattle.std.proofs.Math.Seq.{take-append_seam}
 use Rattle.pst_scen.specs.Rows.{row_words}
-use Rattle.pst_graph.specs.Chains.{IsChain, Once, Through}
+use Rattle.pst_graph.specs.Chains.{IsChain, Once, Chained}
 use Rattle.pst_graph.specs.Bits.{HasBit, GoThrough, IsClosure}
 use Rattle.pst_graph.proofs.Grouped.{same_or_not}
 
@@ -55,7 +55,7 @@ module _ (size row : ℕ) (is_row : row ≡ row_words size) (base old new : List
       record {
         many = g.many ∙ h.many;
         is = λ a b a_in b_in m.
-            ⊎_elim (λ q. h.is a b a_in b_in q) (λ q. Through a k b k_in (h.is a k a_in k_in q.0) (h.is k b k_in b_in q.1)) (g.only a b (inside b b_in) m);
+            ⊎_elim (λ q. h.is a b a_in b_in q) (λ q. Chained a k b k_in (h.is a k a_in k_in q.0) (h.is k b k_in b_in q.1)) (g.only a b (inside b b_in) m);
         has = λ a b a_in b_in m. g.keeps a b (inside b b_in) (h.has a b a_in b_in m);
         through = through;
       }
@@ -65,7 +65,7 @@ closed_all size row base words k all h = record { many = h.many; chains = λ a b
   where
     has : (a b : ℕ) → a < size → b < size → IsChain (HasBit row base) size a b → HasBit row words a b
     has _ _ a_in b_in (Once a b m) = h.has a b a_in b_in m
-    has _ _ a_in b_in (Through a c b c_in p q) = h.through a c b (omega (arith, c_in, all)) a_in c_in b_in (has a c a_in c_in p) (has c b c_in b_in q)
+    has _ _ a_in b_in (Chained a c b c_in p q) = h.through a c b (omega (arith, c_in, all)) a_in c_in b_in (has a c a_in c_in p) (has c b c_in b_in q)
 
 -- what stands in a list whose items were all written anew
 pub written : (n : ℕ) (new rest is : List ℕ) → n ≡ length new → is ≡ take n (new ++ rest) → is ≡ new

@@ -8,3 +8,4 @@ mod Squares
 mod Adding
 mod Joins
 mod Closes
+mod Chains

@@ -8,6 +8,7 @@ mod closure;
 mod direct;
 mod groups;
 mod links;
+mod must;
 mod parallel;
 mod rows;
 mod square;
