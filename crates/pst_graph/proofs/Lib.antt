@@ -1,0 +1,11 @@
+mod Climbs
+mod Awaits
+mod Bits
+mod Acted
+mod Loops
+mod Grouped
+mod Squares
+mod Adding
+mod Joins
+mod Closes
+mod Chains

@@ -1,0 +1,7 @@
+use Rattle.std.proofs.Common.{◌≡◌, ◌≢◌, ◌<◌, ℕ, slice_get, Some}
+use Rattle.pst_scen.specs.declared.act.Claimed.{Claimed}
+use Rattle.pst_graph.specs.Links.{AreDisputed}
+use Rattle.pst_graph.proofs.links.disputes_elsewhere.Given as goal
+
+abbrev pub invariant-loop-i : goal.invariant-loop-i
+invariant-loop-i l = (i : ℕ) (x : Claimed) → i < l.i → slice_get l.claims i ≡ Some x → l.place ≢ i → AreDisputed l.one x → ⊥

@@ -1,0 +1,20 @@
+-- What the references and claims of two actions have to do with each other.
+use Rattle.std.specs.Prelude.{◌⊎◌, ℕ}
+use Rattle.pst_scen.specs.declared.act.Act.{Act}
+use Rattle.pst_scen.specs.declared.act.Flow.TheVariants.{BufferIn, StreamIn, StreamOut, StateIn, StateOut}
+use Rattle.pst_graph.specs.Links.{HasLink, ReadsReplaced, WritesUsed}
+
+-- the action names a stream to or from the one of that number
+abbrev pub NamesStream : Act → ℕ → Type 0
+NamesStream act other = HasLink act.references StreamIn other ⊎ HasLink act.references StreamOut other
+
+-- why links have the first action, which has that number, come before the second
+pub data LinksOrder (one other : Act) (a : ℕ) : Type 0 where
+  ByBuffer : HasLink other.references BufferIn a → LinksOrder one other a
+  BySource : HasLink other.references StateIn a → LinksOrder one other a
+  ByPrevious : HasLink other.references StateOut a → LinksOrder one other a
+  ByReader : ReadsReplaced one.references other.references → LinksOrder one other a
+
+-- one of the two writes a state pool that the other uses
+abbrev pub Touches : Act → Act → Type 0
+Touches one other = WritesUsed one.references other.references ⊎ WritesUsed other.references one.references

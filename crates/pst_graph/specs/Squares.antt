@@ -1,0 +1,51 @@
+-- Squares of bits in the making.
+use Rattle.std.specs.Prelude.{◌≡◌, ◌↔◌, ◌⊎◌, ◌≤◌, ◌<◌, ◌/◌, ◌%◌, ℕ, IsBitSet}
+use Rattle.pst_scen.specs.declared.rows.Rows.{Rows}
+use Rattle.pst_scen.specs.Rows.{Has}
+
+-- a square of that size that has no pair
+pub record IsBlank (rows : Rows) (size : ℕ) : Type 0 where
+  pub sized : rows.size ≡ size
+  pub none : (a b : ℕ) → Has rows a b → ⊥
+
+-- the second square has the pairs of the first and those of the relation, and no other
+pub record Adds (old new : Rows) (P : ℕ → ℕ → Type 0) : Type 0 where
+  pub sized : new.size ≡ old.size
+  pub has : (a b : ℕ) → a < old.size → b < old.size → Has new a b ↔ Has old a b ⊎ P a b
+
+-- the pair is that one
+pub record IsPair (a b c d : ℕ) : Type 0 where
+  pub first : c ≡ a
+  pub second : d ≡ b
+
+-- the pair stands in that word of the row, at a bit that the mask has
+pub record IsMasked (a w mask c d : ℕ) : Type 0 where
+  pub first : c ≡ a
+  pub word : d / 64 ≡ w
+  pub bit : IsBitSet mask (d % 64)
+
+-- the pair is of that row, and its second number lies in the range
+pub record IsInRange (a from to c d : ℕ) : Type 0 where
+  pub first : c ≡ a
+  pub least : from ≤ d
+  pub below : d < to
+
+-- the pair is that one, and the relation has it
+pub record IsOnly (P : ℕ → ℕ → Type 0) (a b c d : ℕ) : Type 0 where
+  pub pair : IsPair a b c d
+  pub related : P c d
+
+-- the pair is of that row, and the relation has it
+pub record IsInRow (P : ℕ → ℕ → Type 0) (a c d : ℕ) : Type 0 where
+  pub first : c ≡ a
+  pub related : P c d
+
+-- the second number is below that one, and the relation has the pair
+pub record IsBelow (P : ℕ → ℕ → Type 0) (to c d : ℕ) : Type 0 where
+  pub below : d < to
+  pub related : P c d
+
+-- the first number is below that one, and the relation has the pair
+pub record IsAbove (P : ℕ → ℕ → Type 0) (to c d : ℕ) : Type 0 where
+  pub below : c < to
+  pub related : P c d

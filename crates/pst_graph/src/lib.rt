@@ -1,0 +1,14 @@
+//! The plan of a scenario: its groups, its order and its conflicts, or why it has none.
+#![tactic(auto)]
+
+mod before;
+mod cause;
+mod climb;
+mod closure;
+mod direct;
+mod groups;
+mod links;
+mod must;
+mod parallel;
+mod rows;
+mod square;

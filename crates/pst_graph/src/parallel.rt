@@ -1,0 +1,80 @@
+//! Which actions stand in different branches of one parallel block.
+ghost use Rattle.std.specs.Prelude.{◌≡◌, ◌<◌, ◌↔◌, length, IsTrue};
+ghost use Rattle.pst_scen.specs.Plans.{IsParallel, StandParallel};
+ghost use Rattle.pst_scen.specs.Laws.{IsPreorder, HasOneLeafEach};
+ghost use Rattle.pst_graph.specs.Over.{Over, IsParallelBlock, IsBranchBeside};
+
+use crate::climb::{child_over, leaf_of};
+use pst_scen::{Fill, Node, Scenario};
+
+/// Whether it is a parallel block, with a join form or without.
+fn is_parallel(fill: &Fill) -> bool
+    ensures { IsTrue result ↔ IsParallel fill.now }
+{
+    match fill {
+        Fill::Parallel => true,
+        Fill::Joined { parallel, .. } => *parallel,
+        _ => false,
+    }
+}
+
+/// Whether the node is a parallel block.
+fn is_block(nodes: &[Node], n: usize) -> bool
+    requires { n < length nodes.now }
+    ensures { IsTrue result ↔ IsParallelBlock nodes.now n }
+{
+    is_parallel(&nodes[n].fill)
+}
+
+/// Whether the node is a branch of a parallel block, and the other one stands in another branch.
+fn is_branch_beside(nodes: &[Node], other: usize, n: usize) -> bool
+    requires preorder { IsPreorder nodes.now }
+    requires other_in { other < length nodes.now }
+    requires within { n < length nodes.now }
+    ensures { IsTrue result ↔ IsBranchBeside nodes.now other n }
+{
+    let Some(block) = nodes[n].parent else {
+        return false;
+    };
+    let block = block as usize;
+    if !is_block(nodes, block) {
+        return false;
+    }
+    let Some(branch) = child_over(nodes, block, other) else {
+        return false;
+    };
+    branch != n
+}
+
+/// Whether the two leaves stand in different branches of one parallel block.
+fn are_leaves_parallel(nodes: &[Node], leaf: usize, other: usize) -> bool
+    requires preorder { IsPreorder nodes.now }
+    requires leaf_in { leaf < length nodes.now }
+    requires other_in { other < length nodes.now }
+    ensures { IsTrue result ↔ Over nodes.now (IsBranchBeside nodes.now other) leaf }
+{
+    let mut at = leaf;
+    'parents: while !is_branch_beside(nodes, other, at) {
+        let Some(parent) = nodes[at].parent else {
+            return false;
+        };
+        at = parent as usize;
+    }
+    true
+}
+
+/// Whether the two actions stand in different branches of one parallel block.
+pub(crate) fn stand_parallel(scenario: &Scenario, a: u32, b: u32) -> bool
+    requires preorder { IsPreorder scenario.now.nodes }
+    requires one_leaf { HasOneLeafEach scenario.now.nodes }
+    ensures { IsTrue result ↔ StandParallel scenario.now a b }
+{
+    let nodes = scenario.nodes.as_slice();
+    let Some(leaf) = leaf_of(nodes, a) else {
+        return false;
+    };
+    let Some(other) = leaf_of(nodes, b) else {
+        return false;
+    };
+    are_leaves_parallel(nodes, leaf, other)
+}

@@ -1,0 +1,105 @@
+//! Squares of bits in the making.
+ghost use Rattle.std.specs.Prelude.{◌≡◌, ◌↔◌, ◌≤◌, ◌<◌, ◌+◌, ◌*◌, ◌^◌, ℕ, length, IsTrue, IsBitSet, IfOk};
+ghost use Rattle.pst_scen.specs.Rows.{row_words, IsSquare, Has};
+ghost use Rattle.pst_graph.specs.Squares.{IsBlank, Adds, IsPair, IsMasked};
+
+use pst_base::{Items, NoMemory};
+use pst_scen::Rows;
+use std::alloc::Global;
+use std::marker::Model;
+
+/// A square of bits, one for each pair of numbers below its size. Contracts see it as the rows that
+/// it becomes.
+#[derive(Drop)]
+pub(crate) struct Square {
+    size: u32,
+    words: Vec<u64>,
+}
+
+impl Model for Square {
+    ghost use Rattle.std.specs.Prelude.{◌≡◌, ◌*◌, length};
+    ghost use Rattle.pst_scen.specs.declared.rows.Rows.{Rows};
+    ghost use Rattle.pst_scen.specs.Rows.{row_words};
+
+    ghost Value = { Rows };
+
+    ghost view = { λ s. record { size = s.size; words = s.words.items } };
+
+    ghost invariant = { λ s. length s.words.items ≡ s.size * row_words s.size };
+}
+
+/// The number of words in which a row of so many bits stands.
+fn words_in(size: u32) -> usize
+    ensures { result ≡ row_words size }
+{
+    (size as usize + 63) / 64
+}
+
+/// The word of that bit alone.
+fn bit(k: u32) -> u64
+    requires { k < 64 }
+    ensures { (j : ℕ) → IsBitSet result j ↔ j ≡ k }
+{
+    1 << k
+}
+
+impl Square {
+    /// The square of that size without a pair.
+    pub(crate) fn new(alloc: Global, size: u32) -> Result<Square, NoMemory>
+        ensures { IfOk result (λ square. IsBlank square size) }
+    {
+        let words = Vec::from_elem(alloc, 0, size as usize * words_in(size))?;
+        Ok(Square { size, words })
+    }
+
+    /// The place of the word in which the row of `a` has its word `w`.
+    fn place(&self, a: u32, w: usize) -> usize
+        requires a_in { a < self.now.size }
+        requires w_in { w < row_words self.now.size }
+        ensures is { result ≡ a * row_words self.now.size + w }
+        ensures within { result < length self.now.words }
+    {
+        a as usize * words_in(self.size) + w
+    }
+
+    /// Whether it has the pair.
+    pub(crate) fn has(&self, a: u32, b: u32) -> bool
+        requires a_in { a < self.now.size }
+        requires b_in { b < self.now.size }
+        ensures { IsTrue result ↔ Has self.now a b }
+    {
+        let word = self.words[self.place(a, b as usize / 64)];
+        word >> (b % 64) & 1 == 1
+    }
+
+    /// Adds the pairs of one word of the row of `a`.
+    pub(crate) fn add_word(&mut self, a: u32, w: usize, mask: u64)
+        requires a_in { a < self.old.size }
+        requires w_in { w < row_words self.old.size }
+        ensures { Adds self.old self.new (IsMasked a w mask) }
+    {
+        let place = self.place(a, w);
+        let word = self.words[place];
+        self.words[place] = word | mask;
+    }
+
+    /// Adds the pair.
+    pub(crate) fn add(&mut self, a: u32, b: u32)
+        requires a_in { a < self.old.size }
+        requires b_in { b < self.old.size }
+        ensures { Adds self.old self.new (IsPair a b) }
+    {
+        self.add_word(a, b as usize / 64, bit(b % 64));
+    }
+
+    /// The rows of the square.
+    pub(crate) fn into_rows(self) -> Rows
+        ensures is { result ≡ self }
+        ensures square { IsSquare result }
+    {
+        Rows {
+            size: self.size,
+            words: Items::from_vec(self.words),
+        }
+    }
+}
