@@ -1,5 +1,5 @@
 -- What a trace says is decided, and how long a block is.
-use Rattle.std.proofs.Common.{◌≡◌, ◌⊎◌, ℕ, List, [], ◌∷◌, length, min, subst, inl, inr, ⊎_elim, arith}
+use Rattle.std.proofs.Common.{◌≡◌, ◌⊎◌, ◌<◌, ℕ, zero, suc, sym, List, [], ◌∷◌, length, min, subst, inl, inr, ⊎_elim, arith}
 use Rattle.std.specs.Prelude.{Contains}
 use Rattle.std.proofs.lemmas.Bool.{cases_eq}
 use Rattle.pst_scen.specs.declared.event.Event.{Event}
@@ -24,3 +24,11 @@ length_starts [] ls = omega arith
 length_starts (m ∷ ms) [] = omega arith
 length_starts (m ∷ []) (x ∷ ls) = omega arith
 length_starts (m ∷ n ∷ ms) (x ∷ ls) = let e = length_starts (n ∷ ms) ls in omega (arith, e)
+
+-- where not all of the first so many actions have ended, there is one that hasn't
+pub some_left : (n : ℕ) (t : List Event) → (((a : ℕ) → a < n → Ended t a) → ⊥) → (a : ℕ) × (a < n) × (Ended t a → ⊥)
+some_left zero t some = absurd (some (λ a l. absurd (omega (arith, l))))
+some_left (suc n) t some = ⊎_elim
+    (λ last. let q = some_left n t (λ all. some (λ a l. ⊎_elim (λ e. subst (λ v. Ended t v) (sym e) last) (λ ne. all a (omega (arith, l, ne))) (cases_eq a n))) in
+    let below = q.1 in (q.0, omega (arith, below), q.2))
+    (λ none. (n, omega arith, none)) (ended_or t n)

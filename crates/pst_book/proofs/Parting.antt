@@ -1,7 +1,9 @@
 -- Parts of lists that change.
-use Rattle.std.proofs.Common.{◌≡◌, ◌≢◌, ℕ, ◌+◌, ◌/◌, ◌%◌, ◌<◌, ◌≤◌, List, get_or, refl, sym, ◌∙◌, subst, inl, inr, ⊎_elim, arith}
-use Rattle.std.proofs.lemmas.Bool.{cases_eq, cases_lt}
-use Rattle.pst_book.specs.Parts.{AreChanged}
+use Rattle.std.proofs.Common.{◌≡◌, ◌≢◌, ◌↔◌, ℕ, ◌+◌, ◌-◌, ◌/◌, ◌%◌, ◌^◌, ◌<◌, ◌≤◌, List, get_or, IsTrue, refl, sym, ◌∙◌, subst, inl, inr, ⊎_elim, arith, bit_and}
+use Rattle.std.specs.Prelude.{nat_eq}
+use Rattle.std.proofs.lemmas.Nat.{bit_set_by_shift}
+use Rattle.std.proofs.lemmas.Bool.{cases_eq, cases_lt, eqb-true, eq-eqb}
+use Rattle.pst_book.specs.Parts.{AreChanged, IsMarked}
 
 pub changed_none : (R : ℕ → ℕ → ℕ → Type 0) (xs : List ℕ) (first : ℕ) → AreChanged R xs xs first first
 changed_none R xs first = record { inside = λ m l k. absurd (omega (arith, l, k)); outside = λ m o. refl }
@@ -31,3 +33,15 @@ changed_more R old now new place end low c d =
 -- the word of an action
 pub same_word : (first m : ℕ) → first % 64 ≡ 0 → first ≤ m → m < first + 64 → m / 64 ≡ first / 64
 same_word first m e l k = omega (arith, e, l, k)
+
+-- and its bit
+pub same_bit : (first m : ℕ) → first % 64 ≡ 0 → first ≤ m → m < first + 64 → m % 64 ≡ m - first
+same_bit first m e l k = omega (arith, e, l, k)
+
+-- the test of one bit of a word
+pub marks : (word first m : ℕ) → IsTrue (nat_eq (bit_and (word / 2 ^ (m - first)) 1) 1) ↔ IsMarked word first m
+marks word first m =
+    let same = bit_set_by_shift word (m - first) in (
+      λ t. same.0 (eqb-true (bit_and (word / 2 ^ (m - first)) 1) 1 t),
+      λ s. eq-eqb (bit_and (word / 2 ^ (m - first)) 1) 1 (same.1 s),
+    )

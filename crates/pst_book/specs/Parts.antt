@@ -1,17 +1,19 @@
 -- Lists of numbers of which a part changes.
-use Rattle.std.specs.Prelude.{◌≡◌, ◌⊎◌, ◌+◌, ◌<◌, ◌≤◌, ℕ, List, get_or}
-use Rattle.pst_scen.specs.declared.rows.Rows.{Rows}
-use Rattle.pst_scen.specs.Rows.{Has}
+use Rattle.std.specs.Prelude.{◌≡◌, ◌⊎◌, ◌+◌, ◌-◌, ◌<◌, ◌≤◌, ℕ, List, get_or, IsBitSet}
 
--- the number of m is one greater where the pair is there, and the same elsewhere
-pub record IsRaised (rows : Rows) (a m old new : ℕ) : Type 0 where
-  pub raised : Has rows a m → new ≡ old + 1
-  pub same : (Has rows a m → ⊥) → new ≡ old
+-- the number of m is one greater where m has the property, and the same elsewhere
+pub record IsRaised (P : ℕ → Type 0) (m old new : ℕ) : Type 0 where
+  pub raised : P m → new ≡ old + 1
+  pub same : (P m → ⊥) → new ≡ old
 
 -- one less, and the same elsewhere
-pub record IsLowered (rows : Rows) (a m old new : ℕ) : Type 0 where
-  pub lowered : Has rows a m → new + 1 ≡ old
-  pub same : (Has rows a m → ⊥) → new ≡ old
+pub record IsLowered (P : ℕ → Type 0) (m old new : ℕ) : Type 0 where
+  pub lowered : P m → new + 1 ≡ old
+  pub same : (P m → ⊥) → new ≡ old
+
+-- the bit of m is set in the word whose lowest bit is that of the given number
+abbrev pub IsMarked : ℕ → ℕ → ℕ → Type 0
+IsMarked word first m = IsBitSet word (m - first)
 
 -- the entries of the part changed as the relation says, and the others are as before
 pub record AreChanged (R : ℕ → ℕ → ℕ → Type 0) (old new : List ℕ) (first end : ℕ) : Type 0 where

@@ -80,7 +80,7 @@ impl<'a> Book<'a> {
 
     /// The trace. It begins a whole legal trace on the book's lanes, has at most two events for each
     /// action, and the core makes it of its own commands, of which no more open, and no more end,
-    /// than there are actions.
+    /// than there are actions. Actions start on the book's lanes alone.
     pub fn trace(&self) -> &[Event]
         ensures value { result.now ≡ self.now.trace }
         ensures prefix { Prefix self.now.scenario self.now.lanes result.now }
@@ -88,6 +88,7 @@ impl<'a> Book<'a> {
         ensures core { Core self.now.scenario self.now.lanes (commands_of result.now) result.now }
         ensures few_opens { open_count (commands_of result.now) ≤ length self.now.scenario.actions }
         ensures few_ends { close_count (commands_of result.now) ≤ length self.now.scenario.actions }
+        ensures lanes { (a lane : ℕ) → StartsOn result.now a lane → lane < self.now.lanes }
     {
         core_is_by_rule();
         core_is_one();
@@ -102,7 +103,7 @@ impl<'a> Book<'a> {
     pub fn open(&mut self) -> Option<Opened>
         ensures step { MatchOption result ((self.new ≡ self.old) × IsShut self.old) (λ o. DidOpen self.old self.new o.first o.count) }
         ensures core { Step self.old.scenario self.old.lanes self.old.trace Open self.new.trace }
-        ensures goes_on { ((a : ℕ) → Runs self.old.trace a → ⊥) → (a : ℕ) → a < length self.old.scenario.actions → (Ended self.old.trace a → ⊥) → IsSome result }
+        ensures goes_on { ((a : ℕ) → Runs self.old.trace a → ⊥) → (IsWhole self.old.scenario self.old.trace → ⊥) → IsSome result }
         ensures fits { length self.new.trace ≤ 2 * length self.new.scenario.actions }
     {
         core_is_by_rule();

@@ -1,23 +1,23 @@
 //! Numbers of the actions that a square of bits pairs with one action.
 //!
 //! A row is looked at word by word, and a word without pairs is passed at once.
-ghost use Rattle.std.specs.Prelude.{◌≡◌, ◌≢◌, ◌⊎◌, ◌+◌, ◌^◌, ◌%◌, ◌<◌, ◌≤◌, ℕ, length, get_or, IsTrue};
+ghost use Rattle.std.specs.Prelude.{◌≡◌, ◌≢◌, ◌↔◌, ◌+◌, ◌^◌, ◌%◌, ◌<◌, ◌≤◌, ℕ, length, get_or, IsTrue};
 ghost use Rattle.pst_scen.specs.Rows.{IsSquare, Has};
 ghost use Rattle.pst_book.specs.Tables.{AreRaised, AreLowered};
-ghost use Rattle.pst_book.specs.Parts.{IsRaised, IsLowered, AreChanged};
+ghost use Rattle.pst_book.specs.Parts.{IsRaised, IsLowered, IsMarked, AreChanged};
 
 use pst_scen::Rows;
 
-/// Whether the row has no pair in the word that begins with the given action.
-fn is_empty(rows: &Rows, a: u32, first: u32) -> bool
+/// The word of the row that begins with the given action.
+fn word_at(rows: &Rows, a: u32, first: u32) -> u64
     requires square { IsSquare rows.now }
     requires a_in { a < rows.now.size }
     requires first_in { first < rows.now.size }
     requires begins { first % 64 ≡ 0 }
-    ensures { IsTrue result → (m : ℕ) → first ≤ m → m < first + 64 → Has rows.now a m → ⊥ }
+    ensures { (m : ℕ) → first ≤ m → m < first + 64 → IsMarked result first m ↔ Has rows.now a m }
 {
     let row = (rows.size as usize + 63) / 64;
-    rows.words.as_slice()[a as usize * row + first as usize / 64] == 0
+    rows.words.as_slice()[a as usize * row + first as usize / 64]
 }
 
 /// The first action behind the word that begins with the given one.
@@ -31,30 +31,34 @@ fn word_end(first: u32, size: u32) -> u32
     if size - first > 64 { first + 64 } else { size }
 }
 
-fn raise_one(counts: &mut [u32], rows: &Rows, a: u32, other: u32)
-    requires square { IsSquare rows.now }
-    requires a_in { a < rows.now.size }
-    requires other_in { other < rows.now.size }
-    requires many { length counts.old ≡ rows.now.size }
-    requires room { Has rows.now a other → get_or counts.old other 0 + 1 < 2 ^ 32 }
-    ensures here { IsRaised rows.now a other (get_or counts.old other 0) (get_or counts.new other 0) }
+/// Whether the bit of the action is set in the word that begins with the given one.
+fn is_marked(word: u64, first: u32, other: u32) -> bool
+    requires near { (first ≤ other) × (other < first + 64) }
+    ensures { IsTrue result ↔ IsMarked word first other }
+{
+    word >> (other - first) & 1 == 1
+}
+
+fn raise_one(counts: &mut [u32], word: u64, first: u32, other: u32)
+    requires near { (first ≤ other) × (other < first + 64) }
+    requires other_in { other < length counts.old }
+    requires room { IsMarked word first other → get_or counts.old other 0 + 1 < 2 ^ 32 }
+    ensures here { IsRaised (IsMarked word first) other (get_or counts.old other 0) (get_or counts.new other 0) }
     ensures others { (m : ℕ) → m ≢ other → get_or counts.new m 0 ≡ get_or counts.old m 0 }
 {
-    if rows.has(a, other) {
+    if is_marked(word, first, other) {
         counts[other as usize] += 1;
     }
 }
 
-fn raise_part(counts: &mut [u32], rows: &Rows, a: u32, first: u32, end: u32)
-    requires square { IsSquare rows.now }
-    requires a_in { a < rows.now.size }
-    requires inside { (first ≤ end) × (end ≤ rows.now.size) }
-    requires many { length counts.old ≡ rows.now.size }
-    requires room { (m : ℕ) → first ≤ m → m < end → Has rows.now a m → get_or counts.old m 0 + 1 < 2 ^ 32 }
-    ensures { AreChanged (IsRaised rows.now a) counts.old counts.new first end }
+fn raise_part(counts: &mut [u32], word: u64, first: u32, end: u32)
+    requires short { end ≤ first + 64 }
+    requires inside { (first ≤ end) × (end ≤ length counts.old) }
+    requires room { (m : ℕ) → first ≤ m → m < end → IsMarked word first m → get_or counts.old m 0 + 1 < 2 ^ 32 }
+    ensures { AreChanged (IsRaised (IsMarked word first)) counts.old counts.new first end }
 {
     for other in first..end {
-        raise_one(counts, rows, a, other);
+        raise_one(counts, word, first, other);
     }
 }
 
@@ -66,12 +70,13 @@ fn raise_word(counts: &mut [u32], rows: &Rows, a: u32, first: u32, end: u32)
     requires begins { first % 64 ≡ 0 }
     requires many { length counts.old ≡ rows.now.size }
     requires room { (m : ℕ) → first ≤ m → m < end → Has rows.now a m → get_or counts.old m 0 + 1 < 2 ^ 32 }
-    ensures { AreChanged (IsRaised rows.now a) counts.old counts.new first end }
+    ensures { AreChanged (IsRaised (Has rows.now a)) counts.old counts.new first end }
 {
-    if is_empty(rows, a, first) {
+    let word = word_at(rows, a, first);
+    if word == 0 {
         return;
     }
-    raise_part(counts, rows, a, first, end);
+    raise_part(counts, word, first, end);
 }
 
 /// Raises the number of each action with which the square pairs the given one.
@@ -90,30 +95,26 @@ pub(crate) fn raise(counts: &mut [u32], rows: &Rows, a: u32)
     }
 }
 
-fn lower_one(counts: &mut [u32], rows: &Rows, a: u32, other: u32)
-    requires square { IsSquare rows.now }
-    requires a_in { a < rows.now.size }
-    requires other_in { other < rows.now.size }
-    requires many { length counts.old ≡ rows.now.size }
-    requires some { Has rows.now a other → 0 < get_or counts.old other 0 }
-    ensures here { IsLowered rows.now a other (get_or counts.old other 0) (get_or counts.new other 0) }
+fn lower_one(counts: &mut [u32], word: u64, first: u32, other: u32)
+    requires near { (first ≤ other) × (other < first + 64) }
+    requires other_in { other < length counts.old }
+    requires some { IsMarked word first other → 0 < get_or counts.old other 0 }
+    ensures here { IsLowered (IsMarked word first) other (get_or counts.old other 0) (get_or counts.new other 0) }
     ensures others { (m : ℕ) → m ≢ other → get_or counts.new m 0 ≡ get_or counts.old m 0 }
 {
-    if rows.has(a, other) {
+    if is_marked(word, first, other) {
         counts[other as usize] -= 1;
     }
 }
 
-fn lower_part(counts: &mut [u32], rows: &Rows, a: u32, first: u32, end: u32)
-    requires square { IsSquare rows.now }
-    requires a_in { a < rows.now.size }
-    requires inside { (first ≤ end) × (end ≤ rows.now.size) }
-    requires many { length counts.old ≡ rows.now.size }
-    requires some { (m : ℕ) → first ≤ m → m < end → Has rows.now a m → 0 < get_or counts.old m 0 }
-    ensures { AreChanged (IsLowered rows.now a) counts.old counts.new first end }
+fn lower_part(counts: &mut [u32], word: u64, first: u32, end: u32)
+    requires short { end ≤ first + 64 }
+    requires inside { (first ≤ end) × (end ≤ length counts.old) }
+    requires some { (m : ℕ) → first ≤ m → m < end → IsMarked word first m → 0 < get_or counts.old m 0 }
+    ensures { AreChanged (IsLowered (IsMarked word first)) counts.old counts.new first end }
 {
     for other in first..end {
-        lower_one(counts, rows, a, other);
+        lower_one(counts, word, first, other);
     }
 }
 
@@ -125,12 +126,13 @@ fn lower_word(counts: &mut [u32], rows: &Rows, a: u32, first: u32, end: u32)
     requires begins { first % 64 ≡ 0 }
     requires many { length counts.old ≡ rows.now.size }
     requires some { (m : ℕ) → first ≤ m → m < end → Has rows.now a m → 0 < get_or counts.old m 0 }
-    ensures { AreChanged (IsLowered rows.now a) counts.old counts.new first end }
+    ensures { AreChanged (IsLowered (Has rows.now a)) counts.old counts.new first end }
 {
-    if is_empty(rows, a, first) {
+    let word = word_at(rows, a, first);
+    if word == 0 {
         return;
     }
-    lower_part(counts, rows, a, first, end);
+    lower_part(counts, word, first, end);
 }
 
 /// Lowers the number of each action with which the square pairs the given one.

@@ -193,7 +193,8 @@ impl<'a> Run<'a> {
 
     /// The trace.
     pub(crate) fn trace(&self) -> &[Event]
-        ensures { result.now ≡ self.now.trace }
+        ensures value { result.now ≡ self.now.trace }
+        ensures lanes { (a lane : ℕ) → StartsOn result.now a lane → lane < self.now.lanes }
     {
         &self.trace
     }

@@ -1,4 +1,5 @@
 use Rattle.std.proofs.Common.{◌≡◌, ◌-◌, ◌%◌, ◌<◌, ◌≤◌}
+use Rattle.pst_scen.specs.Rows.{Has}
 use Rattle.pst_book.specs.Parts.{IsLowered, AreChanged}
 use Rattle.pst_book.proofs.rows.lower.Given as goal
 
@@ -9,5 +10,5 @@ abbrev pub invariant-words : goal.invariant-words
 invariant-words l = record {
   inside : l.first ≤ l.rows.size;
   begins : l.first < l.rows.size → l.first % 64 ≡ 0;
-  changed : AreChanged (IsLowered l.rows l.a) l.fn.counts l.counts 0 l.first;
+  changed : AreChanged (IsLowered (Has l.rows l.a)) l.fn.counts l.counts 0 l.first;
 }

@@ -1,5 +1,5 @@
-use Rattle.pst_book.specs.Parts.{IsLowered, AreChanged}
+use Rattle.pst_book.specs.Parts.{IsLowered, IsMarked, AreChanged}
 use Rattle.pst_book.proofs.rows.lower_part.Given as goal
 
 abbrev pub invariant-loop-other : goal.invariant-loop-other
-invariant-loop-other l = AreChanged (IsLowered l.rows l.a) l.fn.counts l.counts l.first l.other
+invariant-loop-other l = AreChanged (IsLowered (IsMarked l.word l.first)) l.fn.counts l.counts l.first l.other

@@ -2,10 +2,11 @@ use Rattle.std.proofs.Common.{◌*◌, ◌≡◌, ◌<◌, ◌≤◌, ◌+◌, �
 use Rattle.std.specs.Prelude.{MatchOption}
 use Rattle.pst_scen.specs.declared.event.Event.{Event}
 use Rattle.pst_book.specs.declared.book.Opened.{Opened}
-use Rattle.pst_scen.specs.Trace.{Runs, Ended}
+use Rattle.pst_scen.specs.Trace.{Runs, IsWhole}
 use Rattle.pst_scen.specs.Core.{Open, Step, Shut}
 use Rattle.pst_book.specs.Books.{View, IsShut, DidOpen}
 use Rattle.pst_book.specs.Kept.{view_of}
+use Rattle.pst_book.proofs.Events.{some_left}
 use Rattle.pst_book.proofs.Steps.{trace_fits, none_starts, open_room, goes_on, after_open, open_step, did_open}
 use Rattle.pst_book.proofs.book.Book.open.Goals as goal
 
@@ -25,9 +26,12 @@ returns-in_err-group-clause-core c = Shut (is_shut c)
 
 pub returns-in_err-group-clause-goes_on : goal.returns-in_err-group-clause-goes_on
 returns-in_err-group-clause-goes_on c =
-    λ still a l n. absurd
-    (let P : View → Type 0 = λ v. ((x : ℕ) → Runs v.trace x → ⊥) → a < length v.scenario.actions → (Ended v.trace a → ⊥) → IsShut v → ⊥ in
-    subst P c.self.view_is (λ s l n k. goes_on c.core_is_by_rule.ensures c.rule_fits.ensures.fits c.self.inside c.self.invariant c.rule_goes_on.ensures s a l n k) still l n (is_shut c))
+    λ still some. absurd
+    (let P : View → Type 0 = λ v. ((x : ℕ) → Runs v.trace x → ⊥) → (IsWhole v.scenario v.trace → ⊥) → IsShut v → ⊥ in
+    subst P c.self.view_is
+    (λ s w k. let q = some_left (length c.self.inside.scenario.now.actions) c.self.inside.run.trace w in
+    goes_on c.core_is_by_rule.ensures c.rule_fits.ensures.fits c.self.inside c.self.invariant c.rule_goes_on.ensures s q.0 q.1 q.2 k)
+    still some (is_shut c))
 
 pub returns-in_err-group-clause-fits : goal.returns-in_err-group-clause-fits
 returns-in_err-group-clause-fits c =
@@ -39,7 +43,7 @@ pub overflow_cast-first : goal.overflow_cast-first
 overflow_cast-first c =
     let b = c.self.inside in
     let l = trace_fits c.core_is_by_rule.ensures c.rule_fits.ensures.fits b c.self.invariant in
-    let e : length c.trace.result.now ≡ length b.run.trace = ap (λ (t : List Event). length t) c.trace.ensures in
+    let e : length c.trace.result.now ≡ length b.run.trace = ap (λ (t : List Event). length t) c.trace.ensures.value in
     let small : length b.scenario.now.actions < 2147483648 = c.self.invariant.small in
     record { fits = let m : length c.trace.result.now < 4294967296 = omega (arith, l, e, small) in m }
 
@@ -62,7 +66,7 @@ returns-clause-step c =
     subst (λ (v : View). DidOpen v (view_of (record b { run = c.start.new.run })) (length c.trace.result.now) c.count_members-count.result) c.self.view_is
     (did_open c.core_is_by_rule.ensures c.rule_fits.ensures.fits b c.self.invariant c.members_are_those.ensures c.groups_are_whole.ensures.whole c.groups_are_whole.ensures.one c.whole_is_sound.ensures.inside
     c.start.new.run c.in_ok-group.group (length c.trace.result.now) c.count_members-count.result c.in_ok-group.ensures e.started e.plan e.lanes e.room
-    (ap (λ (t : List Event). length t) c.trace.ensures) c.count_members-count.ensures)
+    (ap (λ (t : List Event). length t) c.trace.ensures.value) c.count_members-count.ensures)
 
 pub returns-clause-core : goal.returns-clause-core
 returns-clause-core c =

@@ -1,6 +1,6 @@
-use Rattle.std.proofs.Common.{◌≤◌, ◌*◌, ◌∙◌, List, length, ap, subst, sym}
+use Rattle.std.proofs.Common.{◌≤◌, ◌<◌, ℕ, ◌*◌, ◌∙◌, List, length, ap, subst, sym}
 use Rattle.pst_scen.specs.declared.event.Event.{Event}
-use Rattle.pst_scen.specs.Trace.{Prefix}
+use Rattle.pst_scen.specs.Trace.{Prefix, StartsOn}
 use Rattle.pst_scen.specs.Core.{Core, commands_of}
 use Rattle.pst_order.specs.Rule.{open_count, close_count}
 use Rattle.pst_book.specs.Books.{View}
@@ -13,9 +13,9 @@ returns c =
     let kept = c.self.invariant in
     let r = c.core_is_by_rule.ensures s b.run.lanes b.run.trace kept.core in
     let t = c.trace.result.now in
-    let e = sym c.trace.ensures in
+    let e = sym c.trace.ensures.value in
     record {
-      value = c.trace.ensures ∙ ap (λ (v : View). v.trace) c.self.view_is;
+      value = c.trace.ensures.value ∙ ap (λ (v : View). v.trace) c.self.view_is;
       prefix = subst (λ (v : View). Prefix v.scenario v.lanes t) c.self.view_is
           (subst (λ (u : List Event). Prefix s b.run.lanes u) e (c.rule_is_prefix.ensures s b.run.plan b.run.lanes b.run.trace kept.links kept.plan kept.wide r));
       fits = subst (λ (v : View). length t ≤ 2 * length v.scenario.actions) c.self.view_is
@@ -26,4 +26,5 @@ returns c =
           (subst (λ (u : List Event). open_count (commands_of u) ≤ length s.actions) e (c.rule_fits.ensures.few s b.run.lanes b.run.trace r).0);
       few_ends = subst (λ (v : View). close_count (commands_of t) ≤ length v.scenario.actions) c.self.view_is
           (subst (λ (u : List Event). close_count (commands_of u) ≤ length s.actions) e (c.rule_fits.ensures.few s b.run.lanes b.run.trace r).1);
+      lanes = subst (λ (v : View). (a lane : ℕ) → StartsOn t a lane → lane < v.lanes) c.self.view_is c.trace.ensures.lanes;
     }
