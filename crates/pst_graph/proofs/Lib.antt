@@ -9,3 +9,6 @@ mod Adding
 mod Joins
 mod Closes
 mod Chains
+mod Nexts
+mod Least
+mod Refused

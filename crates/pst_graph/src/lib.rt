@@ -9,6 +9,8 @@ mod direct;
 mod groups;
 mod links;
 mod must;
+mod next;
 mod parallel;
+mod refusals;
 mod rows;
 mod square;
