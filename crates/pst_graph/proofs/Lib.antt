@@ -12,3 +12,5 @@ mod Chains
 mod Nexts
 mod Least
 mod Refused
+mod Numbered
+mod Ended

@@ -6,3 +6,4 @@ pub mod Squares
 pub mod Chains
 pub mod Bits
 pub mod Next
+pub mod Ends

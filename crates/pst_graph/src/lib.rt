@@ -11,6 +11,9 @@ mod links;
 mod must;
 mod next;
 mod parallel;
+mod plan;
 mod refusals;
 mod rows;
 mod square;
+
+pub use plan::{PlanEnd, plan_of};
