@@ -9,3 +9,8 @@ mod Adding
 mod Joins
 mod Closes
 mod Chains
+mod Nexts
+mod Least
+mod Refused
+mod Numbered
+mod Ended

@@ -5,3 +5,5 @@ pub mod Grouping
 pub mod Squares
 pub mod Chains
 pub mod Bits
+pub mod Next
+pub mod Ends

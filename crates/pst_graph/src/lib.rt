@@ -9,6 +9,11 @@ mod direct;
 mod groups;
 mod links;
 mod must;
+mod next;
 mod parallel;
+mod plan;
+mod refusals;
 mod rows;
 mod square;
+
+pub use plan::{PlanEnd, plan_of};
