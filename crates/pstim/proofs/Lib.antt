@@ -6,7 +6,10 @@ mod Turns
 mod Named
 mod Printed
 mod Rooted
-mod Legal
+mod Driven
+mod Serial
+mod Built
+mod Runnable
 mod Opened
 mod Plain
 mod Owed

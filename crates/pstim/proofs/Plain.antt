@@ -3,12 +3,13 @@ use Rattle.std.proofs.Common.{◌≡◌, ◌∙◌, ℕ, zero, suc, ◌+◌, ◌
 use Rattle.std.specs.Prelude.{Option, Some, None, slice_get}
 use Rattle.pst_scen.specs.declared.act.Act.{Act}
 use Rattle.pst_scen.specs.declared.tree.Node.{Node}
-use Rattle.pst_scen.specs.declared.tree.Fill.TheVariants.{Leaf}
+use Rattle.pst_scen.specs.declared.tree.Fill.TheVariants.{Compound, Leaf}
 use Rattle.pst_scen.specs.declared.scenario.Scenario.{Scenario}
 use Rattle.pst_scen.specs.Tree.{IsChild, StandsUnder, AtTop, Below, Contains-act}
 use Rattle.pstim.specs.declared.parsing.Declaration.{Declaration}
 use Rattle.pstim.specs.Straight.{atomic_scenario, compound_scenario, acts_from, act_at, leaves_from, nodes_under, HasScenario, IsScenarioOf, names_of}
-use Rattle.pstim.proofs.Legal.{IsPlain}
+use Rattle.pst_scen.specs.Plans.{IsParallel}
+use Rattle.pstim.proofs.Serial.{IsPlain}
 use Rattle.pstim.proofs.Named.{zip_length}
 
 -- an action that was made for a number
@@ -78,15 +79,25 @@ compound_is_plain root numbers = record {
       let second : e.later ≡ suc b = act_under root numbers e.later before.sequence b e.later_child e.b_inside in
       let order : e.earlier < e.later = e.order in
       omega arith;
+  serial = λ n node is parallel. no_block n node is parallel;
 }
+  where
+    no_block : (n : ℕ) (node : Node) → slice_get (nodes_under root numbers) n ≡ Some node → IsParallel node.fill → ⊥
+    no_block zero node is parallel = let same : record { parent = None; fill = Compound root 0 [] } ≡ node = cc in subst (λ (x : Node). IsParallel x.fill) (sym same) parallel
+    no_block (suc k) node is parallel = subst (λ fill. IsParallel fill) (leaf_at 0 numbers k node is).1 parallel
 
 pub atomic_is_plain : (root : ℕ) → IsPlain (atomic_scenario root)
 atomic_is_plain root = record {
   references = λ a act h. (single a act h).0;
   claims = λ a act h. (single a act h).1;
   order = λ a b before. absurd (no_child before.earlier.earlier before.sequence before.earlier.earlier_child);
+  serial = λ n node is parallel. no_block n node is parallel;
 }
   where
+    no_block : (n : ℕ) (node : Node) → slice_get (record { parent = None; fill = Leaf 0 } ∷ []) n ≡ Some node → IsParallel node.fill → ⊥
+    no_block zero node is parallel = let same : record { parent = None; fill = Leaf 0 } ≡ node = cc in subst (λ (x : Node). IsParallel x.fill) (sym same) parallel
+    no_block (suc n) node is parallel = absurd (cc)
+
     single : (a : ℕ) (act : Act) → slice_get (act_at 0 root ∷ []) a ≡ Some act → (act.references ≡ []) × (act.claims ≡ [])
     single zero act h = let same : act_at 0 root ≡ act = cc in (ap (λ (x : Act). x.references) (sym same), ap (λ (x : Act). x.claims) (sym same))
     single (suc zero) act h = absurd (cc)
@@ -96,19 +107,3 @@ atomic_is_plain root = record {
     no_child zero parent child = let none : child.node.parent ≡ None = cc (child.is) in cc (child.in_parent)
     no_child (suc zero) parent child = cc (child.is)
     no_child (suc (suc n)) parent child = cc (child.is)
-
--- what the straight form gives
-pub record IsRunnable (s : Scenario) : Type 0 where
-  pub plain : IsPlain s
-  pub few : length s.actions ≤ 4096
-
-pub is_runnable : (actions : List Declaration) (root : List ℕ) (s : Scenario) → HasScenario actions root s → IsRunnable s
-is_runnable actions root s has = by_activity has.declaration.activity has.scenario
-  where
-    by_activity : (o : Option (List (List ℕ))) → IsScenarioOf actions has.number o s → IsRunnable s
-    by_activity None is = subst IsRunnable (sym is) (record { plain = atomic_is_plain has.number; few = omega arith })
-    by_activity (Some names) p =
-        let many : length names ≡ length p.numbers = zip_length (λ n k. slice_get (names_of actions) k ≡ Some n) names p.numbers p.numbered in
-        let made_many = length-acts_from 1 p.numbers in
-        let few = p.few in
-        subst IsRunnable (sym p.is) (record { plain = compound_is_plain has.number p.numbers; few = omega (arith, many, made_many, few) })

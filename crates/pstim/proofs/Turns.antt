@@ -1,17 +1,11 @@
--- Runs in turn, and lists that grow by one.
-use Rattle.std.proofs.Common.{◌≡◌, ◌∙◌, ℕ, ◌+◌, ◌<◌, ◌≤◌, List, [], ◌∷◌, ◌++◌, length, get_or, take, ap, add-one, arith, false}
+-- Lists that grow by one.
+use Rattle.std.proofs.Common.{◌≡◌, ◌∙◌, ℕ, ◌+◌, ◌<◌, ◌≤◌, List, [], ◌∷◌, ◌++◌, length, get_or, take, ap, arith}
 use Rattle.std.proofs.lemmas.List.{take_more, length-take-le}
 use Rattle.std.specs.Prelude.{Some}
-use Rattle.pst_scen.specs.declared.event.Event.TheVariants.{Start, End}
 use Rattle.pst_scen.specs.declared.tree.Node.{Node}
 use Rattle.pst_scen.specs.declared.tree.Fill.TheVariants.{Leaf}
 use Rattle.pst_scen.specs.declared.act.Act.{Act}
-use Rattle.pstim.specs.Running.{in_turn}
 use Rattle.pstim.specs.Straight.{leaves_from, acts_from, act_at}
-
--- one more action has run
-pub in_turn-more : (n : ℕ) → in_turn (n + 1) ≡ in_turn n ++ Start n 0 false ∷ End n ∷ []
-in_turn-more n = ap in_turn (add-one n)
 
 -- one more leaf
 pub leaves_from-push : (act : ℕ) (numbers : List ℕ) (number : ℕ)

@@ -11,6 +11,7 @@ use Rattle.pst_lexer.specs.Fault.{HasFault, HasTokens}
 use Rattle.pst_scen.specs.declared.scenario.Scenario.{Scenario}
 use Rattle.pst_scen.specs.declared.event.Event.{Event}
 use Rattle.pst_scen.specs.Trace.{IsLegalTrace, IsWhole}
+use Rattle.pst_scen.specs.Core.{Core, commands_of}
 use Rattle.pstim.specs.declared.answer.Answer.{Answer}
 use Rattle.pstim.specs.declared.answer.Answer.TheVariants.{Done, NoFile, ReadFault, Large, Lexical, WriteFault, NoMemory, Unbuilt}
 use Rattle.pstim.specs.declared.answer.What.{What}
@@ -38,7 +39,8 @@ pub record IsSource (files : Files) (file text : List ℕ) : Type 0 where
   pub file_is : IsSmall files file text
   pub lexed : HasTokens most_tokens text
 
--- The text is that of a whole legal run, on one lane, of the scenario of a source and its root, of so many actions.
+-- The text is that of a whole legal run, on one lane, of the scenario of a source and its root, of so many actions. The core
+-- makes its trace of the commands of that trace.
 pub record ShowsRun (source root : List ℕ) (count : ℕ) (text : List ℕ) : Type 0 where
   pub actions : List Declaration
   pub scenario : Scenario
@@ -46,6 +48,7 @@ pub record ShowsRun (source root : List ℕ) (count : ℕ) (text : List ℕ) : T
   pub trace : List Event
   pub legal : IsLegalTrace scenario 1 trace
   pub whole : IsWhole scenario trace
+  pub core : Core scenario 1 (commands_of trace) trace
   pub count_is : count ≡ length scenario.actions
   pub text_is : text ≡ trace_text (names_of actions) scenario trace
 

@@ -1,9 +1,9 @@
--- The run of the actions one after another on one lane.
-use Rattle.std.specs.Prelude.{ℕ, zero, suc, List, [], ◌∷◌, ◌++◌, false}
-use Rattle.pst_scen.specs.declared.event.Event.{Event}
-use Rattle.pst_scen.specs.declared.event.Event.TheVariants.{Start, End}
+-- Books of one run.
+use Rattle.std.specs.Prelude.{◌≡◌}
+use Rattle.pst_book.specs.Books.{View}
 
--- each of the first so many actions starts and ends before the next
-abbrev pub in_turn : ℕ → List Event
-in_turn zero = []
-in_turn (suc n) = in_turn n ++ Start n 0 false ∷ End n ∷ []
+-- both books are of one scenario and plan, on as many lanes
+pub record IsOfRun (old new : View) : Type 0 where
+  pub scenario : new.scenario ≡ old.scenario
+  pub plan : new.plan ≡ old.plan
+  pub lanes : new.lanes ≡ old.lanes

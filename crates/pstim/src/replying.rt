@@ -16,12 +16,13 @@ use crate::loading::{Loaded, MOST_BYTES, MOST_TOKENS, load};
 use crate::printing::{
     large_text, lexical_text, no_file_text, read_fault_text, trace_text, unbuilt_text,
 };
-use crate::running::run_in_turn;
+use crate::running::{plan_unrefused, run_alone};
 use crate::source::parse;
 use crate::straight::find_scenario;
 use crate::words::{Line, line_of};
 use pst_base::{Names, NoMemory, Place};
 use pst_io::Shelf;
+use pst_scen::prefixes_are_legal;
 use pst_token::Token;
 use std::alloc::Global;
 
@@ -52,9 +53,11 @@ fn run_source(
     let Some(scenario) = find_scenario(alloc, all.as_slice(), root)? else {
         return Ok(None);
     };
+    prefixes_are_legal();
+    let plan = plan_unrefused(alloc, &scenario)?;
+    let book = run_alone(alloc, &scenario, &plan)?;
     let actions = scenario.actions.as_slice().len() as u32;
-    let trace = run_in_turn(alloc, actions)?;
-    let text = trace_text(alloc, all.as_slice(), &scenario, trace.as_slice())?;
+    let text = trace_text(alloc, all.as_slice(), &scenario, book.trace())?;
     Ok(Some(Reply {
         answer: Answer::Done { actions },
         text,

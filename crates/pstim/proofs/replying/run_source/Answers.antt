@@ -1,14 +1,16 @@
 use Rattle.std.proofs.Common.{◌≡◌, ◌∙◌, List, length, refl, ap, sym, subst, arith}
 use Rattle.pst_scen.specs.declared.event.Event.{Event}
+use Rattle.pst_scen.specs.declared.scenario.Scenario.{Scenario}
+use Rattle.pst_scen.specs.Trace.{IsWhole, Prefix}
+use Rattle.pst_scen.specs.Core.{Core, commands_of}
 use Rattle.pst_token.proofs.Belong.{belong}
 use Rattle.pstim.specs.declared.parsing.Declaration.{Declaration}
 use Rattle.pstim.specs.Source.{shapes_of, source_of}
 use Rattle.pstim.specs.Straight.{HasScenario, names_of}
-use Rattle.pstim.specs.Running.{in_turn}
 use Rattle.pstim.specs.Texts.{trace_text}
 use Rattle.pstim.proofs.Grammar.{fewer_declarations, same_source}
-use Rattle.pstim.proofs.Legal.{run_is_legal, run_is_whole}
-use Rattle.pstim.proofs.Plain.{is_runnable}
+use Rattle.pstim.proofs.Serial.{plain_is_unrefused, plain_is_narrow}
+use Rattle.pstim.proofs.Runnable.{is_runnable}
 use Rattle.pstim.proofs.Shapes.{one_spelling, as_many}
 use Rattle.pstim.proofs.replying.run_source.Goals as goal
 
@@ -37,40 +39,47 @@ returns-in_default-2 c = λ source are actions s straight.
     let none : (t : _) → HasScenario c.as_slice.result.now c.args.root.now t → ⊥ = rw c.in_default-2.is at c.in_ok-scenario.ensures in
     none s (subst (λ (all : List Declaration). HasScenario all c.args.root.now s) equal straight.has)
 
-pub overflow_cast-actions : goal.overflow_cast-actions
-overflow_cast-actions c =
+pub plan_unrefused-requires-clause-built : goal.plan_unrefused-requires-clause-built
+plan_unrefused-requires-clause-built c =
     let has : HasScenario c.as_slice.result.now c.args.root.now c.in-Some-2.scenario = rw c.in-Some-2.is at c.in_ok-scenario.ensures in
-    let few = (is_runnable c.as_slice.result.now c.args.root.now c.in-Some-2.scenario has).few in
-    let same = ap length c.as_slice-2.ensures in
-    omega (arith, few, same)
+    (is_runnable c.as_slice.result.now c.args.root.now c.in-Some-2.scenario has).built
 
-pub run_in_turn-requires : goal.run_in_turn-requires
-run_in_turn-requires c =
+pub plan_unrefused-requires-clause-unrefused : goal.plan_unrefused-requires-clause-unrefused
+plan_unrefused-requires-clause-unrefused c =
     let has : HasScenario c.as_slice.result.now c.args.root.now c.in-Some-2.scenario = rw c.in-Some-2.is at c.in_ok-scenario.ensures in
-    let few = (is_runnable c.as_slice.result.now c.args.root.now c.in-Some-2.scenario has).few in
-    let same = ap length c.as_slice-2.ensures in
-    omega (arith, few, same)
+    plain_is_unrefused c.in-Some-2.scenario (is_runnable c.as_slice.result.now c.args.root.now c.in-Some-2.scenario has).plain
 
-pub trace_text-requires : goal.trace_text-requires
-trace_text-requires c =
+pub run_alone-requires-clause-built : goal.run_alone-requires-clause-built
+run_alone-requires-clause-built c =
     let has : HasScenario c.as_slice.result.now c.args.root.now c.in-Some-2.scenario = rw c.in-Some-2.is at c.in_ok-scenario.ensures in
-    let few = (is_runnable c.as_slice.result.now c.args.root.now c.in-Some-2.scenario has).few in
-    omega (arith, few)
+    (is_runnable c.as_slice.result.now c.args.root.now c.in-Some-2.scenario has).built
+
+pub run_alone-requires-clause-alone : goal.run_alone-requires-clause-alone
+run_alone-requires-clause-alone c =
+    let has : HasScenario c.as_slice.result.now c.args.root.now c.in-Some-2.scenario = rw c.in-Some-2.is at c.in_ok-scenario.ensures in
+    plain_is_narrow c.in-Some-2.scenario c.in_ok-plan.plan (is_runnable c.as_slice.result.now c.args.root.now c.in-Some-2.scenario has).plain c.in_ok-plan.ensures
 
 pub returns : goal.returns
 returns c = λ source are.
     let spelled : c.new-cursor.result ≡ source_of c.in-Some.all.items = rw c.in-Some.is at c.in_ok-all.ensures in
     let has : HasScenario c.as_slice.result.now c.args.root.now c.in-Some-2.scenario = rw c.in-Some-2.is at c.in_ok-scenario.ensures in
-    let runnable = is_runnable c.as_slice.result.now c.args.root.now c.in-Some-2.scenario has in
-    let count : length c.as_slice-2.result.now ≡ length c.in-Some-2.scenario.actions = ap length c.as_slice-2.ensures in
-    let trace : c.as_slice-4.result.now ≡ in_turn (length c.in-Some-2.scenario.actions) = c.as_slice-4.ensures.value ∙ c.in_ok-trace.ensures ∙ ap in_turn count in
+    let s = c.in-Some-2.scenario in
+    let book = c.in_ok-book.book in
+    let told = c.trace.ensures in
+    let trace = c.trace.result.now in
+    let of_scenario : book.scenario ≡ s = c.in_ok-book.ensures.0 in
+    let one_lane : book.lanes ≡ 1 = c.in_ok-book.ensures.1 in
+    let prefix : Prefix s 1 trace = subst (λ (x : Scenario). Prefix x 1 trace) of_scenario (subst (λ n. Prefix book.scenario n trace) one_lane told.prefix) in
+    let core : Core s 1 (commands_of trace) trace = subst (λ (x : Scenario). Core x 1 (commands_of trace) trace) of_scenario (subst (λ n. Core book.scenario n (commands_of trace) trace) one_lane told.core) in
+    let whole : IsWhole s trace = subst (λ (t : List Event). IsWhole s t) (sym told.value) c.in_ok-book.ensures.2 in
+    let count : length c.as_slice-2.result.now ≡ length s.actions = ap length c.as_slice-2.ensures in
     let all : c.as_slice-3.result.now ≡ c.as_slice.result.now = c.as_slice-3.ensures.value ∙ sym c.as_slice.ensures.value in
     record {
       count = length c.as_slice-2.result.now;
       answer_is = refl;
       shows = record {
         actions = c.as_slice.result.now;
-        scenario = c.in-Some-2.scenario;
+        scenario = s;
         straight = record {
           source = record {
             names = c.args.names.now;
@@ -80,11 +89,11 @@ returns c = λ source are.
           };
           has = has;
         };
-        trace = in_turn (length c.in-Some-2.scenario.actions);
-        legal = run_is_legal c.in-Some-2.scenario runnable.plain;
-        whole = run_is_whole c.in-Some-2.scenario;
+        trace = trace;
+        legal = c.prefixes_are_legal.ensures s 1 trace prefix;
+        whole = whole;
+        core = core;
         count_is = count;
-        text_is = c.in_ok-text.ensures ∙ ap (λ (all : List Declaration). trace_text (names_of all) c.in-Some-2.scenario c.as_slice-4.result.now) all
-            ∙ ap (λ (es : List Event). trace_text (names_of c.as_slice.result.now) c.in-Some-2.scenario es) trace;
+        text_is = c.in_ok-text.ensures ∙ ap (λ (all : List Declaration). trace_text (names_of all) s trace) all;
       };
     }
