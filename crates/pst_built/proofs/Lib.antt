@@ -1,0 +1,12 @@
+mod Gives
+mod Bares
+mod Values
+mod Looks
+mod Parents
+mod Opens
+mod Leaves
+mod Trees
+mod Members
+mod Links
+mod Spots
+mod Supply

@@ -1,0 +1,335 @@
+-- What a scenario keeps while its needs get their sources.
+use Rattle.std.proofs.Common.{◌≡◌, ◌⊎◌, ℕ, zero, suc, ◌+◌, ◌-◌, ◌<◌, ◌≤◌, List, [], ◌∷◌, ◌++◌, length, map, replicate, Bool, true, false, not, ◌&&◌, ◌||◌, nat_eq, nat_lt, if◌then◌else◌, Option, Some, None, refl, sym, ap, ◌∙◌, subst, inl, inr, ⊎_elim, arith, length-append, append_assoc, append-nil}
+use Rattle.std.specs.Prelude.{slice_get}
+use Rattle.std.specs.List.{enumerate_from, range_with_len}
+use Rattle.std.specs.Option.{option_and_then}
+use Rattle.std.proofs.lemmas.List.{map-append, length-map}
+use Rattle.std.proofs.lemmas.Option.{none-some}
+use Rattle.std.proofs.lemmas.Bool.{false≢true, eqb-true, eqb-false, ltb-true, not-true, and_parts, and_from, or_left, both_ways}
+use Rattle.pst_model.specs.ModelTree.{ModelTree}
+use Rattle.pst_scen.specs.declared.act.Act.{Act}
+use Rattle.pst_scen.specs.declared.act.Filled.{Filled}
+use Rattle.pst_scen.specs.declared.act.Flow.{Flow}
+use Rattle.pst_scen.specs.declared.act.Flow.TheVariants.{BufferIn, BufferOut, StreamIn, StreamOut, StateIn, StateOut}
+use Rattle.pst_scen.specs.declared.act.Link.{Link}
+use Rattle.pst_scen.specs.declared.act.Link.TheVariants as link
+use Rattle.pst_scen.specs.declared.scenario.Scenario.{Scenario}
+use Rattle.pst_scen.specs.Scenarios.{reference_at, leaves_of}
+use Rattle.pst_legal.specs.Growing.{open_act, most_nodes, most_acts, IsWithin}
+use Rattle.pst_legal.specs.Supplied.{is_need, is_source_for}
+use Rattle.pst_legal.specs.Reading.{Reading, Stops, Reads, Reader}
+use Rattle.pst_legal.specs.SupplyReading.{Spot, spots, same_link, is_open, fixed_for, is_elsewhere, has_turn, next_need, Source, Initially, From, New, is_state, is_writer, is_stream, is_previous, is_free, fits, is_candidate, inferred, may_infer, sources, put_link, linked_to, supplied_by, end_supply, chosen, read_need, read_turn, read_supply}
+use Rattle.pst_built.proofs.Gives.{Gives, gives_if, gives_seeded}
+use Rattle.pst_built.proofs.Bares.{Bare, bare, bares_in, bares, bare_at, bare_from, bare_of, node_in, nodes_in, bares_put, nodes_put, put_bare, with_bare_link}
+use Rattle.pst_built.proofs.Parents.{parents, InOrder}
+use Rattle.pst_built.proofs.Opens.{AreOpen, IsOpenRow, act_is_open, bare_cases, bares_push}
+use Rattle.pst_built.proofs.Members.{In, in_get, in_find, none_found}
+use Rattle.pst_built.proofs.Links.{put_at, put_still, bare_more, bare_within, IsSourceAt, Links, MayLink, open_links, push_links, put_links}
+use Rattle.pst_built.proofs.Spots.{spot_is, to_spot, same_link_self, IsFresh, fresh, Suits, suits}
+use Rattle.pst_built.proofs.Trees.{Grown}
+
+-- the nodes stand in preorder, the actions are those of the leaves and then inferred ones, and the links are sound
+pub record Joined (level : ℕ) (s : Scenario) : Type 0 where
+  pub of_level : s.level ≡ level
+  pub order : InOrder (parents s.nodes)
+  pub numbers : map (λ e. e.0) (leaves_of s.nodes) ≡ range_with_len 0 (length (leaves_of s.nodes))
+  pub more : ℕ
+  pub acts : nodes_in s.actions ≡ map (λ e. Some e.1) (leaves_of s.nodes) ++ replicate more None
+  pub within : IsWithin s.nodes s.actions
+  pub links : Links (bares s.actions)
+
+pub joined_first : (level : ℕ) (s : Scenario) → Grown level s → IsWithin s.nodes s.actions → Joined level s
+joined_first level s grown within = record {
+  of_level = grown.of_level;
+  order = grown.order;
+  numbers = grown.numbers;
+  more = 0;
+  acts = grown.acts ∙ sym (append-nil (map (λ e. Some e.1) (leaves_of s.nodes)));
+  within = within;
+  links = open_links (bares s.actions) grown.unlinked;
+}
+
+same_length : (one other : List Act) → nodes_in one ≡ nodes_in other → length one ≡ length other
+same_length one other same = sym (length-map one node_in) ∙ ap length same ∙ length-map other node_in
+
+-- links that are changed
+relinked : (level : ℕ) (s : Scenario) (acts : List Act) → Joined level s → nodes_in acts ≡ nodes_in s.actions → Links (bares acts) → Joined level (record s { actions = acts })
+relinked level s acts joined same links = record {
+  of_level = joined.of_level;
+  order = joined.order;
+  numbers = joined.numbers;
+  more = joined.more;
+  acts = same ∙ joined.acts;
+  within = record { few_nodes = joined.within.few_nodes; few_acts = subst (λ k. k ≤ most_acts) (sym (same_length acts s.actions same)) joined.within.few_acts };
+  links = links;
+}
+
+replicate_push : {A : Type 0} (n : ℕ) (x : A) → replicate n x ++ x ∷ [] ≡ replicate (n + 1) x
+replicate_push n x = let e : suc n ≡ n + 1 = omega arith in go n ∙ ap (λ k. replicate k x) e
+  where
+    go : (k : ℕ) → replicate k x ++ x ∷ [] ≡ replicate (suc k) x
+    go zero = refl
+    go (suc k) = ap (λ xs. x ∷ xs) (go k)
+
+-- an inferred action more
+pushed : (m : ModelTree) (level : ℕ) (s : Scenario) (action instance : ℕ) → Joined level s → may_infer s ≡ true
+    → Joined level (record s { actions = s.actions ++ open_act m action instance None ∷ [] })
+pushed m level s action instance joined may =
+    let act = open_act m action instance None in
+    let few : length s.actions < most_acts = ltb-true (length s.actions) most_acts (and_parts (nat_lt (inferred s) s.level) (nat_lt (length s.actions) most_acts) may).1 in
+    record {
+      of_level = joined.of_level;
+      order = joined.order;
+      numbers = joined.numbers;
+      more = joined.more + 1;
+      acts = map-append node_in s.actions (act ∷ [])
+          ∙ ap (λ ns. ns ++ None ∷ []) joined.acts
+          ∙ append_assoc (map (λ e. Some e.1) (leaves_of s.nodes)) (replicate joined.more None) (None ∷ [])
+          ∙ ap (λ ns. map (λ e. Some e.1) (leaves_of s.nodes) ++ ns) (replicate_push joined.more None);
+      within = record { few_nodes = joined.within.few_nodes; few_acts = omega (arith, few, length-append s.actions (act ∷ [])) };
+      links = subst Links (sym (bares_push s.actions act)) (push_links (bares s.actions) (bares_in act) joined.links (act_is_open m action instance None));
+    }
+
+-- ---- a need that gets its source
+
+no_act : (b q : ℕ) → link.Initial ≡ link.Act b q → ⊥
+no_act b q e = cc
+
+first_of_act : (a r b q : ℕ) → link.Act a r ≡ link.Act b q → (a ≡ b) × (r ≡ q)
+first_of_act a r b q e = (cc, cc)
+
+previous_false : (writer previous : Bool) → not (writer && previous) ≡ true → writer ≡ true → previous ≡ false
+previous_false true true e is = absurd (false≢true e)
+previous_false true false e is = refl
+previous_false false previous e is = absurd (false≢true is)
+
+-- the source of an action may be the source of the one that it has as its source, with streams
+turned : (one other : Flow) → is_stream one ≡ true → is_source_for one other ≡ true → (is_source_for other one ≡ true) × (other ≡ StateOut → ⊥)
+turned StreamIn StreamOut stream fits = (refl, λ e. cc)
+turned StreamOut StreamIn stream fits = (refl, λ e. cc)
+turned StreamIn BufferIn stream fits = absurd (false≢true fits)
+turned StreamIn BufferOut stream fits = absurd (false≢true fits)
+turned StreamIn StreamIn stream fits = absurd (false≢true fits)
+turned StreamIn StateIn stream fits = absurd (false≢true fits)
+turned StreamIn StateOut stream fits = absurd (false≢true fits)
+turned StreamOut BufferIn stream fits = absurd (false≢true fits)
+turned StreamOut BufferOut stream fits = absurd (false≢true fits)
+turned StreamOut StreamOut stream fits = absurd (false≢true fits)
+turned StreamOut StateIn stream fits = absurd (false≢true fits)
+turned StreamOut StateOut stream fits = absurd (false≢true fits)
+turned BufferIn other stream fits = absurd (false≢true stream)
+turned BufferOut other stream fits = absurd (false≢true stream)
+turned StateIn other stream fits = absurd (false≢true stream)
+turned StateOut other stream fits = absurd (false≢true stream)
+
+-- a reference is linked to one that fits
+pub record Pairs (acts : List Act) (need : Spot) (b q : ℕ) : Type 0 where
+  pub at : reference_at acts need.act need.reference ≡ Some need.filled
+  pub source : Filled
+  pub is : reference_at acts b q ≡ Some source
+  pub other : b ≡ need.act → ⊥
+  pub fitting : fits need.filled source ≡ true
+  pub free : need.filled.flow ≡ StateOut → IsFresh (bares acts) need.filled.pool (link.Act b q)
+
+pool_of : (need source : Filled) → fits need source ≡ true → (is_source_for need.flow source.flow ≡ true) × (source.pool ≡ need.pool)
+pool_of need source fitting = let p = and_parts (is_source_for need.flow source.flow) (nat_eq source.pool need.pool) fitting in (p.0, eqb-true source.pool need.pool p.1)
+
+module _ (acts : List Act) (need : Spot) (b q : ℕ) (pairs : Pairs acts need b q) (links : Links (bares acts)) where
+  abbrev rows : List (List Bare)
+  rows = bares acts
+
+  abbrev x : Bare
+  x = bare need.filled
+
+  is_source : IsSourceAt rows need.act x b q
+  is_source = record {
+    other = pairs.other;
+    source = bare pairs.source;
+    is = bare_from acts b q pairs.source pairs.is;
+    fits = (pool_of need.filled pairs.source pairs.fitting).0;
+    pool = (pool_of need.filled pairs.source pairs.fitting).1;
+  }
+
+  once : Links (put_bare need.act need.reference (link.Act b q) rows)
+  once = put_links rows need.act need.reference x (link.Act b q) links (bare_from acts need.act need.reference need.filled pairs.at) (record {
+        there = λ c p e. let f = first_of_act b q c p e in subst (λ v. IsSourceAt rows need.act x v p) f.0 (subst (λ w. IsSourceAt rows need.act x b w) f.1 is_source);
+        fresh = pairs.free;
+      })
+
+  abbrev more : List (List Bare)
+  more = put_bare need.act need.reference (link.Act b q) rows
+
+  -- the other end of a stream
+  back : is_stream need.filled.flow ≡ true → Links (put_bare b q (link.Act need.act need.reference) more)
+  back stream =
+      let still = put_still rows need.act need.reference (link.Act b q) b q (bare pairs.source) (bare_from acts b q pairs.source pairs.is) in
+      let fit = pool_of need.filled pairs.source pairs.fitting in
+      let turn = turned need.filled.flow pairs.source.flow stream fit.0 in
+      let there : IsSourceAt more b still.now need.act need.reference = record {
+        other = λ e. pairs.other (sym e);
+        source = with_bare_link (link.Act b q) x;
+        is = put_at rows need.act need.reference (link.Act b q) x (bare_from acts need.act need.reference need.filled pairs.at);
+        fits = subst (λ f. is_source_for f need.filled.flow ≡ true) (sym still.flow) turn.0;
+        pool = sym (still.pool ∙ fit.1);
+      } in
+      put_links more b q still.now (link.Act need.act need.reference) once still.is (record {
+        there = λ c p e. let f = first_of_act need.act need.reference c p e in
+            subst (λ v. IsSourceAt more b still.now v p) f.0 (subst (λ w. IsSourceAt more b still.now need.act w) f.1 there);
+        fresh = λ flow. absurd (turn.1 (sym still.flow ∙ flow));
+      })
+
+  by_stream : (test : Bool) → is_stream need.filled.flow ≡ test
+      → Links (bares (if test then put_link b q (link.Act need.act need.reference) (put_link need.act need.reference (link.Act b q) acts) else put_link need.act need.reference (link.Act b q) acts))
+  by_stream true stream =
+      subst Links
+      (ap (put_bare b q (link.Act need.act need.reference)) (sym (bares_put need.act need.reference (link.Act b q) acts))
+      ∙ sym (bares_put b q (link.Act need.act need.reference) (put_link need.act need.reference (link.Act b q) acts))) (back stream)
+  by_stream false stream = subst Links (sym (bares_put need.act need.reference (link.Act b q) acts)) once
+
+  pub paired : Links (bares (linked_to need b q acts))
+  paired = by_stream (is_stream need.filled.flow) refl
+
+nodes_if : (test : Bool) (one other acts : List Act) → nodes_in one ≡ nodes_in acts → nodes_in other ≡ nodes_in acts → nodes_in (if test then one else other) ≡ nodes_in acts
+nodes_if true one other acts first second = first
+nodes_if false one other acts first second = second
+
+nodes_linked : (need : Spot) (b q : ℕ) (acts : List Act) → nodes_in (linked_to need b q acts) ≡ nodes_in acts
+nodes_linked need b q acts =
+    nodes_if (is_stream need.filled.flow) _ _ acts
+    (nodes_put b q (link.Act need.act need.reference) (put_link need.act need.reference (link.Act b q) acts) ∙ nodes_put need.act need.reference (link.Act b q) acts)
+    (nodes_put need.act need.reference (link.Act b q) acts)
+
+-- an output that wants a previous writer
+writes : (flow : Flow) → flow ≡ StateOut → (is_writer flow ≡ true) × (is_stream flow ≡ false)
+writes flow e = (ap is_writer e, ap is_stream e)
+
+free_if : (stream opened : Bool) (rest : Bool) → (if stream then opened else rest) ≡ true → stream ≡ false → rest ≡ true
+free_if true opened rest e is = absurd (false≢true (sym is))
+free_if false opened rest e is = e
+
+initially : (m : ModelTree) (level : ℕ) (s : Scenario) (need : Spot) → Joined level s → reference_at s.actions need.act need.reference ≡ Some need.filled → Suits m s need Initially
+    → Joined level (supplied_by m s need Initially)
+initially m level s need joined at suit =
+    let test = (and_parts (is_state need.filled.flow) _ suit).1 in
+    relinked level s (put_link need.act need.reference link.Initial s.actions) joined (nodes_put need.act need.reference link.Initial s.actions)
+    (subst Links (sym (bares_put need.act need.reference link.Initial s.actions))
+    (put_links (bares s.actions) need.act need.reference (bare need.filled) link.Initial joined.links (bare_from s.actions need.act need.reference need.filled at) (record {
+      there = λ b q e. absurd (no_act b q e);
+      fresh = λ flow. fresh s.actions need.filled.pool link.Initial (previous_false (is_writer need.filled.flow) _ test (writes need.filled.flow flow).0);
+    })))
+
+from : (m : ModelTree) (level : ℕ) (s : Scenario) (need : Spot) (b q : ℕ) → Joined level s → reference_at s.actions need.act need.reference ≡ Some need.filled → Suits m s need (From b q)
+    → Joined level (supplied_by m s need (From b q))
+from m level s need b q joined at suit =
+    let p = and_parts (not (nat_eq b need.act)) _ suit.2 in
+    let f = and_parts (fits need.filled suit.0) _ p.1 in
+    relinked level s (linked_to need b q s.actions) joined (nodes_linked need b q s.actions)
+    (paired s.actions need b q (record {
+      at = at;
+      source = suit.0;
+      is = suit.1;
+      other = eqb-false b need.act (not-true (nat_eq b need.act) p.0);
+      fitting = f.0;
+      free = λ flow. fresh s.actions need.filled.pool (link.Act b q)
+          (previous_false (is_writer need.filled.flow) _ (free_if (is_stream need.filled.flow) _ _ f.1 (writes need.filled.flow flow).1) (writes need.filled.flow flow).0);
+    }) joined.links)
+
+-- ---- a new action as a source
+
+reference_more : (acts : List Act) (act : Act) (a r : ℕ) (filled : Filled) → reference_at acts a r ≡ Some filled → reference_at (acts ++ act ∷ []) a r ≡ Some filled
+reference_more [] act a r filled is = absurd (none-some filled is)
+reference_more (x ∷ xs) act zero r filled is = is
+reference_more (x ∷ xs) act (suc a) r filled is = reference_more xs act a r filled is
+
+reference_last : (acts : List Act) (act : Act) (r : ℕ) → reference_at (acts ++ act ∷ []) (length acts) r ≡ slice_get act.references r
+reference_last [] act r = refl
+reference_last (x ∷ xs) act r = reference_last xs act r
+
+-- no link names the number of an action that isn't there yet
+none_behind : (rows : List (List Bare)) (row : List Bare) (pool q : ℕ) → Links rows → IsOpenRow row → IsFresh (rows ++ row ∷ []) pool (link.Act (length rows) q)
+none_behind rows row pool q links unlinked b r y at flow same e =
+    ⊎_elim
+    (λ old. let s = links.there b r (length rows) q y old e in let l = bare_within rows (length rows) q s.source s.is in absurd (omega (arith, l)))
+    (λ new. let none : link.Nothing ≡ link.Act (length rows) q = sym (unlinked r y new.1) ∙ e in nothing none)
+    (bare_cases rows row b r y at)
+  where
+    nothing : link.Nothing ≡ link.Act (length rows) q → ⊥
+    nothing none = cc
+
+new : (m : ModelTree) (level : ℕ) (s : Scenario) (need : Spot) (action instance q : ℕ) → Joined level s → reference_at s.actions need.act need.reference ≡ Some need.filled
+    → Suits m s need (New action instance q) → Joined level (supplied_by m s need (New action instance q))
+new m level s need action instance q joined at suit =
+    let act = open_act m action instance None in
+    let acts = s.actions ++ act ∷ [] in
+    let grown = pushed m level s action instance joined suit.0 in
+    let l : need.act < length s.actions = omega (arith, bare_within (bares s.actions) need.act need.reference (bare need.filled) (bare_from s.actions need.act need.reference need.filled at), length-map s.actions bares_in) in
+    relinked level (record s { actions = acts }) (linked_to need (length s.actions) q acts) grown (nodes_linked need (length s.actions) q acts)
+    (paired acts need (length s.actions) q (record {
+      at = reference_more s.actions act need.act need.reference need.filled at;
+      source = suit.1.0;
+      is = reference_last s.actions act q ∙ suit.1.1;
+      other = λ e. absurd (omega (arith, l, e));
+      fitting = suit.1.2;
+      free = λ flow. subst (λ rows. IsFresh rows need.filled.pool (link.Act (length s.actions) q)) (sym (bares_push s.actions act))
+          (subst (λ k. IsFresh (bares s.actions ++ bares_in act ∷ []) need.filled.pool (link.Act k q)) (length-map s.actions bares_in)
+          (none_behind (bares s.actions) (bares_in act) need.filled.pool q joined.links (act_is_open m action instance None)));
+    }) grown.links)
+
+supplied : (m : ModelTree) (level : ℕ) (s : Scenario) (need : Spot) (source : Source) → Joined level s → reference_at s.actions need.act need.reference ≡ Some need.filled → Suits m s need source
+    → Joined level (supplied_by m s need source)
+supplied m level s need Initially joined at suit = initially m level s need joined at suit
+supplied m level s need (From b q) joined at suit = from m level s need b q joined at suit
+supplied m level s need (New action instance q) joined at suit = new m level s need action instance q joined at suit
+
+-- ---- the end
+
+-- each need has a link
+abbrev pub AreLinked : List (List Bare) → Type 0
+AreLinked rows = (a r : ℕ) (x : Bare) → bare_at rows a r ≡ Some x → is_need x.flow ≡ true → x.link ≡ link.Nothing → ⊥
+
+-- a scenario whose needs have their sources
+pub record IsSupplied (level : ℕ) (s : Scenario) : Type 0 where
+  pub joined : Joined level s
+  pub many : inferred s ≡ s.level
+  pub all : AreLinked (bares s.actions)
+
+by_filled : (m : ModelTree) (s : Scenario) → next_need m s ≡ None → (a r : ℕ) (f : Filled) → reference_at s.actions a r ≡ Some f → is_need f.flow ≡ true → f.link ≡ link.Nothing → ⊥
+by_filled m s none a r f is need e =
+    let spot : Spot = record { act = a; reference = r; filled = f } in
+    both_ways (has_turn m s spot) (none_found (has_turn m s) (spots s.actions) spot none (to_spot s.actions a r f is))
+    (and_from (is_need f.flow) (is_open spot || is_elsewhere (fixed_for m s spot) spot) need
+    (or_left (is_open spot) (is_elsewhere (fixed_for m s spot) spot) (ap (λ l. same_link l link.Nothing) e)))
+
+all_linked : (m : ModelTree) (s : Scenario) → next_need m s ≡ None → AreLinked (bares s.actions)
+all_linked m s none a r x at need e =
+    let f = bare_of s.actions a r x at in
+    by_filled m s none a r f.0 f.1 (ap (λ (v : Bare). is_need v.flow) f.2 ∙ need) (ap (λ (v : Bare). v.link) f.2 ∙ e)
+
+end_gives : (m : ModelTree) (level : ℕ) (s : Scenario) (place : ℕ) (left : List ℕ) → Joined level s → next_need m s ≡ None → Gives (IsSupplied level) (end_supply s place left)
+end_gives m level s place left joined none =
+    gives_if (IsSupplied level) (nat_eq (inferred s) s.level) (Reads s place left) Stops
+    (λ test. record { joined = joined; many = eqb-true (inferred s) s.level test; all = all_linked m s none }) tt
+
+chosen_gives : (m : ModelTree) (level : ℕ) (need : Spot) (source : Option Source) (go : Reader) (s : Scenario) (place : ℕ) (left : List ℕ) → Joined level s → reference_at s.actions need.act need.reference ≡ Some need.filled
+    → ((k : Source) → source ≡ Some k → Suits m s need k)
+    → ((t : Scenario) (next : ℕ) (rest : List ℕ) → Joined level t → Gives (IsSupplied level) (go t next rest))
+    → Gives (IsSupplied level) (chosen m need source go s place left)
+chosen_gives m level need None go s place left joined at suit each = tt
+chosen_gives m level need (Some source) go s place left joined at suit each =
+    each (supplied_by m s need source) place left (supplied m level s need source joined at (suit source refl))
+
+turn_gives : (m : ModelTree) (seed level : ℕ) (need : Option Spot) (go : Reader) (s : Scenario) (place : ℕ) (left : List ℕ) → Joined level s → next_need m s ≡ need
+    → ((t : Scenario) (next : ℕ) (rest : List ℕ) → Joined level t → Gives (IsSupplied level) (go t next rest))
+    → Gives (IsSupplied level) (read_turn m seed need go s place left)
+turn_gives m seed level None go s place left joined is each = end_gives m level s place left joined is
+turn_gives m seed level (Some need) go s place left joined is each =
+    gives_seeded (IsSupplied level) seed (length (sources m s need)) (λ k. chosen m need (slice_get (sources m s need) k) go) s place left
+    (λ k next rest. chosen_gives m level need (slice_get (sources m s need) k) go s next rest joined
+    (spot_is s.actions need (in_find (has_turn m s) (spots s.actions) need is).0)
+    (λ source e. suits m s need source (in_get (sources m s need) k source e)) each)
+
+pub supply_gives : (m : ModelTree) (seed level : ℕ) (s : Scenario) (place : ℕ) (left : List ℕ) → Joined level s → Gives (IsSupplied level) (read_supply m seed s place left)
+supply_gives m seed level s place [] joined = turn_gives m seed level (next_need m s) (λ s place left. Stops) s place [] joined refl (λ t next rest more. tt)
+supply_gives m seed level s place (digit ∷ left) joined =
+    turn_gives m seed level (next_need m s) (λ more next rest. read_supply m seed more next left) s place (digit ∷ left) joined refl
+    (λ t next rest more. supply_gives m seed level t next left more)

@@ -1,0 +1,15 @@
+-- The laws of the scenarios that lists of choices read whole.
+use Rattle.std.specs.Prelude.{◌≡◌, ℕ, List}
+use Rattle.pst_model.specs.ModelTree.{ModelTree}
+use Rattle.pst_scen.specs.declared.scenario.Scenario.{Scenario}
+use Rattle.pst_legal.specs.Growing.{IsWithin}
+use Rattle.pst_legal.specs.ValueReading.{Whole, read}
+use Rattle.pst_order.specs.Built.{IsBuilt}
+
+-- A scenario that a list of choices reads whole is built, and of the level that was asked for.
+abbrev pub WholeReadingsAreBuilt : Type 0
+WholeReadingsAreBuilt = (m : ModelTree) (root seed level : ℕ) (choices : List ℕ) (s : Scenario) → read m root seed level choices ≡ Whole s → IsBuilt s × (s.level ≡ level)
+
+-- It is within the limits on its size.
+abbrev pub WholeReadingsAreWithin : Type 0
+WholeReadingsAreWithin = (m : ModelTree) (root seed level : ℕ) (choices : List ℕ) (s : Scenario) → read m root seed level choices ≡ Whole s → IsWithin s.nodes s.actions
