@@ -10,3 +10,4 @@ mod Members
 mod Links
 mod Spots
 mod Supply
+mod Whole

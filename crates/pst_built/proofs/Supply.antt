@@ -49,7 +49,7 @@ joined_first level s grown within = record {
   links = open_links (bares s.actions) grown.unlinked;
 }
 
-same_length : (one other : List Act) → nodes_in one ≡ nodes_in other → length one ≡ length other
+pub same_length : (one other : List Act) → nodes_in one ≡ nodes_in other → length one ≡ length other
 same_length one other same = sym (length-map one node_in) ∙ ap length same ∙ length-map other node_in
 
 -- links that are changed
