@@ -15,8 +15,8 @@ use Rattle.pst_scen.specs.Scenarios.{leaf_of}
 use Rattle.pst_legal.specs.Types.{type_of, action_instances}
 use Rattle.pst_legal.specs.Growing.{Look, Inner, Leaf}
 use Rattle.pst_legal.specs.Pieces.{Context, Piece, Action, Statement, Turning, statements, value_in, mask}
-use Rattle.pst_legal.specs.Menus.{Menu, Way, Place, Weighted, Closed, plain, content_menu, instance_menu, type_menu, action_menu, join_menu, block_menu, available, branch_menu, branches_menu, repeat_menu, if_menu, other_menu, is_in_arm, arm_menu, match_menu, statement_menu, menu}
-use Rattle.pst_legal.specs.Reading.{Reading, Reader, read_menu}
+use Rattle.pst_legal.specs.Menus.{Menu, Way, Place, Weighted, Closed, plain, content_menu, instance_menu, action_menu, join_menu, block_menu, available, branch_menu, repeat_menu, if_menu, is_in_arm, arm_menu, match_menu, statement_menu, menu}
+use Rattle.pst_legal.specs.Reading.{Reader, read_menu}
 use Rattle.pst_built.proofs.Gives.{Gives, gives_place, gives_seeded}
 
 -- an inner node is no leaf

@@ -1,14 +1,13 @@
 -- The references of actions as a list, and the sources among them.
-use Rattle.std.proofs.Common.{◌≡◌, ℕ, List, [], ◌∷◌, ◌++◌, length, map, Bool, true, false, not, ◌&&◌, nat_eq, if◌then◌else◌, Option, Some, None, refl, sym, ap, ◌∙◌, subst, ⊎_elim}
+use Rattle.std.proofs.Common.{◌≡◌, ℕ, List, [], ◌∷◌, ◌++◌, map, Bool, true, false, not, ◌&&◌, nat_eq, Option, Some, None, refl, ap, ◌∙◌, subst, ⊎_elim}
 use Rattle.std.specs.Prelude.{slice_get, flat_map}
 use Rattle.std.specs.List.{enumerate_from, filter}
 use Rattle.std.specs.Option.{option_and_then}
 use Rattle.std.proofs.lemmas.Option.{option_and_then_some}
-use Rattle.std.proofs.lemmas.Bool.{true≢false, false≢true, eq-eqb, and_parts, and_from, both_ways}
+use Rattle.std.proofs.lemmas.Bool.{eq-eqb, and_parts, and_from, both_ways}
 use Rattle.pst_model.specs.ModelTree.{ModelTree, ActionTree}
 use Rattle.pst_scen.specs.declared.act.Act.{Act}
 use Rattle.pst_scen.specs.declared.act.Filled.{Filled}
-use Rattle.pst_scen.specs.declared.act.Flow.{Flow}
 use Rattle.pst_scen.specs.declared.act.Flow.TheVariants.{StateOut}
 use Rattle.pst_scen.specs.declared.act.Link.{Link}
 use Rattle.pst_scen.specs.declared.act.Link.TheVariants as link
@@ -17,7 +16,7 @@ use Rattle.pst_scen.specs.Scenarios.{reference_at}
 use Rattle.pst_legal.specs.Types.{action_instances}
 use Rattle.pst_legal.specs.Growing.{open_act}
 use Rattle.pst_legal.specs.SupplyReading.{Spot, spots_in, spots, same_link, is_open, fixed_for, Source, Initially, From, New, is_state, is_writer, is_previous, initial_sources, fits, is_candidate, source_of, old_sources, sources_in, is_inferable, sources_of_type, may_infer, new_sources, free_sources, fixed_sources, sources_by, sources}
-use Rattle.pst_built.proofs.Bares.{Bare, bare, bares, bare_at, bare_of}
+use Rattle.pst_built.proofs.Bares.{Bare, bares, bare_at, bare_of}
 use Rattle.pst_built.proofs.Members.{In, in_if, in_append, in_map, to_map, in_flat_map, to_flat_map, in_numbered, to_numbered, in_filter, none_any}
 
 -- ---- references of actions

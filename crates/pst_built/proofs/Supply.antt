@@ -1,8 +1,7 @@
 -- What a scenario keeps while its needs get their sources.
-use Rattle.std.proofs.Common.{◌≡◌, ◌⊎◌, ℕ, zero, suc, ◌+◌, ◌-◌, ◌<◌, ◌≤◌, List, [], ◌∷◌, ◌++◌, length, map, replicate, Bool, true, false, not, ◌&&◌, ◌||◌, nat_eq, nat_lt, if◌then◌else◌, Option, Some, None, refl, sym, ap, ◌∙◌, subst, inl, inr, ⊎_elim, arith, length-append, append_assoc, append-nil}
+use Rattle.std.proofs.Common.{◌≡◌, ℕ, zero, suc, ◌+◌, ◌<◌, ◌≤◌, List, [], ◌∷◌, ◌++◌, length, map, replicate, Bool, true, false, not, ◌&&◌, ◌||◌, nat_eq, nat_lt, if◌then◌else◌, Option, Some, None, refl, sym, ap, ◌∙◌, subst, ⊎_elim, arith, length-append, append_assoc, append-nil}
 use Rattle.std.specs.Prelude.{slice_get}
-use Rattle.std.specs.List.{enumerate_from, range_with_len}
-use Rattle.std.specs.Option.{option_and_then}
+use Rattle.std.specs.List.{range_with_len}
 use Rattle.std.proofs.lemmas.List.{map-append, length-map}
 use Rattle.std.proofs.lemmas.Option.{none-some}
 use Rattle.std.proofs.lemmas.Bool.{false≢true, eqb-true, eqb-false, ltb-true, not-true, and_parts, and_from, or_left, both_ways}
@@ -11,21 +10,20 @@ use Rattle.pst_scen.specs.declared.act.Act.{Act}
 use Rattle.pst_scen.specs.declared.act.Filled.{Filled}
 use Rattle.pst_scen.specs.declared.act.Flow.{Flow}
 use Rattle.pst_scen.specs.declared.act.Flow.TheVariants.{BufferIn, BufferOut, StreamIn, StreamOut, StateIn, StateOut}
-use Rattle.pst_scen.specs.declared.act.Link.{Link}
 use Rattle.pst_scen.specs.declared.act.Link.TheVariants as link
 use Rattle.pst_scen.specs.declared.scenario.Scenario.{Scenario}
 use Rattle.pst_scen.specs.Scenarios.{reference_at, leaves_of}
-use Rattle.pst_legal.specs.Growing.{open_act, most_nodes, most_acts, IsWithin}
+use Rattle.pst_legal.specs.Growing.{open_act, most_acts, IsWithin}
 use Rattle.pst_legal.specs.Supplied.{is_need, is_source_for}
-use Rattle.pst_legal.specs.Reading.{Reading, Stops, Reads, Reader}
-use Rattle.pst_legal.specs.SupplyReading.{Spot, spots, same_link, is_open, fixed_for, is_elsewhere, has_turn, next_need, Source, Initially, From, New, is_state, is_writer, is_stream, is_previous, is_free, fits, is_candidate, inferred, may_infer, sources, put_link, linked_to, supplied_by, end_supply, chosen, read_need, read_turn, read_supply}
+use Rattle.pst_legal.specs.Reading.{Stops, Reads, Reader}
+use Rattle.pst_legal.specs.SupplyReading.{Spot, spots, same_link, is_open, fixed_for, is_elsewhere, has_turn, next_need, Source, Initially, From, New, is_state, is_writer, is_stream, fits, inferred, may_infer, sources, put_link, linked_to, supplied_by, end_supply, chosen, read_turn, read_supply}
 use Rattle.pst_built.proofs.Gives.{Gives, gives_if, gives_seeded}
 use Rattle.pst_built.proofs.Bares.{Bare, bare, bares_in, bares, bare_at, bare_from, bare_of, node_in, nodes_in, bares_put, nodes_put, put_bare, with_bare_link}
 use Rattle.pst_built.proofs.Parents.{parents, InOrder}
-use Rattle.pst_built.proofs.Opens.{AreOpen, IsOpenRow, act_is_open, bare_cases, bares_push}
-use Rattle.pst_built.proofs.Members.{In, in_get, in_find, none_found}
-use Rattle.pst_built.proofs.Links.{put_at, put_still, bare_more, bare_within, IsSourceAt, Links, MayLink, open_links, push_links, put_links}
-use Rattle.pst_built.proofs.Spots.{spot_is, to_spot, same_link_self, IsFresh, fresh, Suits, suits}
+use Rattle.pst_built.proofs.Opens.{IsOpenRow, act_is_open, bare_cases, bares_push}
+use Rattle.pst_built.proofs.Members.{in_get, in_find, none_found}
+use Rattle.pst_built.proofs.Links.{put_at, put_still, bare_within, IsSourceAt, Links, open_links, push_links, put_links}
+use Rattle.pst_built.proofs.Spots.{spot_is, to_spot, IsFresh, fresh, Suits, suits}
 use Rattle.pst_built.proofs.Trees.{Grown}
 
 -- the nodes stand in preorder, the actions are those of the leaves and then inferred ones, and the links are sound
@@ -152,9 +150,9 @@ module _ (acts : List Act) (need : Spot) (b q : ℕ) (pairs : Pairs acts need b 
 
   once : Links (put_bare need.act need.reference (link.Act b q) rows)
   once = put_links rows need.act need.reference x (link.Act b q) links (bare_from acts need.act need.reference need.filled pairs.at) (record {
-        there = λ c p e. let f = first_of_act b q c p e in subst (λ v. IsSourceAt rows need.act x v p) f.0 (subst (λ w. IsSourceAt rows need.act x b w) f.1 is_source);
-        fresh = pairs.free;
-      })
+    there = λ c p e. let f = first_of_act b q c p e in subst (λ v. IsSourceAt rows need.act x v p) f.0 (subst (λ w. IsSourceAt rows need.act x b w) f.1 is_source);
+    fresh = pairs.free;
+  })
 
   abbrev more : List (List Bare)
   more = put_bare need.act need.reference (link.Act b q) rows

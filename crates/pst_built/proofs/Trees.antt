@@ -1,5 +1,5 @@
 -- What a filled-in activity keeps as it grows.
-use Rattle.std.proofs.Common.{◌≡◌, ℕ, zero, suc, ◌+◌, ◌≤◌, ℤ, List, [], ◌∷◌, ◌++◌, map, length, Bool, true, Option, Some, None, refl, sym, ap, ◌∙◌, subst, arith, append-nil, length-append}
+use Rattle.std.proofs.Common.{◌≡◌, ℕ, zero, suc, ◌≤◌, ℤ, List, [], ◌∷◌, ◌++◌, map, length, true, Option, Some, None, refl, sym, ap, ◌∙◌, subst, arith, append-nil, length-append}
 use Rattle.std.specs.Prelude.{slice_get}
 use Rattle.std.specs.List.{range_with_len}
 use Rattle.std.proofs.lemmas.List.{map-append, length-map}
@@ -9,19 +9,18 @@ use Rattle.pst_expr.specs.Spans.{size_of}
 use Rattle.pst_model.specs.declared.action.Field.{Field}
 use Rattle.pst_model.specs.ModelTree.{ModelTree}
 use Rattle.pst_scen.specs.declared.tree.Node.{Node}
-use Rattle.pst_scen.specs.declared.tree.Fill.{Fill}
 use Rattle.pst_scen.specs.declared.tree.Fill.TheVariants as fill
 use Rattle.pst_scen.specs.declared.scenario.Scenario.{Scenario}
-use Rattle.pst_scen.specs.Scenarios.{leaf_of, leaves_of}
+use Rattle.pst_scen.specs.Scenarios.{leaves_of}
 use Rattle.pst_legal.specs.Growing.{nothing_yet, Look, Inner, Leaf, open_act, with_look, most_nodes, most_acts, most_levels, IsWithin, is_within}
 use Rattle.pst_legal.specs.Pieces.{Piece, Action}
 use Rattle.pst_legal.specs.Menus.{menu}
-use Rattle.pst_legal.specs.Reading.{Reading, Stops, Reader, put_value, value_number, read_fields, read_pieces, read_way, read_piece, read_tree}
+use Rattle.pst_legal.specs.Reading.{Stops, Reader, put_value, value_number, read_fields, read_way, read_piece, read_tree}
 use Rattle.pst_built.proofs.Gives.{Gives, gives_if, gives_more, gives_seeded, gives_pieces}
 use Rattle.pst_built.proofs.Bares.{bares_in, bares, node_in, nodes_in}
 use Rattle.pst_built.proofs.Looks.{IsLook, menu_looks, gives_menu}
 use Rattle.pst_built.proofs.Parents.{get_last, parent_in, parents, Under, Here, Lower, under_all, under_more, InOrder, IsPlace, order_push}
-use Rattle.pst_built.proofs.Leaves.{leaves_push, put, put_parents, put_leaves, length_put, numbers_push}
+use Rattle.pst_built.proofs.Leaves.{leaves_push, put_parents, put_leaves, length_put, numbers_push}
 use Rattle.pst_built.proofs.Opens.{AreOpen, act_is_open, opens_push, bares_push}
 
 -- the nodes stand in preorder, the actions are those of the leaves, and no reference is linked

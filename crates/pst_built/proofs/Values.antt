@@ -3,7 +3,7 @@ use Rattle.std.proofs.Common.{◌≡◌, ℕ, List, [], ◌∷◌, refl, ◌∙�
 use Rattle.pst_model.specs.ModelTree.{ModelTree}
 use Rattle.pst_scen.specs.declared.act.Act.{Act}
 use Rattle.pst_scen.specs.declared.scenario.Scenario.{Scenario}
-use Rattle.pst_legal.specs.Reading.{Reading, value_number}
+use Rattle.pst_legal.specs.Reading.{value_number}
 use Rattle.pst_legal.specs.SupplyReading.{alter}
 use Rattle.pst_legal.specs.ValueReading.{Blank, Instance, OfFirst, OfAct, OfOutput, OfClaim, blanks, written, with_claim, act_with_value, with_output_value, with_claim_value, filled_with_value, options, read_blanks, read_values, with_firsts}
 use Rattle.pst_built.proofs.Bares.{bare, bares_in, bares, node_in, nodes_in, alter_same}

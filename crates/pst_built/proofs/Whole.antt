@@ -1,5 +1,5 @@
 -- A scenario that a list of choices reads whole is built.
-use Rattle.std.proofs.Common.{◌≡◌, ℕ, zero, suc, ◌+◌, ◌-◌, ◌<◌, ◌≤◌, ◌^◌, List, [], ◌∷◌, ◌++◌, length, map, replicate, true, Option, Some, None, refl, sym, ap, ◌∙◌, subst, inl, inr, ⊎_elim, arith, length-append}
+use Rattle.std.proofs.Common.{◌≡◌, ℕ, zero, suc, ◌+◌, ◌-◌, ◌≤◌, List, [], ◌∷◌, ◌++◌, length, map, replicate, true, Option, Some, None, refl, sym, ap, ◌∙◌, subst, inl, inr, arith, length-append}
 use Rattle.std.specs.Prelude.{slice_get}
 use Rattle.std.specs.List.{enumerate_from, range_with_len}
 use Rattle.std.specs.Option.{option_and_then}
@@ -8,7 +8,6 @@ use Rattle.std.proofs.lemmas.Option.{same_Some, slice_get_within, option_and_the
 use Rattle.std.proofs.lemmas.Bool.{false≢true}
 use Rattle.pst_model.specs.ModelTree.{ModelTree}
 use Rattle.pst_scen.specs.declared.tree.Node.{Node}
-use Rattle.pst_scen.specs.declared.tree.Fill.{Fill}
 use Rattle.pst_scen.specs.declared.tree.Fill.TheVariants as fill
 use Rattle.pst_scen.specs.declared.act.Act.{Act}
 use Rattle.pst_scen.specs.declared.act.Filled.{Filled}
@@ -18,13 +17,13 @@ use Rattle.pst_scen.specs.declared.act.Link.{Link}
 use Rattle.pst_scen.specs.declared.act.Link.TheVariants as link
 use Rattle.pst_scen.specs.declared.scenario.Scenario.{Scenario}
 use Rattle.pst_scen.specs.Flows.{Refers}
-use Rattle.pst_scen.specs.Scenarios.{reference_at, leaf_of, leaves_of, HasLeavesFirst, IsSmall}
+use Rattle.pst_scen.specs.Scenarios.{leaf_of, leaves_of, HasLeavesFirst}
 use Rattle.pst_scen.specs.Laws.{HasOneLeafEach}
-use Rattle.pst_legal.specs.Growing.{nothing_yet, most_nodes, most_acts, IsWithin}
+use Rattle.pst_legal.specs.Growing.{nothing_yet, most_nodes, most_acts}
 use Rattle.pst_legal.specs.Supplied.{is_need, is_source_for}
 use Rattle.pst_legal.specs.Reading.{Reading, Wants, Stops, Reads, then_read, read_tree}
-use Rattle.pst_legal.specs.SupplyReading.{inferred, read_supply}
-use Rattle.pst_legal.specs.ValueReading.{Answer, Options, Dead, Whole, answer_of, read_values, read_all, read}
+use Rattle.pst_legal.specs.SupplyReading.{read_supply}
+use Rattle.pst_legal.specs.ValueReading.{Whole, answer_of, read_values, read_all, read}
 use Rattle.pst_order.specs.Facts.{IsOutput, LinksStates, IsLinked}
 use Rattle.pst_order.specs.Built.{IsBuilt}
 use Rattle.pst_built.specs.Laws.{WholeReadingsAreBuilt, WholeReadingsAreWithin}
@@ -143,15 +142,18 @@ module _ (level : ℕ) (s : Scenario) (supplied : IsSupplied level s) where
   output_of a r pool source at flow same =
       let f = bare_of s.actions a r source at in
       option_and_then_some (λ x. slice_get x.references r) (slice_get s.actions a) f.0 f.1
-      (λ act there has. (f.0.link, record {
-        act = act;
-        filled = f.0;
-        is_act = there;
-        is = has;
-        of_flow = ap (λ (v : Bare). v.flow) f.2 ∙ flow;
-        of_pool = ap (λ (v : Bare). v.pool) f.2 ∙ same;
-        linked = refl;
-      }))
+      (λ act there has. (
+        f.0.link,
+        record {
+          act = act;
+          filled = f.0;
+          is_act = there;
+          is = has;
+          of_flow = ap (λ (v : Bare). v.flow) f.2 ∙ flow;
+          of_pool = ap (λ (v : Bare). v.pool) f.2 ∙ same;
+          linked = refl;
+        },
+      ))
 
   states : LinksStates s
   states = record {
