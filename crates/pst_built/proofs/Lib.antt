@@ -8,6 +8,8 @@ mod Leaves
 mod Trees
 mod Members
 mod Links
+mod Ends
 mod Spots
+mod Linking
 mod Supply
 mod Whole

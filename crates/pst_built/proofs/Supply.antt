@@ -2,27 +2,31 @@
 use Rattle.std.proofs.Common.{◌≡◌, ℕ, zero, suc, ◌+◌, ◌<◌, ◌≤◌, List, [], ◌∷◌, ◌++◌, length, map, replicate, Bool, true, false, not, ◌&&◌, ◌||◌, nat_eq, nat_lt, if◌then◌else◌, Option, Some, None, refl, sym, ap, ◌∙◌, subst, ⊎_elim, arith, length-append, append_assoc, append-nil}
 use Rattle.std.specs.Prelude.{slice_get}
 use Rattle.std.specs.List.{range_with_len}
+use Rattle.std.specs.Option.{option_map}
 use Rattle.std.proofs.lemmas.List.{map-append, length-map}
-use Rattle.std.proofs.lemmas.Option.{none-some}
-use Rattle.std.proofs.lemmas.Bool.{false≢true, eqb-true, eqb-false, ltb-true, not-true, and_parts, and_from, or_left, both_ways}
+use Rattle.std.proofs.lemmas.Option.{none-some, slice_get-map}
+use Rattle.std.proofs.lemmas.Bool.{false≢true, eqb-true, eqb-false, ltb-true, not-true, and_parts, and_from, or_left, or_cases, both_ways}
 use Rattle.pst_model.specs.ModelTree.{ModelTree}
 use Rattle.pst_scen.specs.declared.act.Act.{Act}
 use Rattle.pst_scen.specs.declared.act.Filled.{Filled}
 use Rattle.pst_scen.specs.declared.act.Flow.{Flow}
 use Rattle.pst_scen.specs.declared.act.Flow.TheVariants.{BufferIn, BufferOut, StreamIn, StreamOut, StateIn, StateOut}
+use Rattle.pst_scen.specs.declared.act.Link.{Link}
 use Rattle.pst_scen.specs.declared.act.Link.TheVariants as link
 use Rattle.pst_scen.specs.declared.scenario.Scenario.{Scenario}
 use Rattle.pst_scen.specs.Scenarios.{reference_at, leaves_of}
 use Rattle.pst_legal.specs.Growing.{open_act, most_acts, IsWithin}
 use Rattle.pst_legal.specs.Supplied.{is_need, is_source_for}
 use Rattle.pst_legal.specs.Reading.{Stops, Reads, Reader}
-use Rattle.pst_legal.specs.SupplyReading.{Spot, spots, same_link, is_open, fixed_for, is_elsewhere, has_turn, next_need, Source, Initially, From, New, is_state, is_writer, is_stream, fits, inferred, may_infer, sources, put_link, linked_to, supplied_by, end_supply, chosen, read_turn, read_supply}
+use Rattle.pst_legal.specs.SupplyReading.{Spot, spots, same_link, is_open, fixed_for, is_elsewhere, has_turn, next_need, Source, Initially, From, New, is_state, is_writer, is_stream, fits, inferred, may_infer, sources_by, sources, put_link, linked_to, supplied_by, end_supply, chosen, read_turn, read_supply}
 use Rattle.pst_built.proofs.Gives.{Gives, gives_if, gives_seeded}
 use Rattle.pst_built.proofs.Bares.{Bare, bare, bares_in, bares, bare_at, bare_from, bare_of, node_in, nodes_in, bares_put, nodes_put, put_bare, with_bare_link}
 use Rattle.pst_built.proofs.Parents.{parents, InOrder}
 use Rattle.pst_built.proofs.Opens.{IsOpenRow, act_is_open, bare_cases, bares_push}
-use Rattle.pst_built.proofs.Members.{in_get, in_find, none_found}
+use Rattle.pst_built.proofs.Members.{In, in_if, in_get, in_find, none_found}
 use Rattle.pst_built.proofs.Links.{put_at, put_still, bare_within, IsSourceAt, Links, open_links, push_links, put_links}
+use Rattle.pst_built.proofs.Ends.{Ends, open_ends, push_ends, put_ends}
+use Rattle.pst_built.proofs.Linking.{IsTurn, open_need, Pairs, paired, paired_ends, nodes_linked}
 use Rattle.pst_built.proofs.Spots.{spot_is, to_spot, IsFresh, fresh, Suits, suits}
 use Rattle.pst_built.proofs.Trees.{Grown}
 
@@ -35,6 +39,7 @@ pub record Joined (level : ℕ) (s : Scenario) : Type 0 where
   pub acts : nodes_in s.actions ≡ map (λ e. Some e.1) (leaves_of s.nodes) ++ replicate more None
   pub within : IsWithin s.nodes s.actions
   pub links : Links (bares s.actions)
+  pub ends : Ends (bares s.actions)
 
 pub joined_first : (level : ℕ) (s : Scenario) → Grown level s → IsWithin s.nodes s.actions → Joined level s
 joined_first level s grown within = record {
@@ -45,14 +50,16 @@ joined_first level s grown within = record {
   acts = grown.acts ∙ sym (append-nil (map (λ e. Some e.1) (leaves_of s.nodes)));
   within = within;
   links = open_links (bares s.actions) grown.unlinked;
+  ends = open_ends (bares s.actions) grown.unlinked;
 }
 
 pub same_length : (one other : List Act) → nodes_in one ≡ nodes_in other → length one ≡ length other
 same_length one other same = sym (length-map one node_in) ∙ ap length same ∙ length-map other node_in
 
 -- links that are changed
-relinked : (level : ℕ) (s : Scenario) (acts : List Act) → Joined level s → nodes_in acts ≡ nodes_in s.actions → Links (bares acts) → Joined level (record s { actions = acts })
-relinked level s acts joined same links = record {
+relinked : (level : ℕ) (s : Scenario) (acts : List Act) → Joined level s → nodes_in acts ≡ nodes_in s.actions → Links (bares acts) → Ends (bares acts)
+    → Joined level (record s { actions = acts })
+relinked level s acts joined same links ends = record {
   of_level = joined.of_level;
   order = joined.order;
   numbers = joined.numbers;
@@ -60,6 +67,7 @@ relinked level s acts joined same links = record {
   acts = same ∙ joined.acts;
   within = record { few_nodes = joined.within.few_nodes; few_acts = subst (λ k. k ≤ most_acts) (sym (same_length acts s.actions same)) joined.within.few_acts };
   links = links;
+  ends = ends;
 }
 
 replicate_push : {A : Type 0} (n : ℕ) (x : A) → replicate n x ++ x ∷ [] ≡ replicate (n + 1) x
@@ -86,6 +94,7 @@ pushed m level s action instance joined may =
           ∙ ap (λ ns. map (λ e. Some e.1) (leaves_of s.nodes) ++ ns) (replicate_push joined.more None);
       within = record { few_nodes = joined.within.few_nodes; few_acts = omega (arith, few, length-append s.actions (act ∷ [])) };
       links = subst Links (sym (bares_push s.actions act)) (push_links (bares s.actions) (bares_in act) joined.links (act_is_open m action instance None));
+      ends = subst Ends (sym (bares_push s.actions act)) (push_ends (bares s.actions) (bares_in act) joined.links joined.ends (act_is_open m action instance None));
     }
 
 -- ---- a need that gets its source
@@ -93,109 +102,10 @@ pushed m level s action instance joined may =
 no_act : (b q : ℕ) → link.Initial ≡ link.Act b q → ⊥
 no_act b q e = cc
 
-first_of_act : (a r b q : ℕ) → link.Act a r ≡ link.Act b q → (a ≡ b) × (r ≡ q)
-first_of_act a r b q e = (cc, cc)
-
 previous_false : (writer previous : Bool) → not (writer && previous) ≡ true → writer ≡ true → previous ≡ false
 previous_false true true e is = absurd (false≢true e)
 previous_false true false e is = refl
 previous_false false previous e is = absurd (false≢true is)
-
--- the source of an action may be the source of the one that it has as its source, with streams
-turned : (one other : Flow) → is_stream one ≡ true → is_source_for one other ≡ true → (is_source_for other one ≡ true) × (other ≡ StateOut → ⊥)
-turned StreamIn StreamOut stream fits = (refl, λ e. cc)
-turned StreamOut StreamIn stream fits = (refl, λ e. cc)
-turned StreamIn BufferIn stream fits = absurd (false≢true fits)
-turned StreamIn BufferOut stream fits = absurd (false≢true fits)
-turned StreamIn StreamIn stream fits = absurd (false≢true fits)
-turned StreamIn StateIn stream fits = absurd (false≢true fits)
-turned StreamIn StateOut stream fits = absurd (false≢true fits)
-turned StreamOut BufferIn stream fits = absurd (false≢true fits)
-turned StreamOut BufferOut stream fits = absurd (false≢true fits)
-turned StreamOut StreamOut stream fits = absurd (false≢true fits)
-turned StreamOut StateIn stream fits = absurd (false≢true fits)
-turned StreamOut StateOut stream fits = absurd (false≢true fits)
-turned BufferIn other stream fits = absurd (false≢true stream)
-turned BufferOut other stream fits = absurd (false≢true stream)
-turned StateIn other stream fits = absurd (false≢true stream)
-turned StateOut other stream fits = absurd (false≢true stream)
-
--- a reference is linked to one that fits
-pub record Pairs (acts : List Act) (need : Spot) (b q : ℕ) : Type 0 where
-  pub at : reference_at acts need.act need.reference ≡ Some need.filled
-  pub source : Filled
-  pub is : reference_at acts b q ≡ Some source
-  pub other : b ≡ need.act → ⊥
-  pub fitting : fits need.filled source ≡ true
-  pub free : need.filled.flow ≡ StateOut → IsFresh (bares acts) need.filled.pool (link.Act b q)
-
-pool_of : (need source : Filled) → fits need source ≡ true → (is_source_for need.flow source.flow ≡ true) × (source.pool ≡ need.pool)
-pool_of need source fitting = let p = and_parts (is_source_for need.flow source.flow) (nat_eq source.pool need.pool) fitting in (p.0, eqb-true source.pool need.pool p.1)
-
-module _ (acts : List Act) (need : Spot) (b q : ℕ) (pairs : Pairs acts need b q) (links : Links (bares acts)) where
-  abbrev rows : List (List Bare)
-  rows = bares acts
-
-  abbrev x : Bare
-  x = bare need.filled
-
-  is_source : IsSourceAt rows need.act x b q
-  is_source = record {
-    other = pairs.other;
-    source = bare pairs.source;
-    is = bare_from acts b q pairs.source pairs.is;
-    fits = (pool_of need.filled pairs.source pairs.fitting).0;
-    pool = (pool_of need.filled pairs.source pairs.fitting).1;
-  }
-
-  once : Links (put_bare need.act need.reference (link.Act b q) rows)
-  once = put_links rows need.act need.reference x (link.Act b q) links (bare_from acts need.act need.reference need.filled pairs.at) (record {
-    there = λ c p e. let f = first_of_act b q c p e in subst (λ v. IsSourceAt rows need.act x v p) f.0 (subst (λ w. IsSourceAt rows need.act x b w) f.1 is_source);
-    fresh = pairs.free;
-  })
-
-  abbrev more : List (List Bare)
-  more = put_bare need.act need.reference (link.Act b q) rows
-
-  -- the other end of a stream
-  back : is_stream need.filled.flow ≡ true → Links (put_bare b q (link.Act need.act need.reference) more)
-  back stream =
-      let still = put_still rows need.act need.reference (link.Act b q) b q (bare pairs.source) (bare_from acts b q pairs.source pairs.is) in
-      let fit = pool_of need.filled pairs.source pairs.fitting in
-      let turn = turned need.filled.flow pairs.source.flow stream fit.0 in
-      let there : IsSourceAt more b still.now need.act need.reference = record {
-        other = λ e. pairs.other (sym e);
-        source = with_bare_link (link.Act b q) x;
-        is = put_at rows need.act need.reference (link.Act b q) x (bare_from acts need.act need.reference need.filled pairs.at);
-        fits = subst (λ f. is_source_for f need.filled.flow ≡ true) (sym still.flow) turn.0;
-        pool = sym (still.pool ∙ fit.1);
-      } in
-      put_links more b q still.now (link.Act need.act need.reference) once still.is (record {
-        there = λ c p e. let f = first_of_act need.act need.reference c p e in
-            subst (λ v. IsSourceAt more b still.now v p) f.0 (subst (λ w. IsSourceAt more b still.now need.act w) f.1 there);
-        fresh = λ flow. absurd (turn.1 (sym still.flow ∙ flow));
-      })
-
-  by_stream : (test : Bool) → is_stream need.filled.flow ≡ test
-      → Links (bares (if test then put_link b q (link.Act need.act need.reference) (put_link need.act need.reference (link.Act b q) acts) else put_link need.act need.reference (link.Act b q) acts))
-  by_stream true stream =
-      subst Links
-      (ap (put_bare b q (link.Act need.act need.reference)) (sym (bares_put need.act need.reference (link.Act b q) acts))
-      ∙ sym (bares_put b q (link.Act need.act need.reference) (put_link need.act need.reference (link.Act b q) acts))) (back stream)
-  by_stream false stream = subst Links (sym (bares_put need.act need.reference (link.Act b q) acts)) once
-
-  pub paired : Links (bares (linked_to need b q acts))
-  paired = by_stream (is_stream need.filled.flow) refl
-
-nodes_if : (test : Bool) (one other acts : List Act) → nodes_in one ≡ nodes_in acts → nodes_in other ≡ nodes_in acts → nodes_in (if test then one else other) ≡ nodes_in acts
-nodes_if true one other acts first second = first
-nodes_if false one other acts first second = second
-
-nodes_linked : (need : Spot) (b q : ℕ) (acts : List Act) → nodes_in (linked_to need b q acts) ≡ nodes_in acts
-nodes_linked need b q acts =
-    nodes_if (is_stream need.filled.flow) _ _ acts
-    (nodes_put b q (link.Act need.act need.reference) (put_link need.act need.reference (link.Act b q) acts) ∙ nodes_put need.act need.reference (link.Act b q) acts)
-    (nodes_put need.act need.reference (link.Act b q) acts)
 
 -- an output that wants a previous writer
 writes : (flow : Flow) → flow ≡ StateOut → (is_writer flow ≡ true) × (is_stream flow ≡ false)
@@ -205,32 +115,50 @@ free_if : (stream opened : Bool) (rest : Bool) → (if stream then opened else r
 free_if true opened rest e is = absurd (false≢true (sym is))
 free_if false opened rest e is = e
 
-initially : (m : ModelTree) (level : ℕ) (s : Scenario) (need : Spot) → Joined level s → reference_at s.actions need.act need.reference ≡ Some need.filled → Suits m s need Initially
-    → Joined level (supplied_by m s need Initially)
-initially m level s need joined at suit =
-    let test = (and_parts (is_state need.filled.flow) _ suit).1 in
+open_if : (stream opened : Bool) (rest : Bool) → (if stream then opened else rest) ≡ true → stream ≡ true → opened ≡ true
+open_if true opened rest e is = e
+open_if false opened rest e is = absurd (false≢true is)
+
+open_link : (l : Link) → same_link l link.Nothing ≡ true → l ≡ link.Nothing
+open_link link.Nothing e = refl
+open_link link.Initial e = absurd (false≢true e)
+open_link (link.Act a r) e = absurd (false≢true e)
+
+no_stream : (flow : Flow) → is_state flow ≡ true → is_stream flow ≡ false
+no_stream StateIn e = refl
+no_stream StateOut e = refl
+no_stream BufferIn e = refl
+no_stream BufferOut e = refl
+no_stream StreamIn e = absurd (false≢true e)
+no_stream StreamOut e = absurd (false≢true e)
+
+initially : (m : ModelTree) (level : ℕ) (s : Scenario) (need : Spot) → Joined level s → IsTurn s.actions need → Suits m s need Initially → Joined level (supplied_by m s need Initially)
+initially m level s need joined turn suit =
+    let test = and_parts (is_state need.filled.flow) _ suit in
     relinked level s (put_link need.act need.reference link.Initial s.actions) joined (nodes_put need.act need.reference link.Initial s.actions)
     (subst Links (sym (bares_put need.act need.reference link.Initial s.actions))
-    (put_links (bares s.actions) need.act need.reference (bare need.filled) link.Initial joined.links (bare_from s.actions need.act need.reference need.filled at) (record {
+    (put_links (bares s.actions) need.act need.reference (bare need.filled) link.Initial joined.links (bare_from s.actions need.act need.reference need.filled turn.at) (record {
       there = λ b q e. absurd (no_act b q e);
-      fresh = λ flow. fresh s.actions need.filled.pool link.Initial (previous_false (is_writer need.filled.flow) _ test (writes need.filled.flow flow).0);
+      fresh = λ flow. fresh s.actions need.filled.pool link.Initial (previous_false (is_writer need.filled.flow) _ test.1 (writes need.filled.flow flow).0);
     })))
+    (subst Ends (sym (bares_put need.act need.reference link.Initial s.actions))
+    (put_ends (bares s.actions) need.act need.reference (bare need.filled) link.Initial joined.ends (open_need s.actions need turn) (no_stream need.filled.flow test.0) (λ e. test.0)))
 
-from : (m : ModelTree) (level : ℕ) (s : Scenario) (need : Spot) (b q : ℕ) → Joined level s → reference_at s.actions need.act need.reference ≡ Some need.filled → Suits m s need (From b q)
-    → Joined level (supplied_by m s need (From b q))
-from m level s need b q joined at suit =
+from : (m : ModelTree) (level : ℕ) (s : Scenario) (need : Spot) (b q : ℕ) → Joined level s → IsTurn s.actions need → Suits m s need (From b q) → Joined level (supplied_by m s need (From b q))
+from m level s need b q joined turn suit =
     let p = and_parts (not (nat_eq b need.act)) _ suit.2 in
     let f = and_parts (fits need.filled suit.0) _ p.1 in
-    relinked level s (linked_to need b q s.actions) joined (nodes_linked need b q s.actions)
-    (paired s.actions need b q (record {
-      at = at;
+    let pairs : Pairs s.actions need b q = record {
+      turn = turn;
       source = suit.0;
       is = suit.1;
       other = eqb-false b need.act (not-true (nat_eq b need.act) p.0);
       fitting = f.0;
+      unlinked = λ stream. open_link suit.0.link (open_if (is_stream need.filled.flow) _ _ f.1 stream);
       free = λ flow. fresh s.actions need.filled.pool (link.Act b q)
           (previous_false (is_writer need.filled.flow) _ (free_if (is_stream need.filled.flow) _ _ f.1 (writes need.filled.flow flow).1) (writes need.filled.flow flow).0);
-    }) joined.links)
+    } in
+    relinked level s (linked_to need b q s.actions) joined (nodes_linked need b q s.actions) (paired s.actions need b q pairs joined.links) (paired_ends s.actions need b q pairs joined.links joined.ends)
 
 -- ---- a new action as a source
 
@@ -254,30 +182,42 @@ none_behind rows row pool q links unlinked b r y at flow same e =
     nothing : link.Nothing ≡ link.Act (length rows) q → ⊥
     nothing none = cc
 
-new : (m : ModelTree) (level : ℕ) (s : Scenario) (need : Spot) (action instance q : ℕ) → Joined level s → reference_at s.actions need.act need.reference ≡ Some need.filled
-    → Suits m s need (New action instance q) → Joined level (supplied_by m s need (New action instance q))
-new m level s need action instance q joined at suit =
+new : (m : ModelTree) (level : ℕ) (s : Scenario) (need : Spot) (action instance q : ℕ) → Joined level s → IsTurn s.actions need → Suits m s need (New action instance q)
+    → Joined level (supplied_by m s need (New action instance q))
+new m level s need action instance q joined turn suit =
     let act = open_act m action instance None in
     let acts = s.actions ++ act ∷ [] in
     let grown = pushed m level s action instance joined suit.0 in
-    let l : need.act < length s.actions = omega (arith, bare_within (bares s.actions) need.act need.reference (bare need.filled) (bare_from s.actions need.act need.reference need.filled at), length-map s.actions bares_in) in
-    relinked level (record s { actions = acts }) (linked_to need (length s.actions) q acts) grown (nodes_linked need (length s.actions) q acts)
-    (paired acts need (length s.actions) q (record {
-      at = reference_more s.actions act need.act need.reference need.filled at;
+    let l : need.act < length s.actions = omega (arith, bare_within (bares s.actions) need.act need.reference (bare need.filled) (bare_from s.actions need.act need.reference need.filled turn.at), length-map s.actions bares_in) in
+    let pairs : Pairs acts need (length s.actions) q = record {
+      turn = record { at = reference_more s.actions act need.act need.reference need.filled turn.at; unlinked = turn.unlinked; needs = turn.needs };
       source = suit.1.0;
       is = reference_last s.actions act q ∙ suit.1.1;
       other = λ e. absurd (omega (arith, l, e));
       fitting = suit.1.2;
+      unlinked = λ stream. act_is_open m action instance None q (bare suit.1.0) (slice_get-map bare act.references q ∙ ap (option_map bare) suit.1.1);
       free = λ flow. subst (λ rows. IsFresh rows need.filled.pool (link.Act (length s.actions) q)) (sym (bares_push s.actions act))
           (subst (λ k. IsFresh (bares s.actions ++ bares_in act ∷ []) need.filled.pool (link.Act k q)) (length-map s.actions bares_in)
           (none_behind (bares s.actions) (bares_in act) need.filled.pool q joined.links (act_is_open m action instance None)));
-    }) grown.links)
+    } in
+    relinked level (record s { actions = acts }) (linked_to need (length s.actions) q acts) grown (nodes_linked need (length s.actions) q acts)
+    (paired acts need (length s.actions) q pairs grown.links) (paired_ends acts need (length s.actions) q pairs grown.links grown.ends)
 
-supplied : (m : ModelTree) (level : ℕ) (s : Scenario) (need : Spot) (source : Source) → Joined level s → reference_at s.actions need.act need.reference ≡ Some need.filled → Suits m s need source
-    → Joined level (supplied_by m s need source)
-supplied m level s need Initially joined at suit = initially m level s need joined at suit
-supplied m level s need (From b q) joined at suit = from m level s need b q joined at suit
-supplied m level s need (New action instance q) joined at suit = new m level s need action instance q joined at suit
+supplied : (m : ModelTree) (level : ℕ) (s : Scenario) (need : Spot) (source : Source) → Joined level s → IsTurn s.actions need → Suits m s need source → Joined level (supplied_by m s need source)
+supplied m level s need Initially joined turn suit = initially m level s need joined turn suit
+supplied m level s need (From b q) joined turn suit = from m level s need b q joined turn suit
+supplied m level s need (New action instance q) joined turn suit = new m level s need action instance q joined turn suit
+
+-- A need that has a source to choose isn't linked yet: one that is linked against its bind has none.
+by_bind : (m : ModelTree) (s : Scenario) (need : Spot) (bound : Option (ℕ × ℕ)) (source : Source) → In source (sources_by m s need bound) → (is_open need || is_elsewhere bound need) ≡ true → is_open need ≡ true
+by_bind m s need None source has e = ⊎_elim (λ opened. opened) (λ none. absurd (false≢true none)) (or_cases (is_open need) false e)
+by_bind m s need (Some bound) source has e = (in_if (is_open need) _ source has).0
+
+turn_is : (m : ModelTree) (s : Scenario) (need : Spot) (source : Source) → next_need m s ≡ Some need → In source (sources m s need) → IsTurn s.actions need
+turn_is m s need source is has =
+    let f = in_find (has_turn m s) (spots s.actions) need is in
+    let p = and_parts (is_need need.filled.flow) (is_open need || is_elsewhere (fixed_for m s need) need) f.1 in
+    record { at = spot_is s.actions need f.0; unlinked = open_link need.filled.link (by_bind m s need (fixed_for m s need) source has p.1); needs = p.0 }
 
 -- ---- the end
 
@@ -308,13 +248,13 @@ end_gives m level s place left joined none =
     gives_if (IsSupplied level) (nat_eq (inferred s) s.level) (Reads s place left) Stops
     (λ test. record { joined = joined; many = eqb-true (inferred s) s.level test; all = all_linked m s none }) tt
 
-chosen_gives : (m : ModelTree) (level : ℕ) (need : Spot) (source : Option Source) (go : Reader) (s : Scenario) (place : ℕ) (left : List ℕ) → Joined level s → reference_at s.actions need.act need.reference ≡ Some need.filled
-    → ((k : Source) → source ≡ Some k → Suits m s need k)
+chosen_gives : (m : ModelTree) (level : ℕ) (need : Spot) (source : Option Source) (go : Reader) (s : Scenario) (place : ℕ) (left : List ℕ) → Joined level s → next_need m s ≡ Some need
+    → ((k : Source) → source ≡ Some k → In k (sources m s need))
     → ((t : Scenario) (next : ℕ) (rest : List ℕ) → Joined level t → Gives (IsSupplied level) (go t next rest))
     → Gives (IsSupplied level) (chosen m need source go s place left)
-chosen_gives m level need None go s place left joined at suit each = tt
-chosen_gives m level need (Some source) go s place left joined at suit each =
-    each (supplied_by m s need source) place left (supplied m level s need source joined at (suit source refl))
+chosen_gives m level need None go s place left joined is has each = tt
+chosen_gives m level need (Some source) go s place left joined is has each =
+    each (supplied_by m s need source) place left (supplied m level s need source joined (turn_is m s need source is (has source refl)) (suits m s need source (has source refl)))
 
 turn_gives : (m : ModelTree) (seed level : ℕ) (need : Option Spot) (go : Reader) (s : Scenario) (place : ℕ) (left : List ℕ) → Joined level s → next_need m s ≡ need
     → ((t : Scenario) (next : ℕ) (rest : List ℕ) → Joined level t → Gives (IsSupplied level) (go t next rest))
@@ -322,9 +262,8 @@ turn_gives : (m : ModelTree) (seed level : ℕ) (need : Option Spot) (go : Reade
 turn_gives m seed level None go s place left joined is each = end_gives m level s place left joined is
 turn_gives m seed level (Some need) go s place left joined is each =
     gives_seeded (IsSupplied level) seed (length (sources m s need)) (λ k. chosen m need (slice_get (sources m s need) k) go) s place left
-    (λ k next rest. chosen_gives m level need (slice_get (sources m s need) k) go s next rest joined
-    (spot_is s.actions need (in_find (has_turn m s) (spots s.actions) need is).0)
-    (λ source e. suits m s need source (in_get (sources m s need) k source e)) each)
+    (λ k next rest. chosen_gives m level need (slice_get (sources m s need) k) go s next rest joined is
+    (λ source e. in_get (sources m s need) k source e) each)
 
 pub supply_gives : (m : ModelTree) (seed level : ℕ) (s : Scenario) (place : ℕ) (left : List ℕ) → Joined level s → Gives (IsSupplied level) (read_supply m seed s place left)
 supply_gives m seed level s place [] joined = turn_gives m seed level (next_need m s) (λ s place left. Stops) s place [] joined refl (λ t next rest more. tt)

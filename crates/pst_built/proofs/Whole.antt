@@ -33,6 +33,7 @@ use Rattle.pst_built.proofs.Values.{IsSameOrder, values_keep}
 use Rattle.pst_built.proofs.Parents.{parents, InOrder, in_preorder, is_preorder}
 use Rattle.pst_built.proofs.Members.{In, to_flat_map, to_numbered}
 use Rattle.pst_built.proofs.Links.{bare_within, IsSourceAt, Links}
+use Rattle.pst_built.proofs.Ends.{Ends}
 use Rattle.pst_built.proofs.Trees.{IsGrowth, tree_grows}
 use Rattle.pst_built.proofs.Supply.{Joined, joined_first, same_length, AreLinked, IsSupplied, supply_gives}
 
@@ -50,6 +51,7 @@ same_joined level s t joined same = record {
     few_acts = subst (λ k. k ≤ most_acts) (sym (same_length t.actions s.actions same.acts)) joined.within.few_acts;
   };
   links = subst Links (sym same.references) joined.links;
+  ends = subst Ends (sym same.references) joined.ends;
 }
 
 same_supplied : (level : ℕ) (s t : Scenario) → IsSupplied level s → IsSameOrder s t → IsSupplied level t
