@@ -12,4 +12,6 @@ mod Ends
 mod Spots
 mod Linking
 mod Supply
+mod Built
+mod Linked
 mod Whole

@@ -2,6 +2,7 @@
 use Rattle.std.specs.Prelude.{◌≡◌, ℕ, List}
 use Rattle.pst_model.specs.ModelTree.{ModelTree}
 use Rattle.pst_scen.specs.declared.scenario.Scenario.{Scenario}
+use Rattle.pst_scen.specs.Scenarios.{AreLinked}
 use Rattle.pst_legal.specs.Growing.{IsWithin}
 use Rattle.pst_legal.specs.ValueReading.{Whole, read}
 use Rattle.pst_order.specs.Built.{IsBuilt}
@@ -13,3 +14,7 @@ WholeReadingsAreBuilt = (m : ModelTree) (root seed level : ℕ) (choices : List 
 -- It is within the limits on its size.
 abbrev pub WholeReadingsAreWithin : Type 0
 WholeReadingsAreWithin = (m : ModelTree) (root seed level : ℕ) (choices : List ℕ) (s : Scenario) → read m root seed level choices ≡ Whole s → IsWithin s.nodes s.actions
+
+-- Its links are of their references' kinds and name references that there are, and the ends of a stream name each other.
+abbrev pub WholeReadingsAreLinked : Type 0
+WholeReadingsAreLinked = (m : ModelTree) (root seed level : ℕ) (choices : List ℕ) (s : Scenario) → read m root seed level choices ≡ Whole s → AreLinked s.actions
