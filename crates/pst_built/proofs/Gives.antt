@@ -1,9 +1,10 @@
 -- What every reading gives that reads.
-use Rattle.std.proofs.Common.{◌≡◌, ℕ, ◌+◌, ◌%◌, List, [], ◌∷◌, Bool, true, false, nat_lt, if◌then◌else◌, Option, Some, refl}
+use Rattle.std.proofs.Common.{◌≡◌, ℕ, ◌+◌, ◌%◌, List, [], ◌∷◌, Bool, true, false, nat_lt, if◌then◌else◌, Option, Some, refl, inl, inr}
 use Rattle.pst_rng.specs.Words.{start_of}
 use Rattle.pst_scen.specs.declared.scenario.Scenario.{Scenario}
 use Rattle.pst_legal.specs.Pieces.{Piece}
 use Rattle.pst_legal.specs.Reading.{Reading, Wants, Stops, Reads, Reader, then_read, read_place, read_seeded, read_pieces}
+use Rattle.pst_built.proofs.Members.{In}
 
 -- a scenario that has been read is such a one
 abbrev pub Gives : (Scenario → Type 0) → Reading → Type 0
@@ -36,11 +37,16 @@ gives_then P Q (Wants s n) go first each = tt
 gives_then P Q Stops go first each = tt
 gives_then P Q (Reads s place left) go first each = each s place left first
 
--- each piece keeps what holds before it
+-- each of the pieces keeps what holds before it
 pub gives_pieces : (P : Scenario → Type 0) (one : Piece → Option ℕ → Reader) (pieces : List Piece) (parent : ℕ) (s : Scenario) (place : ℕ) (left : List ℕ) → P s
-    → ((piece : Piece) (t : Scenario) (next : ℕ) (rest : List ℕ) → P t → Gives P (one piece (Some parent) t next rest))
+    → ((piece : Piece) → In piece pieces → (t : Scenario) (next : ℕ) (rest : List ℕ) → P t → Gives P (one piece (Some parent) t next rest))
     → Gives P (read_pieces one pieces parent s place left)
 gives_pieces P one [] parent s place left holds each = holds
 gives_pieces P one (x ∷ xs) parent s place left holds each =
-    gives_then P P (one x (Some parent) s place left) (read_pieces one xs parent) (each x s place left holds)
-    (λ t next rest kept. gives_pieces P one xs parent t next rest kept each)
+    gives_then P P (one x (Some parent) s place left) (read_pieces one xs parent) (each x (inl refl) s place left holds)
+    (λ t next rest kept. gives_pieces P one xs parent t next rest kept (λ piece inside. each piece (inr inside)))
+
+pub gives_both : (P Q : Scenario → Type 0) (reading : Reading) → Gives P reading → Gives Q reading → Gives (λ s. P s × Q s) reading
+gives_both P Q (Wants s n) first second = tt
+gives_both P Q Stops first second = tt
+gives_both P Q (Reads s place left) first second = (first, second)

@@ -1,4 +1,6 @@
+mod Members
 mod Gives
+mod Ways
 mod Bares
 mod Values
 mod Looks
@@ -6,7 +8,6 @@ mod Parents
 mod Opens
 mod Leaves
 mod Trees
-mod Members
 mod Links
 mod Ends
 mod Spots

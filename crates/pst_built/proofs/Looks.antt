@@ -17,7 +17,7 @@ use Rattle.pst_legal.specs.Growing.{Look, Inner, Leaf}
 use Rattle.pst_legal.specs.Pieces.{Context, Piece, Action, Statement, Turning, statements, value_in, mask}
 use Rattle.pst_legal.specs.Menus.{Menu, Way, Place, Weighted, Closed, plain, content_menu, instance_menu, action_menu, join_menu, block_menu, available, branch_menu, repeat_menu, if_menu, is_in_arm, arm_menu, match_menu, statement_menu, menu}
 use Rattle.pst_legal.specs.Reading.{Reader, read_menu}
-use Rattle.pst_built.proofs.Gives.{Gives, gives_place, gives_seeded}
+use Rattle.pst_built.proofs.Ways.{Ways, ways_if}
 
 -- an inner node is no leaf
 abbrev pub IsLook : Look → Type 0
@@ -26,14 +26,7 @@ IsLook (Leaf action instance) = Unit {0}
 
 -- each way of the menu gives such a node
 abbrev pub HasLooks : Menu → Type 0
-HasLooks (Way look fields below) = IsLook look
-HasLooks (Place n after) = (k : ℕ) → HasLooks (after k)
-HasLooks (Weighted weights after) = (k : ℕ) → HasLooks (after k)
-HasLooks Closed = Unit {0}
-
-looks_if : (test : Bool) (one other : Menu) → HasLooks one → HasLooks other → HasLooks (if test then one else other)
-looks_if true one other first second = first
-looks_if false one other first second = second
+HasLooks m = Ways (λ look fields below. IsLook look) m
 
 content_looks : (type : ActionTree) (content : ContentTree) (action instance : ℕ) → HasLooks (content_menu type content action instance)
 content_looks type (Atomic body) action instance = tt
@@ -51,14 +44,14 @@ join_looks : (after : List Bool → Menu) → ((joined : List Bool) → HasLooks
 join_looks after each n zero joined = each joined
 join_looks after each zero (suc branches) joined = λ k. join_looks after each zero branches (joined ++ false ∷ [])
 join_looks after each (suc n) (suc branches) joined =
-    looks_if (nat_le (suc n) branches) _ _
-    (λ k. looks_if (nat_lt k 1) _ _ (join_looks after each n branches (joined ++ true ∷ [])) (join_looks after each (suc n) branches (joined ++ false ∷ [])))
+    ways_if (λ look fields below. IsLook look) (nat_le (suc n) branches) _ _
+    (λ k. ways_if (λ look fields below. IsLook look) (nat_lt k 1) _ _ (join_looks after each n branches (joined ++ true ∷ [])) (join_looks after each (suc n) branches (joined ++ false ∷ [])))
     (λ k. join_looks after each n branches (joined ++ true ∷ []))
 
 block_looks : (c : Context) (parallel : Bool) (join : Join) (steps : List StepTree) → HasLooks (block_menu c parallel join steps)
 block_looks c parallel (Fixed named) steps = λ n. refl
 block_looks c parallel (Choose n) steps =
-    looks_if (nat_le n (length steps)) _ _
+    ways_if (λ look fields below. IsLook look) (nat_le n (length steps)) _ _
     (join_looks (λ joined. plain (fill.Joined parallel (mask joined)) (statements c steps)) (λ joined k. refl) n (length steps) []) tt
 
 branch_looks : (c : Context) (e : Option (ℕ × BranchTree)) → HasLooks (branch_menu c e)
@@ -72,7 +65,7 @@ repeat_looks c body (Some (negsuc n)) = tt
 
 if_looks : (c : Context) (holds : StepTree) (fails : Option StepTree) (v : Option ℤ) → HasLooks (if_menu c holds fails v)
 if_looks c holds fails None = tt
-if_looks c holds fails (Some v) = looks_if (is_false v) _ _ (λ n. refl) (λ n. refl)
+if_looks c holds fails (Some v) = ways_if (λ look fields below. IsLook look) (is_false v) _ _ (λ n. refl) (λ n. refl)
 
 arm_looks : (c : Context) (other : Option StepTree) (e : Option (ℕ × ArmTree)) → HasLooks (arm_menu c other e)
 arm_looks c None None = tt
@@ -98,14 +91,3 @@ pub menu_looks : (m : ModelTree) (piece : Piece) → HasLooks (menu m piece)
 menu_looks m (Action action top) = action_looks m action top (type_of m action)
 menu_looks m (Statement c step) = statement_looks m c step
 menu_looks m (Turning c index body) = λ n. refl
-
--- whatever way of the menu is read
-pub gives_menu : (P : Scenario → Type 0) (seed : ℕ) (m : Menu) → HasLooks m → (go : Look → List Field → (List ℤ → List Piece) → Reader) (s : Scenario) (place : ℕ) (left : List ℕ)
-    → ((look : Look) → IsLook look → (fields : List Field) (below : List ℤ → List Piece) (next : ℕ) (rest : List ℕ) → Gives P (go look fields below s next rest))
-    → Gives P (read_menu seed m go s place left)
-gives_menu P seed (Way look fields below) looks go s place left each = each look looks fields below place left
-gives_menu P seed (Place n after) looks go s place left each =
-    gives_seeded P seed n (λ k. read_menu seed (after k) go) s place left (λ k next rest. gives_menu P seed (after k) (looks k) go s next rest each)
-gives_menu P seed (Weighted weights after) looks go s place left each =
-    gives_place P (weighted_start_of seed place weights) (length weights) (λ k. read_menu seed (after k) go) s place left (λ k next rest. gives_menu P seed (after k) (looks k) go s next rest each)
-gives_menu P seed Closed looks go s place left each = tt

@@ -13,7 +13,7 @@ use Rattle.pst_scen.specs.declared.act.Link.{Link}
 use Rattle.pst_scen.specs.declared.act.Link.TheVariants as link
 use Rattle.pst_scen.specs.declared.scenario.Scenario.{Scenario}
 use Rattle.pst_scen.specs.Scenarios.{reference_at}
-use Rattle.pst_legal.specs.Types.{action_instances}
+use Rattle.pst_legal.specs.Types.{type_of, action_instances}
 use Rattle.pst_legal.specs.Growing.{open_act}
 use Rattle.pst_legal.specs.SupplyReading.{Spot, spots_in, spots, same_link, is_open, fixed_for, Source, Initially, From, New, is_state, is_writer, is_previous, initial_sources, fits, is_candidate, source_of, old_sources, sources_in, is_inferable, sources_of_type, may_infer, new_sources, free_sources, fixed_sources, sources_by, sources}
 use Rattle.pst_built.proofs.Bares.{Bare, bares, bare_at, bare_of}
@@ -65,12 +65,23 @@ fresh acts pool to none b q y at flow same linked =
 
 -- ---- sources
 
+-- an action that may be inferred, of which the reference fits
+pub record IsNew (m : ModelTree) (s : Scenario) (need : Spot) (action instance q : ℕ) : Type 0 where
+  pub may : may_infer s ≡ true
+  pub type : ActionTree
+  pub is : type_of m action ≡ Some type
+  pub inferable : is_inferable type type.content ≡ true
+  pub inside : In instance (action_instances m (Some type) None)
+  pub filled : Filled
+  pub at : slice_get (open_act m action instance None).references q ≡ Some filled
+  pub fitting : fits need.filled filled ≡ true
+
 -- what is known of a source of a need
 abbrev pub Suits : ModelTree → Scenario → Spot → Source → Type 0
 Suits m s need Initially = (is_state need.filled.flow && not (is_writer need.filled.flow && is_previous s.actions need.filled.pool link.Initial)) ≡ true
 Suits m s need (From b q) = (filled : Filled) × (reference_at s.actions b q ≡ Some filled) × (is_candidate s.actions need (record { act = b; reference = q; filled = filled }) ≡ true)
 Suits m s need (New action instance q) =
-    (may_infer s ≡ true) × ((filled : Filled) × (slice_get (open_act m action instance None).references q ≡ Some filled) × (fits need.filled filled ≡ true))
+    IsNew m s need action instance q
 
 initial_suits : (m : ModelTree) (s : Scenario) (need : Spot) (source : Source) → In source (initial_sources s.actions need.filled) → Suits m s need source
 initial_suits m s need source has =
@@ -83,20 +94,29 @@ old_suits m s need source has =
     let f = in_filter (is_candidate s.actions need) (spots s.actions) i.0 i.1 in
     subst (Suits m s need) i.2 (i.0.filled, spot_is s.actions i.0 f.0, f.1)
 
-by_type : (m : ModelTree) (s : Scenario) (need : Spot) → may_infer s ≡ true → (source : Source) (e : ℕ × ActionTree) → In source (sources_of_type m need.filled e) → Suits m s need source
-by_type m s need may source e has =
+by_type : (m : ModelTree) (s : Scenario) (need : Spot) → may_infer s ≡ true → (source : Source) (e : ℕ × ActionTree) → type_of m e.0 ≡ Some e.1 → In source (sources_of_type m need.filled e) → Suits m s need source
+by_type m s need may source e is has =
     let i = in_if (is_inferable e.1 e.1.content) (flat_map (sources_in m need.filled e.0) (action_instances m (Some e.1) None)) source has in
     let f = in_flat_map (sources_in m need.filled e.0) (action_instances m (Some e.1) None) source i.1 in
     let references = (open_act m e.0 f.0 None).references in
     let g = in_map (λ x. New e.0 f.0 x.0) (filter (λ x. fits need.filled x.1) (enumerate_from 0 references)) source f.2 in
     let h = in_filter (λ x. fits need.filled x.1) (enumerate_from 0 references) g.0 g.1 in
-    subst (Suits m s need) g.2 (may, (g.0.1, in_numbered references g.0 h.0, h.1))
+    subst (Suits m s need) g.2 (record {
+      may = may;
+      type = e.1;
+      is = is;
+      inferable = i.0;
+      inside = f.1;
+      filled = g.0.1;
+      at = in_numbered references g.0 h.0;
+      fitting = h.1;
+    })
 
 new_suits : (m : ModelTree) (s : Scenario) (need : Spot) (source : Source) → In source (new_sources m s need.filled) → Suits m s need source
 new_suits m s need source has =
     let i = in_if (may_infer s) (flat_map (sources_of_type m need.filled) (enumerate_from 0 m.actions)) source has in
     let f = in_flat_map (sources_of_type m need.filled) (enumerate_from 0 m.actions) source i.1 in
-    by_type m s need i.0 source f.0 f.2
+    by_type m s need i.0 source f.0 (in_numbered m.actions f.0 f.1) f.2
 
 fixed_suits : (m : ModelTree) (s : Scenario) (need : Spot) (bound : ℕ × ℕ) (source : Source) → In source (fixed_sources s need bound) → Suits m s need source
 fixed_suits m s need bound source has =

@@ -27,7 +27,7 @@ use Rattle.pst_built.proofs.Members.{In, in_if, in_get, in_find, none_found}
 use Rattle.pst_built.proofs.Links.{put_at, put_still, bare_within, IsSourceAt, Links, open_links, push_links, put_links}
 use Rattle.pst_built.proofs.Ends.{Ends, open_ends, push_ends, put_ends}
 use Rattle.pst_built.proofs.Linking.{IsTurn, open_need, Pairs, paired, paired_ends, nodes_linked}
-use Rattle.pst_built.proofs.Spots.{spot_is, to_spot, IsFresh, fresh, Suits, suits}
+use Rattle.pst_built.proofs.Spots.{IsNew, spot_is, to_spot, IsFresh, fresh, Suits, suits}
 use Rattle.pst_built.proofs.Trees.{Grown}
 
 -- the nodes stand in preorder, the actions are those of the leaves and then inferred ones, and the links are sound
@@ -187,15 +187,15 @@ new : (m : ModelTree) (level : ℕ) (s : Scenario) (need : Spot) (action instanc
 new m level s need action instance q joined turn suit =
     let act = open_act m action instance None in
     let acts = s.actions ++ act ∷ [] in
-    let grown = pushed m level s action instance joined suit.0 in
+    let grown = pushed m level s action instance joined suit.may in
     let l : need.act < length s.actions = omega (arith, bare_within (bares s.actions) need.act need.reference (bare need.filled) (bare_from s.actions need.act need.reference need.filled turn.at), length-map s.actions bares_in) in
     let pairs : Pairs acts need (length s.actions) q = record {
       turn = record { at = reference_more s.actions act need.act need.reference need.filled turn.at; unlinked = turn.unlinked; needs = turn.needs };
-      source = suit.1.0;
-      is = reference_last s.actions act q ∙ suit.1.1;
+      source = suit.filled;
+      is = reference_last s.actions act q ∙ suit.at;
       other = λ e. absurd (omega (arith, l, e));
-      fitting = suit.1.2;
-      unlinked = λ stream. act_is_open m action instance None q (bare suit.1.0) (slice_get-map bare act.references q ∙ ap (option_map bare) suit.1.1);
+      fitting = suit.fitting;
+      unlinked = λ stream. act_is_open m action instance None q (bare suit.filled) (slice_get-map bare act.references q ∙ ap (option_map bare) suit.at);
       free = λ flow. subst (λ rows. IsFresh rows need.filled.pool (link.Act (length s.actions) q)) (sym (bares_push s.actions act))
           (subst (λ k. IsFresh (bares s.actions ++ bares_in act ∷ []) need.filled.pool (link.Act k q)) (length-map s.actions bares_in)
           (none_behind (bares s.actions) (bares_in act) need.filled.pool q joined.links (act_is_open m action instance None)));
@@ -243,30 +243,37 @@ all_linked m s none a r x at need e =
     let f = bare_of s.actions a r x at in
     by_filled m s none a r f.0 f.1 (ap (λ (v : Bare). is_need v.flow) f.2 ∙ need) (ap (λ (v : Bare). v.link) f.2 ∙ e)
 
-end_gives : (m : ModelTree) (level : ℕ) (s : Scenario) (place : ℕ) (left : List ℕ) → Joined level s → next_need m s ≡ None → Gives (IsSupplied level) (end_supply s place left)
-end_gives m level s place left joined none =
-    gives_if (IsSupplied level) (nat_eq (inferred s) s.level) (Reads s place left) Stops
-    (λ test. record { joined = joined; many = eqb-true (inferred s) s.level test; all = all_linked m s none }) tt
+-- What each need's source keeps, and what holds where no need has a turn any more, holds of the scenario that is read.
+module _ (m : ModelTree) (seed : ℕ) (P Q : Scenario → Type 0)
+    (step : (s : Scenario) (need : Spot) (source : Source) → P s → IsTurn s.actions need → Suits m s need source → P (supplied_by m s need source))
+    (done : (s : Scenario) → P s → next_need m s ≡ None → inferred s ≡ s.level → Q s) where
+  end_gives : (s : Scenario) (place : ℕ) (left : List ℕ) → P s → next_need m s ≡ None → Gives Q (end_supply s place left)
+  end_gives s place left holds none =
+      gives_if Q (nat_eq (inferred s) s.level) (Reads s place left) Stops (λ test. done s holds none (eqb-true (inferred s) s.level test)) tt
 
-chosen_gives : (m : ModelTree) (level : ℕ) (need : Spot) (source : Option Source) (go : Reader) (s : Scenario) (place : ℕ) (left : List ℕ) → Joined level s → next_need m s ≡ Some need
-    → ((k : Source) → source ≡ Some k → In k (sources m s need))
-    → ((t : Scenario) (next : ℕ) (rest : List ℕ) → Joined level t → Gives (IsSupplied level) (go t next rest))
-    → Gives (IsSupplied level) (chosen m need source go s place left)
-chosen_gives m level need None go s place left joined is has each = tt
-chosen_gives m level need (Some source) go s place left joined is has each =
-    each (supplied_by m s need source) place left (supplied m level s need source joined (turn_is m s need source is (has source refl)) (suits m s need source (has source refl)))
+  chosen_gives : (need : Spot) (source : Option Source) (go : Reader) (s : Scenario) (place : ℕ) (left : List ℕ) → P s → next_need m s ≡ Some need
+      → ((k : Source) → source ≡ Some k → In k (sources m s need))
+      → ((t : Scenario) (next : ℕ) (rest : List ℕ) → P t → Gives Q (go t next rest))
+      → Gives Q (chosen m need source go s place left)
+  chosen_gives need None go s place left holds is has each = tt
+  chosen_gives need (Some source) go s place left holds is has each =
+      each (supplied_by m s need source) place left (step s need source holds (turn_is m s need source is (has source refl)) (suits m s need source (has source refl)))
 
-turn_gives : (m : ModelTree) (seed level : ℕ) (need : Option Spot) (go : Reader) (s : Scenario) (place : ℕ) (left : List ℕ) → Joined level s → next_need m s ≡ need
-    → ((t : Scenario) (next : ℕ) (rest : List ℕ) → Joined level t → Gives (IsSupplied level) (go t next rest))
-    → Gives (IsSupplied level) (read_turn m seed need go s place left)
-turn_gives m seed level None go s place left joined is each = end_gives m level s place left joined is
-turn_gives m seed level (Some need) go s place left joined is each =
-    gives_seeded (IsSupplied level) seed (length (sources m s need)) (λ k. chosen m need (slice_get (sources m s need) k) go) s place left
-    (λ k next rest. chosen_gives m level need (slice_get (sources m s need) k) go s next rest joined is
-    (λ source e. in_get (sources m s need) k source e) each)
+  turn_gives : (need : Option Spot) (go : Reader) (s : Scenario) (place : ℕ) (left : List ℕ) → P s → next_need m s ≡ need
+      → ((t : Scenario) (next : ℕ) (rest : List ℕ) → P t → Gives Q (go t next rest))
+      → Gives Q (read_turn m seed need go s place left)
+  turn_gives None go s place left holds is each = end_gives s place left holds is
+  turn_gives (Some need) go s place left holds is each =
+      gives_seeded Q seed (length (sources m s need)) (λ k. chosen m need (slice_get (sources m s need) k) go) s place left
+      (λ k next rest. chosen_gives need (slice_get (sources m s need) k) go s next rest holds is (λ source e. in_get (sources m s need) k source e) each)
+
+  pub gives_supply : (s : Scenario) (place : ℕ) (left : List ℕ) → P s → Gives Q (read_supply m seed s place left)
+  gives_supply s place [] holds = turn_gives (next_need m s) (λ s place left. Stops) s place [] holds refl (λ t next rest more. tt)
+  gives_supply s place (digit ∷ left) holds =
+      turn_gives (next_need m s) (λ more next rest. read_supply m seed more next left) s place (digit ∷ left) holds refl
+      (λ t next rest more. gives_supply t next left more)
 
 pub supply_gives : (m : ModelTree) (seed level : ℕ) (s : Scenario) (place : ℕ) (left : List ℕ) → Joined level s → Gives (IsSupplied level) (read_supply m seed s place left)
-supply_gives m seed level s place [] joined = turn_gives m seed level (next_need m s) (λ s place left. Stops) s place [] joined refl (λ t next rest more. tt)
-supply_gives m seed level s place (digit ∷ left) joined =
-    turn_gives m seed level (next_need m s) (λ more next rest. read_supply m seed more next left) s place (digit ∷ left) joined refl
-    (λ t next rest more. supply_gives m seed level t next left more)
+supply_gives m seed level =
+    gives_supply m seed (Joined level) (IsSupplied level) (λ s need source joined turn suit. supplied m level s need source joined turn suit)
+    (λ s joined none many. record { joined = joined; many = many; all = all_linked m s none })

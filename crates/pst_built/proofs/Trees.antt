@@ -18,7 +18,8 @@ use Rattle.pst_legal.specs.Menus.{menu}
 use Rattle.pst_legal.specs.Reading.{Stops, Reader, put_value, value_number, read_fields, read_way, read_piece, read_tree}
 use Rattle.pst_built.proofs.Gives.{Gives, gives_if, gives_more, gives_seeded, gives_pieces}
 use Rattle.pst_built.proofs.Bares.{bares_in, bares, node_in, nodes_in}
-use Rattle.pst_built.proofs.Looks.{IsLook, menu_looks, gives_menu}
+use Rattle.pst_built.proofs.Ways.{gives_menu}
+use Rattle.pst_built.proofs.Looks.{IsLook, menu_looks}
 use Rattle.pst_built.proofs.Parents.{get_last, parent_in, parents, Under, Here, Lower, under_all, under_more, InOrder, IsPlace, order_push}
 use Rattle.pst_built.proofs.Leaves.{leaves_push, put_parents, put_leaves, length_put, numbers_push}
 use Rattle.pst_built.proofs.Opens.{AreOpen, act_is_open, opens_push, bares_push}
@@ -68,8 +69,8 @@ grown_look m level s parent (Leaf action instance) looks grown place =
       unlinked = subst AreOpen (sym (bares_push s.actions act)) (opens_push (bares s.actions) (bares_in act) grown.unlinked (act_is_open m action instance (Some (length s.nodes))));
     }
 
-inside : (s : Scenario) → is_within s ≡ true → IsWithin s.nodes s.actions
-inside s test =
+pub few : (s : Scenario) → is_within s ≡ true → IsWithin s.nodes s.actions
+few s test =
     let parts = and_parts _ _ test in
     record { few_nodes = leb-true (length s.nodes) most_nodes parts.0; few_acts = leb-true (length s.actions) most_acts parts.1 }
 
@@ -104,7 +105,7 @@ put_growth level s parent t n v growth = record {
   after = subst (IsAfter parent) (sym (put_parents t.nodes n v)) growth.after;
 }
 
-gives_fields : (P : Scenario → Type 0) (seed n : ℕ) (fields : List Field) (known : List ℤ) (go : List ℤ → Reader) (s : Scenario) (place : ℕ) (left : List ℕ) → P s
+pub gives_fields : (P : Scenario → Type 0) (seed n : ℕ) (fields : List Field) (known : List ℤ) (go : List ℤ → Reader) (s : Scenario) (place : ℕ) (left : List ℕ) → P s
     → ((t : Scenario) (v : ℤ) → P t → P (put_value t n v))
     → ((values : List ℤ) (t : Scenario) (next : ℕ) (rest : List ℕ) → P t → Gives P (go values t next rest))
     → Gives P (read_fields seed n fields known go s place left)
@@ -132,7 +133,7 @@ module _ (m : ModelTree) (level : ℕ) (s : Scenario) (parent : Option ℕ) (loo
   begun : is_within t ≡ true → IsGrowth level t (Some n) t
   begun test = record {
     grown = grown_look m level s parent look looks grown place;
-    within = inside t test;
+    within = few t test;
     kept = λ a b under. under;
     after = (n, ap length (parents_look m s parent look) ∙ length-append (parents s.nodes) (parent ∷ []) ∙ omega (arith, length-map s.nodes parent_in), Here);
   }
@@ -162,7 +163,7 @@ module _ (m : ModelTree) (level : ℕ) (s : Scenario) (parent : Option ℕ) (loo
       (λ test. gives_more (IsGrowth level t (Some n)) (IsGrowth level s parent) _
       (gives_fields (IsGrowth level t (Some n)) seed n fields [] _ t next rest (begun test) (λ u v growth. put_growth level t (Some n) u n v growth)
       (λ values u next rest growth. gives_pieces (IsGrowth level t (Some n)) one (below values) n u next rest growth
-      (λ piece v next rest held. gives_more (IsGrowth level v (Some n)) (IsGrowth level t (Some n)) _ (each piece n v next rest held.grown held.after)
+      (λ piece inside v next rest held. gives_more (IsGrowth level v (Some n)) (IsGrowth level t (Some n)) _ (each piece n v next rest held.grown held.after)
       (λ w growth. after_growth level t (Some n) (Some n) v w held growth growth.after))))
       ended)
       tt
@@ -170,10 +171,10 @@ module _ (m : ModelTree) (level : ℕ) (s : Scenario) (parent : Option ℕ) (loo
 piece_grows : (m : ModelTree) (seed level levels : ℕ) (piece : Piece) (parent : Option ℕ) (s : Scenario) (place : ℕ) (left : List ℕ) → Grown level s → IsPlace parent (parents s.nodes)
     → Gives (IsGrowth level s parent) (read_piece m seed levels piece parent s place left)
 piece_grows m seed level zero piece parent s place left grown at =
-    gives_menu (IsGrowth level s parent) seed (menu m piece) (menu_looks m piece) _ s place left (λ look looks fields below next rest. tt)
+    gives_menu (IsGrowth level s parent) (λ look fields below. IsLook look) seed (menu m piece) (menu_looks m piece) _ s place left (λ look fields below looks next rest. tt)
 piece_grows m seed level (suc levels) piece parent s place left grown at =
-    gives_menu (IsGrowth level s parent) seed (menu m piece) (menu_looks m piece) _ s place left
-    (λ look looks fields below next rest. way_grows m level s parent look looks grown at seed (read_piece m seed levels)
+    gives_menu (IsGrowth level s parent) (λ look fields below. IsLook look) seed (menu m piece) (menu_looks m piece) _ s place left
+    (λ look fields below looks next rest. way_grows m level s parent look looks grown at seed (read_piece m seed levels)
     (λ piece top u next rest grown at. piece_grows m seed level levels piece (Some top) u next rest grown at) fields below next rest)
 
 nothing_grown : (level : ℕ) → Grown level (nothing_yet level)
