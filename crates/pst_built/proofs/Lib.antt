@@ -13,6 +13,7 @@ mod Ends
 mod Spots
 mod Linking
 mod Supply
+mod SoundActs
 mod Built
 mod Linked
 mod Whole

@@ -162,12 +162,12 @@ from m level s need b q joined turn suit =
 
 -- ---- a new action as a source
 
-reference_more : (acts : List Act) (act : Act) (a r : ℕ) (filled : Filled) → reference_at acts a r ≡ Some filled → reference_at (acts ++ act ∷ []) a r ≡ Some filled
+pub reference_more : (acts : List Act) (act : Act) (a r : ℕ) (filled : Filled) → reference_at acts a r ≡ Some filled → reference_at (acts ++ act ∷ []) a r ≡ Some filled
 reference_more [] act a r filled is = absurd (none-some filled is)
 reference_more (x ∷ xs) act zero r filled is = is
 reference_more (x ∷ xs) act (suc a) r filled is = reference_more xs act a r filled is
 
-reference_last : (acts : List Act) (act : Act) (r : ℕ) → reference_at (acts ++ act ∷ []) (length acts) r ≡ slice_get act.references r
+pub reference_last : (acts : List Act) (act : Act) (r : ℕ) → reference_at (acts ++ act ∷ []) (length acts) r ≡ slice_get act.references r
 reference_last [] act r = refl
 reference_last (x ∷ xs) act r = reference_last xs act r
 
