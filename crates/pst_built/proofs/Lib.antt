@@ -14,6 +14,8 @@ mod Spots
 mod Linking
 mod Supply
 mod SoundActs
+mod SoundPieces
+mod RightTrees
 mod Built
 mod Linked
 mod Whole

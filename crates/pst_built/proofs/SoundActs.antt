@@ -81,7 +81,7 @@ entry_of : (served : List Serve) (action instance reference p : ℕ) → pool_in
 entry_of [] action instance reference p e = absurd (none-some p e)
 entry_of (s ∷ more) action instance reference p e = by_entry more action instance reference p s (is_entry action instance reference s) refl e (entry_of more action instance reference p)
 
-some_and : {A : Type 0} (o : Option A) (P : A → Type 0) → IsSomeAnd o P → (x : A) × (o ≡ Some x) × P x
+pub some_and : {A : Type 0} (o : Option A) (P : A → Type 0) → IsSomeAnd o P → (x : A) × (o ≡ Some x) × P x
 some_and None P holds = absurd holds
 some_and (Some x) P holds = (x, refl, holds)
 
