@@ -16,6 +16,7 @@ mod Supply
 mod SoundActs
 mod SoundPieces
 mod RightTrees
+mod Firsts
 mod Built
 mod Linked
 mod Whole

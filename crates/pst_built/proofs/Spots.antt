@@ -21,7 +21,7 @@ use Rattle.pst_built.proofs.Members.{In, in_if, in_append, in_map, to_map, in_fl
 
 -- ---- references of actions
 
-at_act : (acts : List Act) (a r : ℕ) (act : Act) (filled : Filled) → slice_get acts a ≡ Some act → slice_get act.references r ≡ Some filled → reference_at acts a r ≡ Some filled
+pub at_act : (acts : List Act) (a r : ℕ) (act : Act) (filled : Filled) → slice_get acts a ≡ Some act → slice_get act.references r ≡ Some filled → reference_at acts a r ≡ Some filled
 at_act acts a r act filled there has = ap (λ v. option_and_then (λ x. slice_get x.references r) v) there ∙ has
 
 pub spot_is : (acts : List Act) (spot : Spot) → In spot (spots acts) → reference_at acts spot.act spot.reference ≡ Some spot.filled

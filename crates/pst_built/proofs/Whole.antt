@@ -17,7 +17,7 @@ use Rattle.pst_scen.specs.declared.act.Link.{Link}
 use Rattle.pst_scen.specs.declared.act.Link.TheVariants as link
 use Rattle.pst_scen.specs.declared.scenario.Scenario.{Scenario}
 use Rattle.pst_scen.specs.Flows.{Refers}
-use Rattle.pst_scen.specs.Scenarios.{leaf_of, leaves_of, HasLeavesFirst}
+use Rattle.pst_scen.specs.Scenarios.{leaves_of, HasFirsts}
 use Rattle.pst_scen.specs.Laws.{HasOneLeafEach}
 use Rattle.pst_legal.specs.Growing.{nothing_yet, most_nodes, most_acts}
 use Rattle.pst_legal.specs.Supplied.{is_need, is_source_for}
@@ -26,16 +26,20 @@ use Rattle.pst_legal.specs.SupplyReading.{read_supply}
 use Rattle.pst_legal.specs.ValueReading.{Whole, answer_of, read_values, read_all, read}
 use Rattle.pst_order.specs.Facts.{IsOutput, LinksStates, IsLinked}
 use Rattle.pst_order.specs.Built.{IsBuilt}
-use Rattle.pst_built.specs.Laws.{WholeReadingsAreBuilt, WholeReadingsAreWithin, WholeReadingsAreLinked}
+use Rattle.pst_built.specs.Laws.{WholeReadingsAreBuilt, WholeReadingsAreWithin, WholeReadingsAreLinked, IsConcreteRoot, WholeReadingsAreScenarios}
 use Rattle.pst_built.proofs.Gives.{Gives, gives_more, gives_then}
 use Rattle.pst_built.proofs.Bares.{Bare, bare, bares_in, bares, bare_at, bare_from, bare_of, node_in, nodes_in}
-use Rattle.pst_built.proofs.Values.{IsSameOrder, values_keep}
+use Rattle.pst_built.proofs.Values.{IsSameOrder, IsValued, values_keep}
 use Rattle.pst_built.proofs.Parents.{parents, InOrder, in_preorder, is_preorder}
 use Rattle.pst_built.proofs.Members.{In, to_flat_map, to_numbered}
 use Rattle.pst_built.proofs.Links.{bare_within, IsSourceAt, Links}
 use Rattle.pst_built.proofs.Ends.{Ends}
 use Rattle.pst_built.proofs.Trees.{IsGrowth, tree_grows}
-use Rattle.pst_built.proofs.Supply.{Joined, joined_first, same_length, AreLinked, IsSupplied, supply_gives}
+use Rattle.pst_built.proofs.Supply.{Joined, joined_first, same_length, AreLinked, IsSupplied, gives_supply, supply_gives}
+use Rattle.pst_model.specs.Sound.{IsSound}
+use Rattle.pst_built.proofs.SoundActs.{right_supplied}
+use Rattle.pst_built.proofs.RightTrees.{HasRight, right_tree}
+use Rattle.pst_built.proofs.Firsts.{has_firsts}
 use Rattle.pst_built.proofs.Built.{built}
 use Rattle.pst_built.proofs.Linked.{are_linked}
 
@@ -73,13 +77,20 @@ whole_gives P Stops s gives e = absurd cc
 whole_gives P (Reads t place []) s gives e = let same : t ≡ s = cc in subst P same gives
 whole_gives P (Reads t place (digit ∷ left)) s gives e = absurd cc
 
+-- the activity with its sources, before claims and values
+abbrev before_values : ModelTree → ℕ → ℕ → ℕ → List ℕ → Reading
+before_values m root seed level choices = then_read (read_tree m seed root (nothing_yet level) 0 choices) (read_supply m seed)
+
+all_supplied : (m : ModelTree) (root seed level : ℕ) (choices : List ℕ) → Gives (IsSupplied level) (before_values m root seed level choices)
+all_supplied m root seed level choices =
+    gives_then (IsGrowth level (nothing_yet level) None) (IsSupplied level) (read_tree m seed root (nothing_yet level) 0 choices) (read_supply m seed)
+    (tree_grows m seed root level 0 choices)
+    (λ t next rest growth. supply_gives m seed level t next rest (joined_first level t growth.grown growth.within))
+
 all_gives : (m : ModelTree) (root seed level : ℕ) (choices : List ℕ) → Gives (IsSupplied level) (read_all m seed root (nothing_yet level) 0 choices)
 all_gives m root seed level choices =
-    gives_then (IsSupplied level) (IsSupplied level) (then_read (read_tree m seed root (nothing_yet level) 0 choices) (read_supply m seed)) (read_values m seed)
-    (gives_then (IsGrowth level (nothing_yet level) None) (IsSupplied level) (read_tree m seed root (nothing_yet level) 0 choices) (read_supply m seed)
-    (tree_grows m seed root level 0 choices)
-    (λ t next rest growth. supply_gives m seed level t next rest (joined_first level t growth.grown growth.within)))
-    (λ t next rest supplied. gives_more (IsSameOrder t) (IsSupplied level) _ (values_keep m seed t next rest) (λ u same. same_supplied level t u supplied same))
+    gives_then (IsSupplied level) (IsSupplied level) (before_values m root seed level choices) (read_values m seed) (all_supplied m root seed level choices)
+    (λ t next rest supplied. gives_more (IsValued m t) (IsSupplied level) _ (values_keep m seed t next rest) (λ u valued. same_supplied level t u supplied valued.same))
 
 supplied_whole : (m : ModelTree) (root seed level : ℕ) (choices : List ℕ) (s : Scenario) → read m root seed level choices ≡ Whole s → IsSupplied level s
 supplied_whole m root seed level choices s e = whole_gives (IsSupplied level) (read_all m seed root (nothing_yet level) 0 choices) s (all_gives m root seed level choices) e
@@ -92,3 +103,26 @@ whole_is_within m root seed level choices s e = (supplied_whole m root seed leve
 
 pub whole_is_linked : WholeReadingsAreLinked
 whole_is_linked m root seed level choices s e = are_linked level s (supplied_whole m root seed level choices s e)
+
+-- ---- sound models
+
+all_right : (m : ModelTree) (root seed level : ℕ) (choices : List ℕ) → IsSound m → IsConcreteRoot m root → Gives (HasRight m) (before_values m root seed level choices)
+all_right m root seed level choices sound concrete =
+    gives_then (HasRight m) (HasRight m) (read_tree m seed root (nothing_yet level) 0 choices) (read_supply m seed)
+    (right_tree m sound seed root level 0 choices concrete)
+    (λ t next rest right. gives_supply m seed (HasRight m) (HasRight m) (λ s need source holds turn suit. right_supplied m sound s need source holds turn suit) (λ s holds none many. holds) t next rest right)
+
+all_firsts : (m : ModelTree) (root seed level : ℕ) (choices : List ℕ) → IsSound m → IsConcreteRoot m root → Gives HasFirsts (read_all m seed root (nothing_yet level) 0 choices)
+all_firsts m root seed level choices sound concrete =
+    gives_then (HasRight m) HasFirsts (before_values m root seed level choices) (read_values m seed) (all_right m root seed level choices sound concrete)
+    (λ t next rest right. gives_more (IsValued m t) HasFirsts _ (values_keep m seed t next rest) (λ u valued. has_firsts m t u valued right))
+
+pub whole_is_scenario : WholeReadingsAreScenarios
+whole_is_scenario m root seed level choices s sound concrete e =
+    let is = whole_is_built m root seed level choices s e in
+    record {
+      nodes = is.0.preorder;
+      leaves = is.0.leaves;
+      links = whole_is_linked m root seed level choices s e;
+      firsts = whole_gives HasFirsts (read_all m seed root (nothing_yet level) 0 choices) s (all_firsts m root seed level choices sound concrete) e;
+    }

@@ -1,5 +1,5 @@
 //! Laws of whole readings.
-ghost use Rattle.pst_built.specs.Laws.{WholeReadingsAreBuilt, WholeReadingsAreWithin, WholeReadingsAreLinked};
+ghost use Rattle.pst_built.specs.Laws.{WholeReadingsAreBuilt, WholeReadingsAreWithin, WholeReadingsAreLinked, WholeReadingsAreScenarios};
 
 /// A scenario that a list of choices reads whole is built, of the level that was asked for, and
 /// within the limits on its size.
@@ -12,4 +12,10 @@ pub fn whole_readings_are_built()
 /// stream name each other.
 pub fn whole_readings_are_linked()
     ensures { WholeReadingsAreLinked }
+{}
+
+/// Of a sound model and a root that isn't abstract, it is a scenario: it also has one first object
+/// for each state pool that its actions use.
+pub fn whole_readings_are_scenarios()
+    ensures { WholeReadingsAreScenarios }
 {}
