@@ -1,12 +1,11 @@
 -- A scenario whose needs have their sources is built.
-use Rattle.std.proofs.Common.{◌≡◌, ℕ, zero, suc, ◌+◌, ◌-◌, ◌≤◌, List, [], ◌∷◌, ◌++◌, length, map, replicate, true, Option, Some, None, refl, sym, ap, ◌∙◌, subst, inl, inr, arith, length-append}
+use Rattle.std.proofs.Common.{◌≡◌, ℕ, zero, suc, ◌+◌, List, [], ◌∷◌, ◌++◌, length, map, replicate, true, Option, Some, None, refl, sym, ap, ◌∙◌, subst, inl, inr, arith, length-append}
 use Rattle.std.specs.Prelude.{slice_get}
 use Rattle.std.specs.List.{enumerate_from, range_with_len}
 use Rattle.std.specs.Option.{option_and_then}
 use Rattle.std.proofs.lemmas.List.{length-map, length-replicate}
 use Rattle.std.proofs.lemmas.Option.{same_Some, slice_get_within, option_and_then_some}
 use Rattle.std.proofs.lemmas.Bool.{false≢true}
-use Rattle.pst_model.specs.ModelTree.{ModelTree}
 use Rattle.pst_scen.specs.declared.tree.Node.{Node}
 use Rattle.pst_scen.specs.declared.tree.Fill.TheVariants as fill
 use Rattle.pst_scen.specs.declared.act.Act.{Act}
@@ -19,23 +18,14 @@ use Rattle.pst_scen.specs.declared.scenario.Scenario.{Scenario}
 use Rattle.pst_scen.specs.Flows.{Refers}
 use Rattle.pst_scen.specs.Scenarios.{leaf_of, leaves_of, HasLeavesFirst}
 use Rattle.pst_scen.specs.Laws.{HasOneLeafEach}
-use Rattle.pst_legal.specs.Growing.{nothing_yet, most_nodes, most_acts}
 use Rattle.pst_legal.specs.Supplied.{is_need, is_source_for}
-use Rattle.pst_legal.specs.Reading.{Reading, Wants, Stops, Reads, then_read, read_tree}
-use Rattle.pst_legal.specs.SupplyReading.{read_supply}
-use Rattle.pst_legal.specs.ValueReading.{Whole, answer_of, read_values, read_all, read}
 use Rattle.pst_order.specs.Facts.{IsOutput, LinksStates, IsLinked}
 use Rattle.pst_order.specs.Built.{IsBuilt}
-use Rattle.pst_built.specs.Laws.{WholeReadingsAreBuilt, WholeReadingsAreWithin}
-use Rattle.pst_built.proofs.Gives.{Gives, gives_more, gives_then}
 use Rattle.pst_built.proofs.Bares.{Bare, bare, bares_in, bares, bare_at, bare_from, bare_of, node_in, nodes_in}
-use Rattle.pst_built.proofs.Values.{IsSameOrder, values_keep}
-use Rattle.pst_built.proofs.Parents.{parents, InOrder, in_preorder, is_preorder}
+use Rattle.pst_built.proofs.Parents.{in_preorder, is_preorder}
 use Rattle.pst_built.proofs.Members.{In, to_flat_map, to_numbered}
-use Rattle.pst_built.proofs.Links.{bare_within, IsSourceAt, Links}
-use Rattle.pst_built.proofs.Ends.{Ends}
-use Rattle.pst_built.proofs.Trees.{IsGrowth, tree_grows}
-use Rattle.pst_built.proofs.Supply.{Joined, joined_first, same_length, AreLinked, IsSupplied, supply_gives}
+use Rattle.pst_built.proofs.Links.{bare_within, IsSourceAt}
+use Rattle.pst_built.proofs.Supply.{Joined, IsSupplied}
 
 -- ---- leaves
 
@@ -170,4 +160,3 @@ module _ (level : ℕ) (s : Scenario) (supplied : IsSupplied level s) where
     linked = is_linked;
     small = record { acts = omega (arith, joined.within.few_acts); nodes = omega (arith, joined.within.few_nodes) };
   }
-

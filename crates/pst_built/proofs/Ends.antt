@@ -1,15 +1,13 @@
 -- The ends of streams name each other, and each link is of its reference's kind.
-use Rattle.std.proofs.Common.{◌≡◌, ◌⊎◌, ℕ, List, [], ◌∷◌, ◌++◌, length, Bool, true, false, Option, Some, None, refl, sym, ap, ap₂, ◌∙◌, subst, inl, inr, ⊎_elim, arith}
-use Rattle.std.proofs.lemmas.Option.{same_Some}
+use Rattle.std.proofs.Common.{◌≡◌, ◌⊎◌, ℕ, List, [], ◌∷◌, ◌++◌, true, false, Some, sym, ap, ap₂, ◌∙◌, inl, inr, ⊎_elim, arith}
 use Rattle.std.proofs.lemmas.Bool.{both_ways}
-use Rattle.pst_scen.specs.declared.act.Flow.{Flow}
 use Rattle.pst_scen.specs.declared.act.Link.{Link}
 use Rattle.pst_scen.specs.declared.act.Link.TheVariants as link
 use Rattle.pst_legal.specs.Supplied.{is_need}
 use Rattle.pst_legal.specs.SupplyReading.{is_state, is_stream}
 use Rattle.pst_built.proofs.Bares.{Bare, bare_at, with_bare_link, put_bare}
 use Rattle.pst_built.proofs.Opens.{AreOpen, IsOpenRow, bare_cases}
-use Rattle.pst_built.proofs.Links.{put_off, put_cases, bare_more, bare_within, Links}
+use Rattle.pst_built.proofs.Links.{put_off, put_cases, bare_within, Links}
 
 -- The reference that a stream's end names names that end. Only uses of states have the pool's first object, and what wants
 -- no source has no link.

@@ -1,14 +1,13 @@
 -- The first objects of a scenario with values are those of the state pools that its actions use.
-use Rattle.std.proofs.Common.{◌≡◌, ◌⊎◌, ◌↔◌, ℕ, zero, suc, ◌+◌, ◌<◌, ◌≤◌, List, [], ◌∷◌, length, map, cond, Bool, true, false, nat_eq, ◌&&◌, ◌||◌, get_or, AllPairs, Contains, Option, Some, None, refl, sym, ap, ◌∙◌, subst, inl, inr, ⊎_elim, arith}
+use Rattle.std.proofs.Common.{◌≡◌, ◌⊎◌, ℕ, zero, suc, ◌+◌, ◌<◌, ◌≤◌, List, [], ◌∷◌, length, cond, Bool, true, false, nat_eq, ◌&&◌, get_or, AllPairs, Contains, Option, Some, None, refl, sym, ap, ◌∙◌, subst, inl, inr, ⊎_elim, arith}
 use Rattle.std.specs.Prelude.{slice_get}
 use Rattle.std.specs.List.{filter, list_any, range_with_len}
 use Rattle.std.specs.Option.{option_and_then}
-use Rattle.std.proofs.lemmas.Option.{none-some, slice_get_within, option_and_then_some}
+use Rattle.std.proofs.lemmas.Option.{slice_get_within, option_and_then_some}
 use Rattle.std.proofs.lemmas.Bool.{false≢true, eqb-true, eq-eqb, and_parts, and_from, or_left, or_right, or_cases, cases_order}
 use Rattle.pst_model.specs.declared.model.Pool.{Pool}
-use Rattle.pst_model.specs.ModelTree.{ModelTree, ObjectTree}
+use Rattle.pst_model.specs.ModelTree.{ModelTree}
 use Rattle.pst_model.specs.declared.object.ObjectKind.TheVariants.{State}
-use Rattle.pst_scen.specs.declared.act.Act.{Act}
 use Rattle.pst_scen.specs.declared.act.Filled.{Filled}
 use Rattle.pst_scen.specs.declared.act.Flow.{Flow}
 use Rattle.pst_scen.specs.declared.act.Flow.TheVariants.{BufferIn, BufferOut, StreamIn, StreamOut, StateIn, StateOut}
@@ -23,7 +22,7 @@ use Rattle.pst_legal.specs.ValueReading.{refers_to, used_state_pools}
 use Rattle.pst_built.proofs.Bares.{Bare, bare, bares, bare_at, bare_from, bare_of}
 use Rattle.pst_built.proofs.Members.{In, in_get, in_filter}
 use Rattle.pst_built.proofs.Spots.{at_act}
-use Rattle.pst_built.proofs.Values.{IsSameOrder, pool_in, IsValued}
+use Rattle.pst_built.proofs.Values.{IsValued}
 use Rattle.pst_built.proofs.SoundActs.{in_place, AreRight}
 
 -- ---- elements that pass a test

@@ -1,16 +1,15 @@
 -- The links of a scenario that is read whole are of their references' kinds, and the ends of a stream name each other.
-use Rattle.std.proofs.Common.{◌≡◌, ◌⊎◌, ℕ, List, [], ◌∷◌, true, false, Option, Some, None, refl, sym, ap, ◌∙◌, subst, ⊎_elim}
+use Rattle.std.proofs.Common.{◌≡◌, ℕ, true, false, refl, ap, ⊎_elim}
 use Rattle.std.proofs.lemmas.Bool.{false≢true}
-use Rattle.pst_scen.specs.declared.act.Filled.{Filled}
 use Rattle.pst_scen.specs.declared.act.Flow.{Flow}
 use Rattle.pst_scen.specs.declared.act.Flow.TheVariants.{BufferIn, BufferOut, StreamIn, StreamOut, StateIn, StateOut}
 use Rattle.pst_scen.specs.declared.act.Link.{Link}
 use Rattle.pst_scen.specs.declared.act.Link.TheVariants as link
 use Rattle.pst_scen.specs.declared.scenario.Scenario.{Scenario}
-use Rattle.pst_scen.specs.Scenarios.{reference_at, IsLinkOf, IsStream, AreLinked}
+use Rattle.pst_scen.specs.Scenarios.{IsLinkOf, IsStream, AreLinked}
 use Rattle.pst_legal.specs.Supplied.{is_need}
 use Rattle.pst_legal.specs.SupplyReading.{is_state, is_stream}
-use Rattle.pst_built.proofs.Bares.{bare, bares, bare_from, bare_of}
+use Rattle.pst_built.proofs.Bares.{bare, bare_from, bare_of}
 use Rattle.pst_built.proofs.Supply.{IsSupplied}
 
 -- what may be linked, and must be, is

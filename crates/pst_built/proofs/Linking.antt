@@ -1,15 +1,14 @@
 -- A need is linked to its source.
-use Rattle.std.proofs.Common.{◌≡◌, ℕ, List, [], ◌∷◌, Bool, true, false, nat_eq, if◌then◌else◌, Option, Some, None, refl, sym, ap, ◌∙◌, subst}
+use Rattle.std.proofs.Common.{◌≡◌, ℕ, List, Bool, true, false, nat_eq, if◌then◌else◌, Some, refl, sym, ap, ◌∙◌, subst}
 use Rattle.std.proofs.lemmas.Bool.{false≢true, eqb-true, and_parts}
 use Rattle.pst_scen.specs.declared.act.Act.{Act}
 use Rattle.pst_scen.specs.declared.act.Filled.{Filled}
 use Rattle.pst_scen.specs.declared.act.Flow.{Flow}
 use Rattle.pst_scen.specs.declared.act.Flow.TheVariants.{BufferIn, BufferOut, StreamIn, StreamOut, StateIn, StateOut}
-use Rattle.pst_scen.specs.declared.act.Link.{Link}
 use Rattle.pst_scen.specs.declared.act.Link.TheVariants as link
 use Rattle.pst_scen.specs.Scenarios.{reference_at}
 use Rattle.pst_legal.specs.Supplied.{is_need, is_source_for}
-use Rattle.pst_legal.specs.SupplyReading.{Spot, is_stream, is_state, fits, put_link, linked_to}
+use Rattle.pst_legal.specs.SupplyReading.{Spot, is_stream, fits, put_link, linked_to}
 use Rattle.pst_built.proofs.Bares.{Bare, bare, bares, bare_from, nodes_in, bares_put, nodes_put, put_bare, with_bare_link}
 use Rattle.pst_built.proofs.Links.{put_at, put_still, IsSourceAt, Links, put_links}
 use Rattle.pst_built.proofs.Ends.{Ends, IsOpenNeed, put_ends, pair_ends}
@@ -148,4 +147,3 @@ nodes_linked need b q acts =
     nodes_if (is_stream need.filled.flow) _ _ acts
     (nodes_put b q (link.Act need.act need.reference) (put_link need.act need.reference (link.Act b q) acts) ∙ nodes_put need.act need.reference (link.Act b q) acts)
     (nodes_put need.act need.reference (link.Act b q) acts)
-

@@ -1,5 +1,5 @@
 -- In a sound model the actions of a tree have state pools for their states, and for nothing else.
-use Rattle.std.proofs.Common.{◌≡◌, ℕ, zero, suc, ℤ, List, [], ◌∷◌, ◌++◌, length, Option, Some, None, refl, sym, subst}
+use Rattle.std.proofs.Common.{ℕ, zero, suc, ℤ, List, [], length, Option, Some, None, sym, subst}
 use Rattle.std.proofs.lemmas.Option.{none-some}
 use Rattle.pst_model.specs.declared.action.Field.{Field}
 use Rattle.pst_model.specs.ModelTree.{ModelTree}
@@ -8,14 +8,14 @@ use Rattle.pst_scen.specs.declared.scenario.Scenario.{Scenario}
 use Rattle.pst_legal.specs.Growing.{nothing_yet, Look, Inner, Leaf, open_act, with_look, most_levels, is_within}
 use Rattle.pst_legal.specs.Pieces.{Piece, Action}
 use Rattle.pst_legal.specs.Menus.{menu}
-use Rattle.pst_legal.specs.Reading.{Stops, Reader, read_fields, read_pieces, read_way, read_piece, read_tree}
+use Rattle.pst_legal.specs.Reading.{Stops, Reader, read_pieces, read_way, read_piece, read_tree}
 use Rattle.pst_built.proofs.Gives.{Gives, gives_if, gives_pieces}
 use Rattle.pst_built.proofs.Bares.{bares_in, bares}
 use Rattle.pst_built.proofs.Opens.{bares_push}
 use Rattle.pst_built.proofs.Ways.{gives_menu}
 use Rattle.pst_built.proofs.Trees.{gives_fields}
 use Rattle.pst_built.proofs.SoundActs.{AreRight, act_is_right, right_push}
-use Rattle.pst_built.proofs.SoundPieces.{IsSoundPiece, AreSound, IsSoundLook, IsSoundWay, menu_sound}
+use Rattle.pst_built.proofs.SoundPieces.{IsSoundPiece, IsSoundLook, IsSoundWay, menu_sound}
 
 -- each action of the scenario does
 abbrev pub HasRight : ModelTree → Scenario → Type 0

@@ -1,9 +1,8 @@
 -- In a sound model the actions that are read have state pools for their states, and for nothing else.
-use Rattle.std.proofs.Common.{◌≡◌, ◌≢◌, ◌⊎◌, ℕ, zero, suc, ◌+◌, ◌<◌, List, [], ◌∷◌, ◌++◌, map, length, Bool, true, false, nat_eq, ◌&&◌, if◌then◌else◌, Option, Some, None, is_some, All, refl, sym, ap, ◌∙◌, subst, inl, inr, ⊎_elim, arith, length-append}
+use Rattle.std.proofs.Common.{◌≡◌, ◌≢◌, ℕ, zero, suc, List, [], ◌∷◌, ◌++◌, map, length, Bool, true, false, nat_eq, ◌&&◌, if◌then◌else◌, Option, Some, None, is_some, All, refl, sym, ap, ◌∙◌, subst, inl, inr, ⊎_elim}
 use Rattle.std.specs.Prelude.{slice_get}
 use Rattle.std.specs.List.{enumerate_from, filter}
 use Rattle.std.specs.Option.{option_map, option_and_then, unwrap_or, IsSomeAnd}
-use Rattle.std.proofs.lemmas.List.{length-map}
 use Rattle.std.proofs.lemmas.List.Elements.{All-get_or}
 use Rattle.std.proofs.lemmas.Option.{none-some, same_Some, slice_get-map, slice_get_within, get_or_from_slice_get}
 use Rattle.std.proofs.lemmas.Bool.{false≢true, not-true, and_parts, eqb-true}
@@ -24,7 +23,7 @@ use Rattle.pst_scen.specs.declared.act.Link.TheVariants as link
 use Rattle.pst_scen.specs.declared.scenario.Scenario.{Scenario}
 use Rattle.pst_scen.specs.Scenarios.{reference_at}
 use Rattle.pst_scen.specs.declared.act.Flow.TheVariants.{BufferIn}
-use Rattle.pst_legal.specs.Types.{type_of, pool_object, same_kind, has_kind, is_state_pool, same_name, is_under, action_instances, served, flow_of, reference_flow}
+use Rattle.pst_legal.specs.Types.{type_of, same_kind, has_kind, is_state_pool, same_name, is_under, action_instances, served, flow_of, reference_flow}
 use Rattle.pst_legal.specs.Growing.{open_act, open_reference, open_references}
 use Rattle.pst_legal.specs.SupplyReading.{Spot, Source, Initially, From, New, is_state, is_stream, is_inferable, put_link, linked_to, supplied_by}
 use Rattle.pst_built.proofs.Bares.{Bare, bare, bares_in, bares, bare_at, bare_from, put_bare, bares_put}
@@ -100,9 +99,11 @@ served_pool m sound action instance reference p type is e =
     let whole = all_in (IsSoundServe m) m.served s sound.served t.1 in
     let a = some_and (slice_get m.actions s.action) (λ (x : ActionTree). IsSomeAnd (slice_get m.pools s.pool) (λ pool. slice_get (objects_of x) s.reference ≡ Some pool.object)) whole.pool in
     let q = some_and (slice_get m.pools s.pool) (λ (pool : Pool). slice_get (objects_of a.0) s.reference ≡ Some pool.object) a.2 in
-    let same : a.0 ≡ type = same_Some a.0 type (sym a.1 ∙ subst (λ k. slice_get m.actions k ≡ Some type) (sym (eqb-true s.action action parts.0)) is) in
-    (q.0, subst (λ k. slice_get m.pools k ≡ Some q.0) t.3 q.1,
-    subst (λ k. slice_get (objects_of type) k ≡ Some q.0.object) (eqb-true s.reference reference more.1) (subst (λ (v : ActionTree). slice_get (objects_of v) s.reference ≡ Some q.0.object) same q.2))
+    let same : a.0 ≡ type = same_Some a.0 type (sym a.1 ∙ subst (λ k. slice_get m.actions k ≡ Some type) (sym (eqb-true s.action action parts.0)) is) in (
+      q.0,
+      subst (λ k. slice_get m.pools k ≡ Some q.0) t.3 q.1,
+      subst (λ k. slice_get (objects_of type) k ≡ Some q.0.object) (eqb-true s.reference reference more.1) (subst (λ (v : ActionTree). slice_get (objects_of v) s.reference ≡ Some q.0.object) same q.2),
+    )
 
 by_kind : (kind : ObjectKind) (output : Bool) → kind ≢ Resource → same_kind kind State ≡ is_state (unwrap_or (flow_of kind output) BufferIn)
 by_kind Buffer true other = refl

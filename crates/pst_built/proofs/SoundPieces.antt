@@ -1,8 +1,7 @@
 -- In a sound model the pieces that are read are of sound activities.
-use Rattle.std.proofs.Common.{◌≡◌, ℕ, zero, suc, ◌+◌, ℤ, pos, negsuc, List, [], ◌∷◌, ◌++◌, length, Bool, true, false, nat_lt, nat_le, if◌then◌else◌, Option, Some, None, refl, sym, ap, ◌∙◌, subst, inl, inr}
+use Rattle.std.proofs.Common.{◌≡◌, ℕ, zero, suc, ◌+◌, ℤ, pos, negsuc, List, [], ◌∷◌, ◌++◌, length, Bool, true, false, nat_lt, nat_le, Option, Some, None, refl, sym, ◌∙◌, subst, inl, inr}
 use Rattle.std.specs.Prelude.{slice_get}
 use Rattle.std.specs.List.{enumerate_from, find}
-use Rattle.std.specs.Option.{IsSomeAnd}
 use Rattle.std.proofs.lemmas.Option.{none-some, same_Some}
 use Rattle.pst_expr.specs.Value.{is_false}
 use Rattle.pst_model.specs.declared.activity.Join.{Join}
@@ -12,7 +11,6 @@ use Rattle.pst_model.specs.ModelTree.{ModelTree, ActionTree, ContentTree, Atomic
 use Rattle.pst_model.specs.Served.{IsAtomic}
 use Rattle.pst_model.specs.SoundActivity.{EachStep, EachOfSteps, EachOfBranches, EachOfArms, EachOfMaybe, IsTraversed, IsSoundStep}
 use Rattle.pst_model.specs.Sound.{IsSoundContent, IsSoundAction, IsSound}
-use Rattle.pst_scen.specs.declared.tree.Fill.{Fill}
 use Rattle.pst_scen.specs.declared.tree.Fill.TheVariants as fill
 use Rattle.pst_legal.specs.Types.{type_of, action_instances}
 use Rattle.pst_legal.specs.Growing.{Look, Inner, Leaf}
@@ -94,15 +92,16 @@ module _ (m : ModelTree) (sound : IsSound m) where
         → Ways Q (content_menu type content action instance)
     by_content instance inside (Atomic body) e content =
         (record { type = type; is = is; atomic = subst IsAtomic (sym e) tt; concrete = concrete; top = top; inside = inside }, λ values piece has. absurd has)
-    by_content instance inside (Compound activity) e content =
-        (tt,
-        λ values. statements_sound (record { instance = instance; fields = values; indices = [] }) activity.steps
-            (λ step has. record {
-              action = type;
-              handles = activity.handles;
-              levels = 0;
-              each = all_in (EachStep (IsSoundStep m type activity.handles) 0) activity.steps step content.1.steps has;
-            }))
+    by_content instance inside (Compound activity) e content = (
+      tt,
+      λ values. statements_sound (record { instance = instance; fields = values; indices = [] }) activity.steps
+          (λ step has. record {
+            action = type;
+            handles = activity.handles;
+            levels = 0;
+            each = all_in (EachStep (IsSoundStep m type activity.handles) 0) activity.steps step content.1.steps has;
+          }),
+    )
 
     by_instance : (instance : Option ℕ) → ((k : ℕ) → instance ≡ Some k → In k (action_instances m (Some type) top)) → Ways Q (instance_menu type action instance)
     by_instance None inside = tt
@@ -180,8 +179,8 @@ module _ (m : ModelTree) (sound : IsSound m) where
     step_sound (Joined parallel join steps) each = block_sound c parallel join (steps_of steps) (row_sound steps each.1)
     step_sound (Select branches) each =
         λ k. branch_sound c (slice_get (available c (branches_of branches)) k)
-            (λ b e. let f = in_filter (λ (x : ℕ × BranchTree). holds_in c (guard_of x.1)) (enumerate_from 0 (branches_of branches)) b (in_get (available c (branches_of branches)) k b e) in
-            below levels (branch_step b.1) (below_branches P levels branches b.1 each.1 (in_get (branches_of branches) b.0 b.1 (in_numbered (branches_of branches) b f.0))))
+        (λ b e. let f = in_filter (λ (x : ℕ × BranchTree). holds_in c (guard_of x.1)) (enumerate_from 0 (branches_of branches)) b (in_get (available c (branches_of branches)) k b e) in
+        below levels (branch_step b.1) (below_branches P levels branches b.1 each.1 (in_get (branches_of branches) b.0 b.1 (in_numbered (branches_of branches) b f.0))))
     step_sound (Repeat count body) each = repeat_sound c body (value_in c count) (below (levels + 1) body each.1)
     step_sound (If condition holds fails) each = if_sound c holds (step_of fails) (value_in c condition) (below levels holds each.1) (maybe_sound fails each.2)
     step_sound (Match matched arms other) each =

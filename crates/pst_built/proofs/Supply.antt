@@ -16,18 +16,18 @@ use Rattle.pst_scen.specs.declared.act.Link.TheVariants as link
 use Rattle.pst_scen.specs.declared.scenario.Scenario.{Scenario}
 use Rattle.pst_scen.specs.Scenarios.{reference_at, leaves_of}
 use Rattle.pst_legal.specs.Growing.{open_act, most_acts, IsWithin}
-use Rattle.pst_legal.specs.Supplied.{is_need, is_source_for}
+use Rattle.pst_legal.specs.Supplied.{is_need}
 use Rattle.pst_legal.specs.Reading.{Stops, Reads, Reader}
 use Rattle.pst_legal.specs.SupplyReading.{Spot, spots, same_link, is_open, fixed_for, is_elsewhere, has_turn, next_need, Source, Initially, From, New, is_state, is_writer, is_stream, fits, inferred, may_infer, sources_by, sources, put_link, linked_to, supplied_by, end_supply, chosen, read_turn, read_supply}
 use Rattle.pst_built.proofs.Gives.{Gives, gives_if, gives_seeded}
-use Rattle.pst_built.proofs.Bares.{Bare, bare, bares_in, bares, bare_at, bare_from, bare_of, node_in, nodes_in, bares_put, nodes_put, put_bare, with_bare_link}
+use Rattle.pst_built.proofs.Bares.{Bare, bare, bares_in, bares, bare_at, bare_from, bare_of, node_in, nodes_in, bares_put, nodes_put}
 use Rattle.pst_built.proofs.Parents.{parents, InOrder}
 use Rattle.pst_built.proofs.Opens.{IsOpenRow, act_is_open, bare_cases, bares_push}
 use Rattle.pst_built.proofs.Members.{In, in_if, in_get, in_find, none_found}
-use Rattle.pst_built.proofs.Links.{put_at, put_still, bare_within, IsSourceAt, Links, open_links, push_links, put_links}
+use Rattle.pst_built.proofs.Links.{bare_within, Links, open_links, push_links, put_links}
 use Rattle.pst_built.proofs.Ends.{Ends, open_ends, push_ends, put_ends}
 use Rattle.pst_built.proofs.Linking.{IsTurn, open_need, Pairs, paired, paired_ends, nodes_linked}
-use Rattle.pst_built.proofs.Spots.{IsNew, spot_is, to_spot, IsFresh, fresh, Suits, suits}
+use Rattle.pst_built.proofs.Spots.{spot_is, to_spot, IsFresh, fresh, Suits, suits}
 use Rattle.pst_built.proofs.Trees.{Grown}
 
 -- the nodes stand in preorder, the actions are those of the leaves and then inferred ones, and the links are sound

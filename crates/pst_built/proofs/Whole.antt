@@ -1,38 +1,19 @@
 -- What a list of choices reads whole has its sources, and values change nothing that the order sees.
-use Rattle.std.proofs.Common.{◌≡◌, ℕ, zero, suc, ◌+◌, ◌-◌, ◌≤◌, List, [], ◌∷◌, ◌++◌, length, map, replicate, true, Option, Some, None, refl, sym, ap, ◌∙◌, subst, inl, inr, arith, length-append}
-use Rattle.std.specs.Prelude.{slice_get}
-use Rattle.std.specs.List.{enumerate_from, range_with_len}
-use Rattle.std.specs.Option.{option_and_then}
-use Rattle.std.proofs.lemmas.List.{length-map, length-replicate}
-use Rattle.std.proofs.lemmas.Option.{same_Some, slice_get_within, option_and_then_some}
-use Rattle.std.proofs.lemmas.Bool.{false≢true}
+use Rattle.std.proofs.Common.{◌≡◌, ℕ, ◌-◌, ◌≤◌, List, [], ◌∷◌, ◌++◌, length, map, replicate, Some, None, sym, ap, ◌∙◌, subst}
+use Rattle.std.specs.List.{range_with_len}
 use Rattle.pst_model.specs.ModelTree.{ModelTree}
-use Rattle.pst_scen.specs.declared.tree.Node.{Node}
-use Rattle.pst_scen.specs.declared.tree.Fill.TheVariants as fill
-use Rattle.pst_scen.specs.declared.act.Act.{Act}
-use Rattle.pst_scen.specs.declared.act.Filled.{Filled}
-use Rattle.pst_scen.specs.declared.act.Flow.{Flow}
-use Rattle.pst_scen.specs.declared.act.Flow.TheVariants.{BufferIn, BufferOut, StreamIn, StreamOut, StateIn, StateOut}
-use Rattle.pst_scen.specs.declared.act.Link.{Link}
-use Rattle.pst_scen.specs.declared.act.Link.TheVariants as link
 use Rattle.pst_scen.specs.declared.scenario.Scenario.{Scenario}
-use Rattle.pst_scen.specs.Flows.{Refers}
 use Rattle.pst_scen.specs.Scenarios.{leaves_of, HasFirsts}
-use Rattle.pst_scen.specs.Laws.{HasOneLeafEach}
 use Rattle.pst_legal.specs.Growing.{nothing_yet, most_nodes, most_acts}
-use Rattle.pst_legal.specs.Supplied.{is_need, is_source_for}
 use Rattle.pst_legal.specs.Reading.{Reading, Wants, Stops, Reads, then_read, read_tree}
 use Rattle.pst_legal.specs.SupplyReading.{read_supply}
 use Rattle.pst_legal.specs.ValueReading.{Whole, answer_of, read_values, read_all, read}
-use Rattle.pst_order.specs.Facts.{IsOutput, LinksStates, IsLinked}
-use Rattle.pst_order.specs.Built.{IsBuilt}
 use Rattle.pst_built.specs.Laws.{WholeReadingsAreBuilt, WholeReadingsAreWithin, WholeReadingsAreLinked, IsConcreteRoot, WholeReadingsAreScenarios}
 use Rattle.pst_built.proofs.Gives.{Gives, gives_more, gives_then}
-use Rattle.pst_built.proofs.Bares.{Bare, bare, bares_in, bares, bare_at, bare_from, bare_of, node_in, nodes_in}
+use Rattle.pst_built.proofs.Bares.{nodes_in}
 use Rattle.pst_built.proofs.Values.{IsSameOrder, IsValued, values_keep}
-use Rattle.pst_built.proofs.Parents.{parents, InOrder, in_preorder, is_preorder}
-use Rattle.pst_built.proofs.Members.{In, to_flat_map, to_numbered}
-use Rattle.pst_built.proofs.Links.{bare_within, IsSourceAt, Links}
+use Rattle.pst_built.proofs.Parents.{parents, InOrder}
+use Rattle.pst_built.proofs.Links.{Links}
 use Rattle.pst_built.proofs.Ends.{Ends}
 use Rattle.pst_built.proofs.Trees.{IsGrowth, tree_grows}
 use Rattle.pst_built.proofs.Supply.{Joined, joined_first, same_length, AreLinked, IsSupplied, gives_supply, supply_gives}

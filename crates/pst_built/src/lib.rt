@@ -6,4 +6,6 @@
 
 mod readings;
 
-pub use readings::{whole_readings_are_built, whole_readings_are_linked, whole_readings_are_scenarios};
+pub use readings::{
+    whole_readings_are_built, whole_readings_are_linked, whole_readings_are_scenarios,
+};
