@@ -23,7 +23,7 @@ use Rattle.pst_built.proofs.Bares.{Bare, bare, bares, bare_at, bare_from, bare_o
 use Rattle.pst_built.proofs.Members.{In, in_get, in_filter}
 use Rattle.pst_built.proofs.Spots.{at_act}
 use Rattle.pst_built.proofs.Values.{IsValued}
-use Rattle.pst_built.proofs.SoundActs.{in_place, AreRight}
+use Rattle.pst_built.proofs.SoundActs.{in_place, ArePooled}
 
 -- ---- elements that pass a test
 
@@ -117,7 +117,7 @@ refers s a r flow pool filled is of_flow of_pool =
     option_and_then_some (λ x. slice_get x.references r) (slice_get s.actions a) filled is
     (λ act there has. record { act = act; reference = r; filled = filled; is_act = there; is = has; of_flow = of_flow; of_pool = of_pool; linked = refl })
 
-module _ (m : ModelTree) (s t : Scenario) (valued : IsValued m s t) (right : AreRight m (bares s.actions)) where
+module _ (m : ModelTree) (s t : Scenario) (valued : IsValued m s t) (pooled : ArePooled m (bares s.actions)) where
   -- an action uses the state pool of its reference
   use_of : (a r pool : ℕ) (x : Bare) → bare_at (bares t.actions) a r ≡ Some x → x.pool ≡ pool → is_state x.flow ≡ true → (b : ℕ) × Uses t b pool
   use_of a r pool x at same state =
@@ -136,7 +136,7 @@ module _ (m : ModelTree) (s t : Scenario) (valued : IsValued m s t) (right : Are
       let r = in_place act.0.references filled.0 filled.1 in
       let at = bare_from s.actions a.0 r.0 filled.0 (at_act s.actions a.0 r.0 act.0 filled.0 a.1 r.1) in
       let same = eqb-true filled.0.pool pool filled.2 in
-      let state : is_state filled.0.flow ≡ true = sym (right a.0 r.0 (bare filled.0) at) ∙ ap (is_state_pool m) same ∙ parts.0 in
+      let state : is_state filled.0.flow ≡ true = sym (pooled a.0 r.0 (bare filled.0) at) ∙ ap (is_state_pool m) same ∙ parts.0 in
       use_of a.0 r.0 pool (bare filled.0) (ap (λ rows. bare_at rows a.0 r.0) valued.same.references ∙ at) same state
 
   by_reference : (pool a : ℕ) (flow : Flow) (to : Link) → is_state flow ≡ true → Refers t a flow pool to → In pool (used_state_pools m s.actions)
@@ -144,7 +144,7 @@ module _ (m : ModelTree) (s t : Scenario) (valued : IsValued m s t) (right : Are
       let at = bare_from t.actions a refers.reference refers.filled (at_act t.actions a refers.reference refers.act refers.filled refers.is_act refers.is) in
       let before : bare_at (bares s.actions) a refers.reference ≡ Some (bare refers.filled) = ap (λ rows. bare_at rows a refers.reference) (sym valued.same.references) ∙ at in
       let f = bare_of s.actions a refers.reference (bare refers.filled) before in
-      let is : is_state_pool m pool ≡ true = ap (is_state_pool m) (sym refers.of_pool) ∙ right a refers.reference (bare refers.filled) before ∙ ap is_state refers.of_flow ∙ state in
+      let is : is_state_pool m pool ≡ true = ap (is_state_pool m) (sym refers.of_pool) ∙ pooled a refers.reference (bare refers.filled) before ∙ ap is_state refers.of_flow ∙ state in
       let same : f.0.pool ≡ pool = ap (λ (v : Bare). v.pool) f.2 ∙ refers.of_pool in
       option_and_then_some (λ x. slice_get x.references refers.reference) (slice_get s.actions a) f.0 f.1
       (λ act there has.

@@ -15,7 +15,7 @@ mod Linking
 mod Supply
 mod SoundActs
 mod SoundPieces
-mod RightTrees
+mod PooledTrees
 mod Firsts
 mod Built
 mod Linked

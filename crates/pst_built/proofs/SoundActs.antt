@@ -117,14 +117,14 @@ by_kind Resource output other = absurd (other refl)
 -- ---- actions
 
 -- a reference has a state pool exactly where it is of a state
-abbrev pub IsRight : ModelTree → Bare → Type 0
-IsRight m x = is_state_pool m x.pool ≡ is_state x.flow
+abbrev pub IsPooled : ModelTree → Bare → Type 0
+IsPooled m x = is_state_pool m x.pool ≡ is_state x.flow
 
-abbrev pub IsRightRow : ModelTree → List Bare → Type 0
-IsRightRow m row = (r : ℕ) (x : Bare) → slice_get row r ≡ Some x → IsRight m x
+abbrev pub IsPooledRow : ModelTree → List Bare → Type 0
+IsPooledRow m row = (r : ℕ) (x : Bare) → slice_get row r ≡ Some x → IsPooled m x
 
-abbrev pub AreRight : ModelTree → List (List Bare) → Type 0
-AreRight m rows = (a r : ℕ) (x : Bare) → bare_at rows a r ≡ Some x → IsRight m x
+abbrev pub ArePooled : ModelTree → List (List Bare) → Type 0
+ArePooled m rows = (a r : ℕ) (x : Bare) → bare_at rows a r ≡ Some x → IsPooled m x
 
 -- an action of a type that is atomic and not abstract, in an instance of its component
 pub record IsConcrete (m : ModelTree) (action instance : ℕ) : Type 0 where
@@ -136,8 +136,8 @@ pub record IsConcrete (m : ModelTree) (action instance : ℕ) : Type 0 where
   pub inside : In instance (action_instances m (Some type) top)
 
 module _ (m : ModelTree) (sound : IsSound m) (action instance : ℕ) (is : IsConcrete m action instance) where
-  reference_right : (k : ℕ) (reference : Reference) → slice_get is.type.references k ≡ Some reference → IsRight m (bare (open_reference m action instance (k, reference)))
-  reference_right k reference at =
+  reference_pooled : (k : ℕ) (reference : Reference) → slice_get is.type.references k ≡ Some reference → IsPooled m (bare (open_reference m action instance (k, reference)))
+  reference_pooled k reference at =
       let part = instance_is m is.type is.top instance is.inside in
       let l = slice_get_within is.type.references k reference at in
       let in_objects : slice_get (objects_of is.type) k ≡ Some reference.object =
@@ -156,7 +156,7 @@ module _ (m : ModelTree) (sound : IsSound m) (action instance : ℕ) (is : IsCon
       ap (λ (o : Option ObjectTree). is_state (unwrap_or (option_and_then (λ q. flow_of q.kind reference.output) o) BufferIn)) object.1 in
       first ∙ by_kind object.0.kind reference.output object.2 ∙ sym second
 
-  by_type : (type : Option ActionTree) → type ≡ Some is.type → IsRightRow m (map bare (open_references m action instance type))
+  by_type : (type : Option ActionTree) → type ≡ Some is.type → IsPooledRow m (map bare (open_references m action instance type))
   by_type None e r x at = absurd (none-some is.type e)
   by_type (Some type) e r x at =
       let numbered = enumerate_from 0 type.references in
@@ -164,10 +164,10 @@ module _ (m : ModelTree) (sound : IsSound m) (action instance : ℕ) (is : IsCon
       let j = in_map (open_reference m action instance) numbered i.0 i.1 in
       let same : type ≡ is.type = same_Some type is.type e in
       let k = subst (λ (v : ActionTree). slice_get v.references j.0.0 ≡ Some j.0.1) same (in_numbered type.references j.0 j.1) in
-      subst (IsRight m) (ap bare j.2 ∙ i.2) (reference_right j.0.0 j.0.1 k)
+      subst (IsPooled m) (ap bare j.2 ∙ i.2) (reference_pooled j.0.0 j.0.1 k)
 
-  pub act_is_right : (node : Option ℕ) → IsRightRow m (bares_in (open_act m action instance node))
-  act_is_right at = by_type (type_of m action) is.is
+  pub act_is_pooled : (node : Option ℕ) → IsPooledRow m (bares_in (open_act m action instance node))
+  act_is_pooled at = by_type (type_of m action) is.is
 
 -- an action that is inferred is concrete
 inferable_is : (type : ActionTree) (content : ContentTree) → is_inferable type content ≡ true → IsAtomic content × (type.is_abstract ≡ false)
@@ -181,44 +181,44 @@ new_is_concrete m s need action instance q new =
 
 -- ---- what keeps it
 
-pub right_push : (m : ModelTree) (rows : List (List Bare)) (row : List Bare) → AreRight m rows → IsRightRow m row → AreRight m (rows ++ row ∷ [])
-right_push m rows row right more a r x is = ⊎_elim (λ old. right a r x old) (λ new. more r x new.1) (bare_cases rows row a r x is)
+pub pooled_push : (m : ModelTree) (rows : List (List Bare)) (row : List Bare) → ArePooled m rows → IsPooledRow m row → ArePooled m (rows ++ row ∷ [])
+pooled_push m rows row pooled more a r x is = ⊎_elim (λ old. pooled a r x old) (λ new. more r x new.1) (bare_cases rows row a r x is)
 
-right_put : (m : ModelTree) (rows : List (List Bare)) (a r : ℕ) (x : Bare) (to : Link) → AreRight m rows → bare_at rows a r ≡ Some x → AreRight m (put_bare a r to rows)
-right_put m rows a r x to right is b q y at = ⊎_elim (λ new. subst (IsRight m) new.2 (right a r x is)) (λ old. right b q y old.1) (put_cases rows a r to x b q y is at)
+pooled_put : (m : ModelTree) (rows : List (List Bare)) (a r : ℕ) (x : Bare) (to : Link) → ArePooled m rows → bare_at rows a r ≡ Some x → ArePooled m (put_bare a r to rows)
+pooled_put m rows a r x to pooled is b q y at = ⊎_elim (λ new. subst (IsPooled m) new.2 (pooled a r x is)) (λ old. pooled b q y old.1) (put_cases rows a r to x b q y is at)
 
 module _ (m : ModelTree) (acts : List Act) (need : Spot) (b q : ℕ) (source : Filled) (at : reference_at acts need.act need.reference ≡ Some need.filled) (is : reference_at acts b q ≡ Some source)
-    (right : AreRight m (bares acts)) where
-  once : AreRight m (put_bare need.act need.reference (link.Act b q) (bares acts))
-  once = right_put m (bares acts) need.act need.reference (bare need.filled) (link.Act b q) right (bare_from acts need.act need.reference need.filled at)
+    (pooled : ArePooled m (bares acts)) where
+  once : ArePooled m (put_bare need.act need.reference (link.Act b q) (bares acts))
+  once = pooled_put m (bares acts) need.act need.reference (bare need.filled) (link.Act b q) pooled (bare_from acts need.act need.reference need.filled at)
 
-  twice : AreRight m (put_bare b q (link.Act need.act need.reference) (put_bare need.act need.reference (link.Act b q) (bares acts)))
+  twice : ArePooled m (put_bare b q (link.Act need.act need.reference) (put_bare need.act need.reference (link.Act b q) (bares acts)))
   twice =
       let still = put_still (bares acts) need.act need.reference (link.Act b q) b q (bare source) (bare_from acts b q source is) in
-      right_put m (put_bare need.act need.reference (link.Act b q) (bares acts)) b q still.now (link.Act need.act need.reference) once still.is
+      pooled_put m (put_bare need.act need.reference (link.Act b q) (bares acts)) b q still.now (link.Act need.act need.reference) once still.is
 
   by_stream : (test : Bool)
-      → AreRight m (bares (if test then put_link b q (link.Act need.act need.reference) (put_link need.act need.reference (link.Act b q) acts) else put_link need.act need.reference (link.Act b q) acts))
+      → ArePooled m (bares (if test then put_link b q (link.Act need.act need.reference) (put_link need.act need.reference (link.Act b q) acts) else put_link need.act need.reference (link.Act b q) acts))
   by_stream true =
-      subst (AreRight m)
+      subst (ArePooled m)
       (ap (put_bare b q (link.Act need.act need.reference)) (sym (bares_put need.act need.reference (link.Act b q) acts))
       ∙ sym (bares_put b q (link.Act need.act need.reference) (put_link need.act need.reference (link.Act b q) acts))) twice
-  by_stream false = subst (AreRight m) (sym (bares_put need.act need.reference (link.Act b q) acts)) once
+  by_stream false = subst (ArePooled m) (sym (bares_put need.act need.reference (link.Act b q) acts)) once
 
-  right_linked : AreRight m (bares (linked_to need b q acts))
-  right_linked = by_stream (is_stream need.filled.flow)
+  pooled_linked : ArePooled m (bares (linked_to need b q acts))
+  pooled_linked = by_stream (is_stream need.filled.flow)
 
 -- each source of a need keeps it
-pub right_supplied : (m : ModelTree) → IsSound m → (s : Scenario) (need : Spot) (source : Source) → AreRight m (bares s.actions) → IsTurn s.actions need → Suits m s need source
-    → AreRight m (bares (supplied_by m s need source).actions)
-right_supplied m sound s need Initially right turn suit =
-    subst (AreRight m) (sym (bares_put need.act need.reference link.Initial s.actions))
-    (right_put m (bares s.actions) need.act need.reference (bare need.filled) link.Initial right (bare_from s.actions need.act need.reference need.filled turn.at))
-right_supplied m sound s need (From b q) right turn suit = right_linked m s.actions need b q suit.0 turn.at suit.1 right
-right_supplied m sound s need (New action instance q) right turn suit =
+pub pooled_supplied : (m : ModelTree) → IsSound m → (s : Scenario) (need : Spot) (source : Source) → ArePooled m (bares s.actions) → IsTurn s.actions need → Suits m s need source
+    → ArePooled m (bares (supplied_by m s need source).actions)
+pooled_supplied m sound s need Initially pooled turn suit =
+    subst (ArePooled m) (sym (bares_put need.act need.reference link.Initial s.actions))
+    (pooled_put m (bares s.actions) need.act need.reference (bare need.filled) link.Initial pooled (bare_from s.actions need.act need.reference need.filled turn.at))
+pooled_supplied m sound s need (From b q) pooled turn suit = pooled_linked m s.actions need b q suit.0 turn.at suit.1 pooled
+pooled_supplied m sound s need (New action instance q) pooled turn suit =
     let act = open_act m action instance None in
-    right_linked m (s.actions ++ act ∷ []) need (length s.actions) q suit.filled
+    pooled_linked m (s.actions ++ act ∷ []) need (length s.actions) q suit.filled
     (reference_more s.actions act need.act need.reference need.filled turn.at)
     (reference_last s.actions act q ∙ suit.at)
-    (subst (AreRight m) (sym (bares_push s.actions act))
-    (right_push m (bares s.actions) (bares_in act) right (act_is_right m sound action instance (new_is_concrete m s need action instance q suit) None)))
+    (subst (ArePooled m) (sym (bares_push s.actions act))
+    (pooled_push m (bares s.actions) (bares_in act) pooled (act_is_pooled m sound action instance (new_is_concrete m s need action instance q suit) None)))

@@ -18,8 +18,8 @@ use Rattle.pst_built.proofs.Ends.{Ends}
 use Rattle.pst_built.proofs.Trees.{IsGrowth, tree_grows}
 use Rattle.pst_built.proofs.Supply.{Joined, joined_first, same_length, AreLinked, IsSupplied, gives_supply, supply_gives}
 use Rattle.pst_model.specs.Sound.{IsSound}
-use Rattle.pst_built.proofs.SoundActs.{right_supplied}
-use Rattle.pst_built.proofs.RightTrees.{HasRight, right_tree}
+use Rattle.pst_built.proofs.SoundActs.{pooled_supplied}
+use Rattle.pst_built.proofs.PooledTrees.{HasPools, pooled_tree}
 use Rattle.pst_built.proofs.Firsts.{has_firsts}
 use Rattle.pst_built.proofs.Built.{built}
 use Rattle.pst_built.proofs.Linked.{are_linked}
@@ -87,16 +87,16 @@ whole_is_linked m root seed level choices s e = are_linked level s (supplied_who
 
 -- ---- sound models
 
-all_right : (m : ModelTree) (root seed level : ℕ) (choices : List ℕ) → IsSound m → IsConcreteRoot m root → Gives (HasRight m) (before_values m root seed level choices)
-all_right m root seed level choices sound concrete =
-    gives_then (HasRight m) (HasRight m) (read_tree m seed root (nothing_yet level) 0 choices) (read_supply m seed)
-    (right_tree m sound seed root level 0 choices concrete)
-    (λ t next rest right. gives_supply m seed (HasRight m) (HasRight m) (λ s need source holds turn suit. right_supplied m sound s need source holds turn suit) (λ s holds none many. holds) t next rest right)
+all_pooled : (m : ModelTree) (root seed level : ℕ) (choices : List ℕ) → IsSound m → IsConcreteRoot m root → Gives (HasPools m) (before_values m root seed level choices)
+all_pooled m root seed level choices sound concrete =
+    gives_then (HasPools m) (HasPools m) (read_tree m seed root (nothing_yet level) 0 choices) (read_supply m seed)
+    (pooled_tree m sound seed root level 0 choices concrete)
+    (λ t next rest pooled. gives_supply m seed (HasPools m) (HasPools m) (λ s need source holds turn suit. pooled_supplied m sound s need source holds turn suit) (λ s holds none many. holds) t next rest pooled)
 
 all_firsts : (m : ModelTree) (root seed level : ℕ) (choices : List ℕ) → IsSound m → IsConcreteRoot m root → Gives HasFirsts (read_all m seed root (nothing_yet level) 0 choices)
 all_firsts m root seed level choices sound concrete =
-    gives_then (HasRight m) HasFirsts (before_values m root seed level choices) (read_values m seed) (all_right m root seed level choices sound concrete)
-    (λ t next rest right. gives_more (IsValued m t) HasFirsts _ (values_keep m seed t next rest) (λ u valued. has_firsts m t u valued right))
+    gives_then (HasPools m) HasFirsts (before_values m root seed level choices) (read_values m seed) (all_pooled m root seed level choices sound concrete)
+    (λ t next rest pooled. gives_more (IsValued m t) HasFirsts _ (values_keep m seed t next rest) (λ u valued. has_firsts m t u valued pooled))
 
 pub whole_is_scenario : WholeReadingsAreScenarios
 whole_is_scenario m root seed level choices s sound concrete e =
