@@ -37,6 +37,18 @@ node_in act = act.node
 abbrev pub nodes_in : List Act → List (Option ℕ)
 nodes_in acts = map node_in acts
 
+-- what an action is: its type, its instance and its node
+pub record Kind : Type 0 where
+  pub action : ℕ
+  pub instance : ℕ
+  pub node : Option ℕ
+
+abbrev pub kind_in : Act → Kind
+kind_in act = record { action = act.action; instance = act.instance; node = act.node }
+
+abbrev pub kinds_in : List Act → List Kind
+kinds_in acts = map kind_in acts
+
 -- ---- references with and without values
 
 by_act : (act : Option Act) (r : ℕ) → option_and_then (λ xs. slice_get xs r) (option_map bares_in act) ≡ option_map bare (option_and_then (λ x. slice_get x.references r) act)
@@ -120,3 +132,6 @@ bares_put a r to acts = alter_view bares_in (act_with_link r to) (row_with_link 
 
 pub nodes_put : (a r : ℕ) (to : Link) (acts : List Act) → nodes_in (put_link a r to acts) ≡ nodes_in acts
 nodes_put a r to acts = alter_same node_in (act_with_link r to) (λ act. refl) a acts
+
+pub kinds_put : (a r : ℕ) (to : Link) (acts : List Act) → kinds_in (put_link a r to acts) ≡ kinds_in acts
+kinds_put a r to acts = alter_same kind_in (act_with_link r to) (λ act. refl) a acts

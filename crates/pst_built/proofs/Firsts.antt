@@ -48,7 +48,7 @@ to_filter : {A : Type 0} (test : A → Bool) (xs : List A) (x : A) → In x xs �
 to_filter test [] x has is = absurd has
 to_filter test (y ∷ ys) x has is = by_filter test y ys x (to_filter test ys x) (test y) refl has is
 
-to_contains : (xs : List ℕ) (x : ℕ) → In x xs → Contains xs x
+pub to_contains : (xs : List ℕ) (x : ℕ) → In x xs → Contains xs x
 to_contains [] x has = absurd has
 to_contains (y ∷ ys) x (inl e) = (0, omega arith, e)
 to_contains (y ∷ ys) x (inr has) = let c = to_contains ys x has in (suc c.0, omega (arith, c.1), c.2)

@@ -19,4 +19,5 @@ mod PooledTrees
 mod Firsts
 mod Built
 mod Linked
+mod Inferred
 mod Whole

@@ -8,9 +8,9 @@ use Rattle.pst_legal.specs.Growing.{nothing_yet, most_nodes, most_acts}
 use Rattle.pst_legal.specs.Reading.{Reading, Wants, Stops, Reads, then_read, read_tree}
 use Rattle.pst_legal.specs.SupplyReading.{read_supply}
 use Rattle.pst_legal.specs.ValueReading.{Whole, answer_of, read_values, read_all, read}
-use Rattle.pst_built.specs.Laws.{WholeReadingsAreBuilt, WholeReadingsAreWithin, WholeReadingsAreLinked, IsConcreteRoot, WholeReadingsAreScenarios}
+use Rattle.pst_built.specs.Laws.{WholeReadingsAreBuilt, WholeReadingsAreWithin, WholeReadingsAreLinked, WholeReadingsHaveSources, IsConcreteRoot, WholeReadingsAreScenarios}
 use Rattle.pst_built.proofs.Gives.{Gives, gives_more, gives_then}
-use Rattle.pst_built.proofs.Bares.{nodes_in}
+use Rattle.pst_built.proofs.Bares.{bares, nodes_in, kinds_in}
 use Rattle.pst_built.proofs.Values.{IsSameOrder, IsValued, values_keep}
 use Rattle.pst_built.proofs.Parents.{parents, InOrder}
 use Rattle.pst_built.proofs.Links.{Links}
@@ -21,6 +21,7 @@ use Rattle.pst_model.specs.Sound.{IsSound}
 use Rattle.pst_built.proofs.SoundActs.{pooled_supplied}
 use Rattle.pst_built.proofs.PooledTrees.{HasPools, pooled_tree}
 use Rattle.pst_built.proofs.Firsts.{has_firsts}
+use Rattle.pst_built.proofs.Inferred.{AreInferable, inferable_supplied, inferable_first, AreBound, all_bound, has_sources}
 use Rattle.pst_built.proofs.Built.{built}
 use Rattle.pst_built.proofs.Linked.{are_linked}
 
@@ -84,6 +85,38 @@ whole_is_within m root seed level choices s e = (supplied_whole m root seed leve
 
 pub whole_is_linked : WholeReadingsAreLinked
 whole_is_linked m root seed level choices s e = are_linked level s (supplied_whole m root seed level choices s e)
+
+-- ---- sources
+
+-- binds are kept, and inferred actions may be inferred
+record IsInferred (m : ModelTree) (s : Scenario) : Type 0 where
+  bound : AreBound m s.nodes (bares s.actions)
+  inferable : AreInferable m (kinds_in s.actions)
+
+same_inferred : (m : ModelTree) (s t : Scenario) → IsInferred m s → IsSameOrder s t → IsInferred m t
+same_inferred m s t is same = record {
+  bound = subst (λ nodes. AreBound m nodes (bares t.actions)) (sym same.nodes) (subst (AreBound m s.nodes) (sym same.references) is.bound);
+  inferable = subst (AreInferable m) (sym same.kinds) is.inferable;
+}
+
+all_inferred : (m : ModelTree) (root seed level : ℕ) (choices : List ℕ) → Gives (IsInferred m) (before_values m root seed level choices)
+all_inferred m root seed level choices =
+    gives_then (IsGrowth level (nothing_yet level) None) (IsInferred m) (read_tree m seed root (nothing_yet level) 0 choices) (read_supply m seed)
+    (tree_grows m seed root level 0 choices)
+    (λ t next rest growth. gives_supply m seed (λ s. AreInferable m (kinds_in s.actions)) (IsInferred m)
+    (λ s need source holds turn suit. inferable_supplied m s need source holds suit)
+    (λ s holds none many. record { bound = all_bound m s none; inferable = holds })
+    t next rest (inferable_first m level t growth.grown))
+
+inferred_whole : (m : ModelTree) (root seed level : ℕ) (choices : List ℕ) → Gives (IsInferred m) (read_all m seed root (nothing_yet level) 0 choices)
+inferred_whole m root seed level choices =
+    gives_then (IsInferred m) (IsInferred m) (before_values m root seed level choices) (read_values m seed) (all_inferred m root seed level choices)
+    (λ t next rest is. gives_more (IsValued m t) (IsInferred m) _ (values_keep m seed t next rest) (λ u valued. same_inferred m t u is valued.same))
+
+pub whole_has_sources : WholeReadingsHaveSources
+whole_has_sources m root seed level choices s e =
+    let is = whole_gives (IsInferred m) (read_all m seed root (nothing_yet level) 0 choices) s (inferred_whole m root seed level choices) e in
+    has_sources m level s (supplied_whole m root seed level choices s e) is.bound is.inferable
 
 -- ---- sound models
 

@@ -8,6 +8,7 @@ use Rattle.pst_legal.specs.Types.{type_of}
 use Rattle.pst_legal.specs.Growing.{IsWithin}
 use Rattle.pst_legal.specs.ValueReading.{Whole, read}
 use Rattle.pst_order.specs.Built.{IsBuilt}
+use Rattle.pst_built.specs.Sources.{HasSources}
 
 -- A scenario that a list of choices reads whole is built, and of the level that was asked for.
 abbrev pub WholeReadingsAreBuilt : Type 0
@@ -20,6 +21,10 @@ WholeReadingsAreWithin = (m : ModelTree) (root seed level : ℕ) (choices : List
 -- Its links are of their references' kinds and name references that there are, and the ends of a stream name each other.
 abbrev pub WholeReadingsAreLinked : Type 0
 WholeReadingsAreLinked = (m : ModelTree) (root seed level : ℕ) (choices : List ℕ) (s : Scenario) → read m root seed level choices ≡ Whole s → AreLinked s.actions
+
+-- Its needs have their sources, and its inferred actions may be inferred.
+abbrev pub WholeReadingsHaveSources : Type 0
+WholeReadingsHaveSources = (m : ModelTree) (root seed level : ℕ) (choices : List ℕ) (s : Scenario) → read m root seed level choices ≡ Whole s → HasSources m s
 
 -- the root isn't abstract, so that its references are served
 abbrev pub IsConcreteRoot : ModelTree → ℕ → Type 0

@@ -8,4 +8,5 @@ mod readings;
 
 pub use readings::{
     whole_readings_are_built, whole_readings_are_linked, whole_readings_are_scenarios,
+    whole_readings_have_sources,
 };
