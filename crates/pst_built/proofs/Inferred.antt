@@ -1,5 +1,5 @@
 -- The sources of a scenario that is read whole, and its inferred actions.
-use Rattle.std.proofs.Common.{◌≡◌, ⊎_elim, ℕ, List, [], ◌∷◌, ◌++◌, length, map, Bool, true, false, ◌&&◌, ◌||◌, not, nat_eq, if◌then◌else◌, Option, Some, None, refl, sym, ap, ap₂, ◌∙◌, subst}
+use Rattle.std.proofs.Common.{◌≡◌, ⊎_elim, ℕ, List, [], ◌∷◌, ◌++◌, length, map, Bool, true, false, ◌||◌, not, nat_eq, if◌then◌else◌, Option, Some, None, refl, sym, ap, ap₂, ◌∙◌, subst}
 use Rattle.std.specs.Prelude.{slice_get}
 use Rattle.std.specs.Option.{option_map}
 use Rattle.std.proofs.lemmas.List.{map-append}
@@ -18,7 +18,7 @@ use Rattle.pst_scen.specs.Scenarios.{reference_at, leaves_of}
 use Rattle.pst_legal.specs.Types.{type_of, activity_in, action_instances}
 use Rattle.pst_legal.specs.Growing.{open_act}
 use Rattle.pst_legal.specs.Binds.{Bound, bounds_of, fixed_source}
-use Rattle.pst_legal.specs.Supplied.{is_need, is_source_for, IsSource, ArePreviousOnce, IsInferable}
+use Rattle.pst_legal.specs.Supplied.{is_need, is_source_for}
 use Rattle.pst_legal.specs.SupplyReading.{Spot, spots, same_link, is_open, fixed_for, is_elsewhere, has_turn, next_need, Source, Initially, From, New, is_stream, is_inferable, put_link, linked_to, supplied_by}
 use Rattle.pst_built.specs.Sources.{HasSources}
 use Rattle.pst_built.proofs.Members.{In, none_found}
@@ -52,7 +52,7 @@ inferable_push m s need action instance q inferable new a kind is none =
     ⊎_elim
     (λ old. inferable a kind old none)
     (λ last. subst (λ (k : Kind). (type : ActionTree) × (type_of m k.action ≡ Some type) × (is_inferable type type.content ≡ true) × In k.instance (action_instances m (Some type) None)) last.1
-        (new.type, new.is, new.inferable, new.inside))
+    (new.type, new.is, new.inferable, new.inside))
     (get_cases (kinds_in s.actions) (kind_in (open_act m action instance None)) a kind
     (subst (λ ks. slice_get ks a ≡ Some kind) (map-append kind_in s.actions (open_act m action instance None ∷ [])) is))
 
