@@ -1,0 +1,94 @@
+-- Claims and values change nothing that the order of a scenario sees.
+use Rattle.std.proofs.Common.{◌≡◌, ℕ, ℤ, List, [], ◌∷◌, map, Bool, true, false, nat_eq, if◌then◌else◌, refl, ap, ap₂, ◌∙◌}
+use Rattle.pst_model.specs.ModelTree.{ModelTree}
+use Rattle.pst_scen.specs.declared.act.Act.{Act}
+use Rattle.pst_scen.specs.declared.scenario.First.{First}
+use Rattle.pst_scen.specs.declared.scenario.Scenario.{Scenario}
+use Rattle.pst_legal.specs.Reading.{value_number}
+use Rattle.pst_legal.specs.SupplyReading.{alter}
+use Rattle.pst_legal.specs.ValueReading.{Blank, Instance, OfFirst, OfAct, OfOutput, OfClaim, blanks, used_state_pools, more_values, first_with_value, empty_first, written, with_claim, act_with_value, with_output_value, with_claim_value, filled_with_value, options, read_blanks, read_values, with_firsts}
+use Rattle.pst_built.proofs.Bares.{bare, bares_in, bares, node_in, nodes_in, kind_in, kinds_in, alter_same}
+use Rattle.pst_built.proofs.Gives.{Gives, gives_seeded}
+
+-- the second scenario has the order of the first
+pub record IsSameOrder (s t : Scenario) : Type 0 where
+  pub level : t.level ≡ s.level
+  pub nodes : t.nodes ≡ s.nodes
+  pub acts : nodes_in t.actions ≡ nodes_in s.actions
+  pub kinds : kinds_in t.actions ≡ kinds_in s.actions
+  pub references : bares t.actions ≡ bares s.actions
+
+same_after : (s t u : Scenario) → IsSameOrder s t → IsSameOrder t u → IsSameOrder s u
+same_after s t u one other = record {
+  level = other.level ∙ one.level;
+  nodes = other.nodes ∙ one.nodes;
+  acts = other.acts ∙ one.acts;
+  kinds = other.kinds ∙ one.kinds;
+  references = other.references ∙ one.references;
+}
+
+altered : (s : Scenario) (f : Act → Act) (n : ℕ) → ((act : Act) → node_in (f act) ≡ node_in act) → ((act : Act) → kind_in (f act) ≡ kind_in act) → ((act : Act) → bares_in (f act) ≡ bares_in act)
+    → IsSameOrder s (record s { actions = alter f n s.actions })
+altered s f n node kinds references = record {
+  level = refl;
+  nodes = refl;
+  acts = alter_same node_in f node n s.actions;
+  kinds = alter_same kind_in f kinds n s.actions;
+  references = alter_same bares_in f references n s.actions;
+}
+
+written_keeps : (s : Scenario) (k : ℕ) (blank : Blank) → IsSameOrder s (written s k blank)
+written_keeps s k (Instance act claim pool) = altered s (with_claim claim pool k) act (λ x. refl) (λ x. refl) (λ x. refl)
+written_keeps s k (OfFirst pool field) = record { level = refl; nodes = refl; acts = refl; kinds = refl; references = refl }
+written_keeps s k (OfAct act field) = altered s (act_with_value (value_number field k)) act (λ x. refl) (λ x. refl) (λ x. refl)
+written_keeps s k (OfOutput act reference field) =
+    altered s (with_output_value reference (value_number field k)) act (λ x. refl) (λ x. refl)
+    (λ x. alter_same bare (filled_with_value (value_number field k)) (λ filled. refl) reference x.references)
+written_keeps s k (OfClaim act claim field) = altered s (with_claim_value claim (value_number field k)) act (λ x. refl) (λ x. refl) (λ x. refl)
+
+-- ---- first objects
+
+abbrev pub pool_in : First → ℕ
+pool_in first = first.pool
+
+by_test : (pool : ℕ) (v : ℤ) (first : First) (test : Bool) → pool_in (if test then record first { values = more_values v first.values } else first) ≡ first.pool
+by_test pool v first true = refl
+by_test pool v first false = refl
+
+pools_stay : (pool : ℕ) (v : ℤ) (firsts : List First) → map pool_in (map (first_with_value pool v) firsts) ≡ map pool_in firsts
+pools_stay pool v [] = refl
+pools_stay pool v (first ∷ more) = ap₂ ◌∷◌ (by_test pool v first (nat_eq first.pool pool)) (pools_stay pool v more)
+
+written_firsts : (s : Scenario) (k : ℕ) (blank : Blank) → map pool_in (written s k blank).firsts ≡ map pool_in s.firsts
+written_firsts s k (Instance act claim pool) = refl
+written_firsts s k (OfFirst pool field) = pools_stay pool (value_number field k) s.firsts
+written_firsts s k (OfAct act field) = refl
+written_firsts s k (OfOutput act reference field) = refl
+written_firsts s k (OfClaim act claim field) = refl
+
+pools_of : (pools : List ℕ) → map pool_in (map empty_first pools) ≡ pools
+pools_of [] = refl
+pools_of (pool ∷ more) = ap (λ ps. pool ∷ ps) (pools_of more)
+
+-- ---- claims and values
+
+-- the second scenario is the first one with values
+pub record IsValued (m : ModelTree) (s t : Scenario) : Type 0 where
+  pub same : IsSameOrder s t
+  pub firsts : map pool_in t.firsts ≡ used_state_pools m s.actions
+
+blanks_keep : (m : ModelTree) (seed : ℕ) (more : List Blank) (s t : Scenario) (place : ℕ) (left : List ℕ) → IsValued m s t → Gives (IsValued m s) (read_blanks m seed more t place left)
+blanks_keep m seed [] s t place left valued = valued
+blanks_keep m seed (blank ∷ more) s t place left valued =
+    gives_seeded (IsValued m s) seed (options m blank) (λ k read. read_blanks m seed more (written read k blank)) t place left
+    (λ k next rest. blanks_keep m seed more s (written t k blank) next rest (record {
+      same = same_after s t (written t k blank) valued.same (written_keeps t k blank);
+      firsts = written_firsts t k blank ∙ valued.firsts;
+    }))
+
+pub values_keep : (m : ModelTree) (seed : ℕ) (s : Scenario) (place : ℕ) (left : List ℕ) → Gives (IsValued m s) (read_values m seed s place left)
+values_keep m seed s place left =
+    blanks_keep m seed (blanks m s.actions) s (with_firsts m s) place left (record {
+      same = record { level = refl; nodes = refl; acts = refl; kinds = refl; references = refl };
+      firsts = pools_of (used_state_pools m s.actions);
+    })
