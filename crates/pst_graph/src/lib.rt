@@ -15,5 +15,7 @@ mod plan;
 mod refusals;
 mod rows;
 mod square;
+mod whole;
 
 pub use plan::{PlanEnd, plan_of};
+pub use whole::plan;
