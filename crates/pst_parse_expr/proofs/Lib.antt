@@ -14,3 +14,9 @@ pub mod Rules
 pub mod Turns
 pub mod Operations
 pub mod Endings
+pub mod ConstraintExplains
+pub mod ConstraintAnswering
+pub mod Starts
+pub mod ConstraintAgain
+pub mod ConstraintDeciding
+pub mod ConstraintNoEnd

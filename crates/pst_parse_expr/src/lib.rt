@@ -1,11 +1,13 @@
 //! Parses expressions and constraints.
 #![tactic(auto)]
 
+mod constraint;
 mod expression;
 pub mod laws;
 mod operators;
 mod parse;
+mod shared;
 #[cfg(test)]
 mod tests;
 
-pub use parse::parse_expr;
+pub use parse::{parse_constraint, parse_expr};
