@@ -20,3 +20,6 @@ pub mod Starts
 pub mod ConstraintAgain
 pub mod ConstraintDeciding
 pub mod ConstraintNoEnd
+pub mod TooDeep
+pub mod SharedRules
+pub mod ConstraintRules

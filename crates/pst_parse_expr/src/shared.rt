@@ -3,7 +3,6 @@
 ghost use Rattle.std.specs.Prelude.{◌≡◌, ◌≤◌, ◌-◌, length, drop};
 ghost use Rattle.pst_ast.specs.ExpressionView.{view_expr};
 ghost use Rattle.pst_ast.specs.SharedView.{view_next_expr};
-ghost use Rattle.std.specs.Prelude.{id};
 ghost use Rattle.pst_reading.specs.Parser.{next};
 ghost use Rattle.pst_reading.specs.Reads.{Reads};
 ghost use Rattle.pst_parse_expr.specs.Constraints.{begins_expr};
@@ -126,7 +125,7 @@ pub fn next_exprs(
 // A name behind a dot.
 fn dot_name(tokens: &[Token], at: usize, depth: u32) -> Result<(DotName, usize), SyntaxFault>
     requires inside { at ≤ length tokens.now }
-    ensures { Reads id (dot_name_family depth) tokens.now at at 1 result }
+    ensures { Reads (λ name. name) (dot_name_family depth) tokens.now at at 1 result }
 {
     let dot = expect(tokens, at, Kind::Dot, depth, 0)?;
     let name = expect_name(tokens, at + 1, depth, 0)?;
