@@ -221,7 +221,11 @@ fn unique_item(
 }
 
 // The name of an index in its brackets, and the bracket behind it.
-fn read_subscript(tokens: &[Token], at: usize, depth: u32) -> Result<(Subscript, usize), SyntaxFault>
+fn read_subscript(
+    tokens: &[Token],
+    at: usize,
+    depth: u32,
+) -> Result<(Subscript, usize), SyntaxFault>
     requires inside { at ≤ length tokens.now }
     ensures { Reads view_subscript (subscript_family depth) tokens.now at at 1 result }
 {

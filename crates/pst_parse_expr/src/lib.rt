@@ -8,6 +8,8 @@ mod operators;
 mod parse;
 mod shared;
 #[cfg(test)]
+mod test_constraints;
+#[cfg(test)]
 mod tests;
 
 pub use parse::{parse_constraint, parse_expr};

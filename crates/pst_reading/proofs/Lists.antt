@@ -64,8 +64,8 @@ module _ {A : Type 0} (spell : A → List Token) (IsProper : A → Type 0) (coun
       let long = length-append (spell x) (flat_map spell xs) in
       let more = so_far ++ x ∷ [] in
       let one = turn_becomes (list_step begins part) turns so_far more (followed_by part (λ y. Done (so_far ++ y ∷ []))) ts us (counts x)
-          (ap (λ (b : Bool). if b then Some (followed_by part (λ y. Done (so_far ++ y ∷ []))) else None) (B x us proper.0).found)
-          (becomes_followed part (Done x) (λ y. Done (so_far ++ y ∷ [])) ts us (counts x) (R x us proper.0 (omega (arith, short, long)) (good_behind xs rest proper.1 good))) in
+      (ap (λ (b : Bool). if b then Some (followed_by part (λ y. Done (so_far ++ y ∷ []))) else None) (B x us proper.0).found)
+      (becomes_followed part (Done x) (λ y. Done (so_far ++ y ∷ [])) ts us (counts x) (R x us proper.0 (omega (arith, short, long)) (good_behind xs rest proper.1 good))) in
       let others = behind xs more turns rest proper.1 (omega (arith, few, long, some x)) (omega (arith, short, long)) none good in
       let all = becomes_on (repeat_by (list_step begins part) (suc turns) so_far) (repeat_by (list_step begins part) turns more) (Done (more ++ xs)) ts us rest (counts x) (flat_map counts xs) one others in
       subst (λ (u : List Token). Becomes (repeat_by (list_step begins part) (suc turns) so_far) u (counts x ++ flat_map counts xs) (Done (so_far ++ x ∷ xs)) rest) (sym (append_assoc (spell x) (flat_map spell xs) rest))
