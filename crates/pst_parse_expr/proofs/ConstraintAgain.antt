@@ -1,8 +1,7 @@
 -- Constraints read what they spell again.
-use Rattle.std.proofs.Common.{◌≡◌, ℕ, zero, suc, ◌+◌, ◌≤◌, ◌<◌, Bool, true, false, if◌then◌else◌, List, [], ◌∷◌, ◌++◌, length, Some, Option, None, refl, sym, ap, subst, ◌∙◌, arith, append-nil, append_assoc, length-append}
+use Rattle.std.proofs.Common.{◌≡◌, ℕ, zero, suc, ◌≤◌, ◌<◌, Bool, true, false, if◌then◌else◌, List, [], ◌∷◌, ◌++◌, length, Some, Option, refl, sym, ap, subst, ◌∙◌, arith, append-nil, append_assoc, length-append}
 use Rattle.std.specs.List.{flat_map, AllByRecursion}
 use Rattle.pst_base.specs.declared.position.Place.{Place}
-use Rattle.pst_token.specs.declared.kind.Kind.{Kind}
 use Rattle.pst_token.specs.declared.kind.Kind.TheVariants as kind
 use Rattle.pst_token.specs.declared.token.Token.{Token}
 use Rattle.pst_ast.specs.declared.leaf.Name.{Name}
@@ -20,9 +19,9 @@ use Rattle.pst_ast.specs.SharedLimits.{counts_next_expr, counts_dot_name}
 use Rattle.pst_ast.specs.ConstraintTree.{ConstraintTree, ConstraintOne, ConstraintBlock, ConstraintItemTree, ConstraintItemEmpty, ConstraintItemExpr, ConstraintItemImplies, ConstraintItemIf, ConstraintItemIfElse, ConstraintItemUnique, ConstraintItemForeach, ConstraintItemRow, NoConstraintItemRow, MoreConstraintItemRow}
 use Rattle.pst_ast.specs.ConstraintSpelling.{spell_constraint, spell_constraint_item, spell_constraint_item_row}
 use Rattle.pst_ast.specs.ConstraintProper.{constraint_ends_open, item_ends_open, IsProperConstraint, IsProperConstraintItem, AreProperConstraintItem}
-use Rattle.pst_ast.specs.ConstraintLimits.{counts_constraint, counts_constraint_item, counts_constraint_item_row}
+use Rattle.pst_ast.specs.ConstraintLimits.{counts_constraint, counts_constraint_item}
 use Rattle.pst_reading.specs.Kinds.{is_mark, next_is}
-use Rattle.pst_reading.specs.Parser.{Parser, Done, followed_by, next, if_mark}
+use Rattle.pst_reading.specs.Parser.{Parser, Done, next}
 use Rattle.pst_reading.proofs.Becoming.{Becomes, stays, becomes_both, becomes_followed}
 use Rattle.pst_reading.proofs.Marks.{choice_becomes}
 use Rattle.pst_reading.proofs.Tokens.{mark_is_so}
@@ -31,7 +30,7 @@ use Rattle.pst_reading.proofs.Lists.{StartsPart, list_again}
 use Rattle.pst_parse_expr.specs.Constraints.{Within, outermost_at, is_at, is_other, ConditionTree, condition_close, condition_inner, condition_by, next_expr_by, next_expr_inner, next_exprs_by, dot_name_by, dot_name_inner, dot_names_by, behind_expr, expr_end, implies_by, implied_by, expr_item_by, else_by, otherwise_by, maybe_else_by, behind_then, then_by, if_condition_by, if_by, unique_end, unique_close, unique_by, unique_open, unique_first, unique_rest, SubscriptTree, subscript_by, subscript_name, subscript_close, subscript_end, foreach_by, foreach_open, foreach_first, foreach_rest, foreach_index, foreach_set, empty_by, item_by, item_row, items_by, block_close, block_items, block_by, one_by, set_by, constraint_at}
 use Rattle.pst_parse_expr.proofs.Stops.{IsNo, Separates, separated, semicolon_closes, arrow_closes, right_parenthesis_closes, right_brace_closes, comma_closes}
 use Rattle.pst_parse_expr.proofs.ExprAgain.{expr_again}
-use Rattle.pst_parse_expr.proofs.Starts.{BeginsItem, begins_empty, begins_if, begins_unique, begins_foreach, begins_with_expr, starts_expr, StartsItem, item_starts}
+use Rattle.pst_parse_expr.proofs.Starts.{BeginsItem, begins_empty, begins_if, begins_unique, begins_foreach, begins_with_expr, starts_expr, item_starts}
 use Rattle.pst_parse_expr.proofs.ConstraintExplains.{spell_condition, IsProperCondition, counts_condition, spell_subscript, counts_subscript, IsAny, items_spelled, items_counted}
 
 -- what may follow a set: behind an open `if` no `else`

@@ -1,11 +1,9 @@
 -- What the rules of constraints explain.
-use Rattle.std.proofs.Common.{◌≡◌, ℕ, zero, suc, Bool, true, false, List, [], ◌∷◌, ◌++◌, refl, sym, ap, append-nil, append_assoc}
+use Rattle.std.proofs.Common.{◌≡◌, ℕ, zero, suc, Bool, true, false, List, [], ◌∷◌, ◌++◌, refl, ap, append-nil, append_assoc}
 use Rattle.std.specs.List.{flat_map, AllByRecursion}
 use Rattle.pst_base.specs.declared.position.Place.{Place}
 use Rattle.pst_token.specs.declared.kind.Kind.TheVariants as kind
 use Rattle.pst_token.specs.declared.token.Token.{Token}
-use Rattle.pst_ast.specs.declared.leaf.Name.{Name}
-use Rattle.pst_ast.specs.declared.shared.DotName.{DotName}
 use Rattle.pst_ast.specs.Closing.{origin}
 use Rattle.pst_ast.specs.Marks.{mark, name_token}
 use Rattle.pst_ast.specs.Limits.{Count, counted}
@@ -13,7 +11,7 @@ use Rattle.pst_ast.specs.ExpressionTree.{ExprTree}
 use Rattle.pst_ast.specs.ExpressionSpelling.{spell_expr}
 use Rattle.pst_ast.specs.ExpressionProper.{IsProperExpr}
 use Rattle.pst_ast.specs.ExpressionLimits.{counts_expr}
-use Rattle.pst_ast.specs.SharedTree.{NextExprTree, MakeNextExpr}
+use Rattle.pst_ast.specs.SharedTree.{MakeNextExpr}
 use Rattle.pst_ast.specs.SharedSpelling.{spell_next_expr, spell_dot_name}
 use Rattle.pst_ast.specs.SharedProper.{IsProperNextExpr}
 use Rattle.pst_ast.specs.SharedLimits.{counts_next_expr, counts_dot_name}
@@ -22,7 +20,7 @@ use Rattle.pst_ast.specs.ConstraintSpelling.{spell_constraint, spell_constraint_
 use Rattle.pst_ast.specs.ConstraintProper.{constraint_ends_open, IsProperConstraint, IsProperConstraintItem, AreProperConstraintItem}
 use Rattle.pst_ast.specs.ConstraintLimits.{counts_constraint, counts_constraint_item, counts_constraint_item_row}
 use Rattle.pst_reading.specs.Kinds.{is_mark, next_is}
-use Rattle.pst_reading.specs.Parser.{Parser, Done, followed_by, next, mark_by}
+use Rattle.pst_reading.specs.Parser.{Done, next}
 use Rattle.pst_reading.proofs.Explaining.{Meaning, Means, Explains, Behind, explains_done, refused_here}
 use Rattle.pst_reading.proofs.Marks.{explains_choice}
 use Rattle.pst_reading.proofs.Chains.{explains_mark, explains_name, explains_part}

@@ -1,7 +1,6 @@
 -- No set of constraints has the token `End` in it.
-use Rattle.std.proofs.Common.{List, [], ◌∷◌, ◌++◌}
+use Rattle.std.proofs.Common.{List, [], ◌∷◌}
 use Rattle.std.specs.List.{flat_map}
-use Rattle.pst_token.specs.declared.kind.Kind.TheVariants as kind
 use Rattle.pst_ast.specs.declared.shared.DotName.{DotName}
 use Rattle.pst_ast.specs.ExpressionSpelling.{spell_expr}
 use Rattle.pst_ast.specs.SharedTree.{NextExprTree, MakeNextExpr}

@@ -1,5 +1,5 @@
 -- What each rule of constraints gives, from what its parts give.
-use Rattle.std.proofs.Common.{◌≡◌, ℕ, zero, suc, ◌+◌, ◌-◌, ◌<◌, ◌≤◌, Bool, true, false, if◌then◌else◌, List, [], ◌∷◌, length, drop, refl, ap, sym, subst, ◌∙◌, arith, Err}
+use Rattle.std.proofs.Common.{◌≡◌, ℕ, zero, suc, ◌+◌, ◌-◌, ◌<◌, ◌≤◌, Bool, true, false, List, length, drop, refl, ap, subst, ◌∙◌, arith, Err}
 use Rattle.std.specs.Prelude.{map}
 use Rattle.std.specs.Global.{Vec}
 use Rattle.pst_base.specs.declared.position.Place.{Place}
@@ -23,7 +23,7 @@ use Rattle.pst_reading.specs.Kinds.{is_mark, next_is}
 use Rattle.pst_reading.specs.Parser.{Done, Outcome, Took, Refused, TooDeep, run, next, followed_by, mark_by, name_by, if_mark}
 use Rattle.pst_reading.specs.Gives.{Family, SettlesFrom, FailsFrom, Expects}
 use Rattle.pst_reading.proofs.Reaching.{Reaches, begin, step, mark_step, name_step, choose, ends, fails, mark_fails}
-use Rattle.pst_parse_expr.specs.Constraints.{outermost_at, ConditionTree, SubscriptTree, behind_expr, expr_end, implies_by, implied_by, expr_item_by, otherwise_by, else_by, maybe_else_by, behind_then, then_by, if_condition_by, if_by, unique_end, unique_close, unique_rest, unique_first, unique_open, unique_by, foreach_set, foreach_index, foreach_rest, foreach_first, foreach_open, foreach_by, empty_by, item_by, item_row, block_close, block_items, block_by, one_by, constraint_at}
+use Rattle.pst_parse_expr.specs.Constraints.{outermost_at, ConditionTree, SubscriptTree, behind_expr, expr_end, implies_by, implied_by, expr_item_by, otherwise_by, else_by, maybe_else_by, behind_then, then_by, if_condition_by, if_by, unique_end, unique_close, unique_rest, unique_first, unique_open, unique_by, foreach_set, foreach_index, foreach_rest, foreach_first, foreach_open, foreach_by, empty_by, item_row, block_close, block_items, one_by, constraint_at}
 use Rattle.pst_parse_expr.specs.ConstraintFamilies.{outermost_family, condition_family, next_exprs_family, dot_names_family, subscript_family, if_family, unique_family, foreach_family, expr_item_family, item_family, items_family, block_family, set_family}
 
 -- a set within another part, behind at least one token of it

@@ -1,5 +1,5 @@
 -- What the parts that several rules have give, from what their own parts give.
-use Rattle.std.proofs.Common.{◌≡◌, ℕ, suc, ◌+◌, ◌≤◌, List, length, drop, refl, ap, sym, ◌∙◌, arith, Err}
+use Rattle.std.proofs.Common.{◌≡◌, ℕ, suc, ◌+◌, ◌≤◌, List, length, drop, refl, arith, Err}
 use Rattle.pst_base.specs.declared.position.Place.{Place}
 use Rattle.pst_token.specs.declared.kind.Kind.TheVariants as kind
 use Rattle.pst_token.specs.declared.token.Token.{Token}

@@ -1,5 +1,5 @@
 -- Where one derivation too many is open, the first token of an expression is too deep.
-use Rattle.std.proofs.Common.{◌≡◌, ℕ, zero, suc, ◌+◌, ◌-◌, ◌<◌, ◌≤◌, Bool, true, false, ◌||◌, ltb, if◌then◌else◌, is_some, List, [], ◌∷◌, length, drop, Some, Option, None, refl, sym, ap, subst, ◌∙◌, arith}
+use Rattle.std.proofs.Common.{◌≡◌, ℕ, zero, suc, ◌+◌, ◌-◌, ◌<◌, ◌≤◌, Bool, true, false, ◌||◌, ltb, if◌then◌else◌, is_some, List, [], ◌∷◌, length, drop, Some, Option, None, refl, ap, ◌∙◌, arith}
 use Rattle.std.proofs.lemmas.Bool.{ltb-true, lt-ltb}
 use Rattle.pst_token.specs.declared.kind.Kind.{Kind}
 use Rattle.pst_token.specs.declared.kind.Kind.TheVariants as kind
@@ -10,7 +10,7 @@ use Rattle.pst_ast.specs.Limits.{Count, counted, is_over}
 use Rattle.pst_ast.specs.ExpressionTree.{ExprTree, ExprUnary, UnaryPrimary, UnaryPrefix, PrimaryNumber, PrimaryTrue, PrimaryFalse, PrimaryPath, PrimaryGroup, RangesTree}
 use Rattle.pst_ast.specs.ExpressionOperators.{operators_expr}
 use Rattle.pst_reading.specs.Kinds.{is_mark, is_name, is_number, next_is}
-use Rattle.pst_reading.specs.Parser.{Parser, Done, Wrong, Look, Take, followed_by, Outcome, Took, Refused, TooDeep, run, next, and_then, mark_by, name_by, if_mark, repeat_by}
+use Rattle.pst_reading.specs.Parser.{Parser, Done, Wrong, Take, followed_by, Outcome, Refused, TooDeep, run, next, and_then, mark_by, name_by, if_mark, repeat_by}
 use Rattle.pst_reading.specs.Gives.{FailsFrom}
 use Rattle.pst_reading.proofs.Becoming.{run_followed}
 use Rattle.pst_parse_expr.specs.Operators.{prefix_of}

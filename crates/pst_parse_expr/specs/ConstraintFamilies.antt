@@ -1,7 +1,6 @@
 -- The parsers of constraints for each size: each function of the program has one of these.
 use Rattle.std.specs.Prelude.{ℕ, suc, List, map}
 use Rattle.std.specs.Global.{Vec}
-use Rattle.pst_base.specs.declared.position.Place.{Place}
 use Rattle.pst_token.specs.declared.kind.Kind.TheVariants as kind
 use Rattle.pst_ast.specs.declared.shared.DotName.{DotName}
 use Rattle.pst_ast.specs.declared.shared.NextExpr.{NextExpr}

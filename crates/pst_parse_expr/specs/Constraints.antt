@@ -10,7 +10,7 @@ use Rattle.pst_ast.specs.ExpressionTree.{ExprTree}
 use Rattle.pst_ast.specs.SharedTree.{NextExprTree, MakeNextExpr}
 use Rattle.pst_ast.specs.ConstraintTree.{ConstraintTree, ConstraintOne, ConstraintBlock, ConstraintItemTree, ConstraintItemEmpty, ConstraintItemExpr, ConstraintItemImplies, ConstraintItemIf, ConstraintItemIfElse, ConstraintItemUnique, ConstraintItemForeach, ConstraintItemRow, NoConstraintItemRow, MoreConstraintItemRow}
 use Rattle.pst_ast.specs.ConstraintProper.{constraint_ends_open}
-use Rattle.pst_ast.specs.Limits.{Count, counted}
+use Rattle.pst_ast.specs.Limits.{counted}
 use Rattle.pst_reading.specs.Kinds.{is_mark, is_name, is_number, next_is}
 use Rattle.pst_reading.specs.Parser.{Parser, Done, Spent, followed_by, mark_by, name_by, if_mark}
 use Rattle.pst_reading.specs.Lists.{list_by}

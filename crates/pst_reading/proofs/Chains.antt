@@ -6,7 +6,7 @@ use Rattle.pst_token.specs.declared.token.Token.{Token}
 use Rattle.pst_ast.specs.declared.leaf.Name.{Name}
 use Rattle.pst_ast.specs.Limits.{Count}
 use Rattle.pst_ast.specs.Marks.{mark, name_token}
-use Rattle.pst_reading.specs.Parser.{Parser, Done, followed_by, mark_by, name_by}
+use Rattle.pst_reading.specs.Parser.{Parser, followed_by, mark_by, name_by}
 use Rattle.pst_reading.proofs.Becoming.{Becomes, becomes_both}
 use Rattle.pst_reading.proofs.Explaining.{Meaning, Means, Explains, Behind, explains_then}
 use Rattle.pst_reading.proofs.Marks.{IsMark, mark_explains, IsName, name_explains, mark_becomes, name_becomes}

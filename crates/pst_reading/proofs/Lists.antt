@@ -1,9 +1,9 @@
 -- Lists of parts: what their parser explains, reads again, and gives.
-use Rattle.std.proofs.Common.{◌≡◌, ℕ, zero, suc, ◌+◌, ◌<◌, ◌≤◌, Bool, true, false, if◌then◌else◌, List, [], ◌∷◌, ◌++◌, length, drop, Some, Option, None, refl, sym, ap, subst, ◌∙◌, arith, append-nil, append_assoc, length-append}
+use Rattle.std.proofs.Common.{◌≡◌, ℕ, zero, suc, ◌<◌, ◌≤◌, Bool, true, false, if◌then◌else◌, List, [], ◌∷◌, ◌++◌, length, drop, Some, Option, None, refl, sym, ap, subst, ◌∙◌, arith, append-nil, append_assoc, length-append}
 use Rattle.std.specs.List.{flat_map, AllByRecursion}
 use Rattle.std.proofs.lemmas.Grind.{flat_map-append}
 use Rattle.pst_token.specs.declared.token.Token.{Token}
-use Rattle.pst_ast.specs.Limits.{Count, is_over}
+use Rattle.pst_ast.specs.Limits.{Count}
 use Rattle.pst_ast.specs.declared.fault.SyntaxFault.{SyntaxFault}
 use Rattle.pst_reading.specs.Parser.{Parser, Done, Took, followed_by, next, repeat_by}
 use Rattle.pst_reading.specs.Lists.{list_step, list_by, listed}

@@ -1,5 +1,5 @@
 -- A parser at a place comes to what is left of it at a later place.
-use Rattle.std.proofs.Common.{◌≡◌, ℕ, ◌+◌, ◌≤◌, Bool, if◌then◌else◌, List, length, drop, refl, sym, ap, subst, ◌∙◌, arith, Err, Result, Ok}
+use Rattle.std.proofs.Common.{◌≡◌, ℕ, ◌+◌, ◌≤◌, Bool, if◌then◌else◌, List, length, drop, refl, ap, ◌∙◌, arith, Err, Result, Ok}
 use Rattle.pst_base.specs.declared.position.Place.{Place}
 use Rattle.pst_token.specs.declared.kind.Kind.{Kind}
 use Rattle.pst_token.specs.declared.token.Token.{Token}
@@ -10,7 +10,7 @@ use Rattle.pst_ast.specs.declared.leaf.Name.{Name}
 use Rattle.pst_reading.specs.Kinds.{is_mark, next_is}
 use Rattle.pst_reading.specs.Parser.{Parser, Done, followed_by, Outcome, Took, Refused, TooDeep, run, next, if_mark, mark_by, name_by, and_then}
 use Rattle.pst_reading.specs.Gives.{Family, SettlesFrom, FailsFrom, Expects}
-use Rattle.pst_reading.specs.Reads.{Read, Reads, ReadOpen, ReadsOpen}
+use Rattle.pst_reading.specs.Reads.{Reads, ReadsOpen}
 use Rattle.pst_reading.proofs.Becoming.{run_followed}
 use Rattle.pst_reading.proofs.Giving.{token_fails}
 

@@ -1,4 +1,4 @@
-use Rattle.std.proofs.Common.{arith, rules, false, true, ◌-◌, ◌+◌, ap, if◌then◌else◌, Bool}
+use Rattle.std.proofs.Common.{arith, rules, ◌-◌, ◌+◌}
 use Rattle.std.specs.Prelude.{map}
 use Rattle.std.proofs.lemmas.List.{map-append}
 use Rattle.std.proofs.lemmas.Result.{err_from_is_err_and}
@@ -11,7 +11,7 @@ use Rattle.pst_reading.proofs.Lists.{list_begins, list_turns, list_fails, list_e
 use Rattle.pst_reading.proofs.Reaching.{reads_open_on}
 use Rattle.pst_parse_expr.specs.Constraints.{is_other}
 use Rattle.pst_parse_expr.specs.ConstraintFamilies.{if_family, unique_family, foreach_family, expr_item_family, item_family, block_family, set_family, view_condition, view_subscript}
-use Rattle.pst_parse_expr.proofs.ConstraintRules.{block_view, expr_item_fails, semicolon_fails, expr_given, arrow_fails, implied_fails, implies_given, if_condition_fails, then_fails, if_given, else_fails, otherwise_fails, if_else_given, foreach_rest_fails, foreach_index_fails, foreach_set_fails, foreach_given, is_if, is_unique, is_foreach, is_expr, is_block, one_fails, one_given, block_items_fail, block_brace_fails, block_given}
+use Rattle.pst_parse_expr.proofs.ConstraintRules.{block_view, expr_item_fails, semicolon_fails, expr_given, arrow_fails, implied_fails, implies_given, if_condition_fails, then_fails, if_given, otherwise_fails, if_else_given, foreach_rest_fails, foreach_index_fails, foreach_set_fails, foreach_given, is_if, is_unique, is_foreach, is_expr, is_block, one_fails, one_given, block_items_fail, block_brace_fails, block_given}
 use Rattle.pst_parse_expr.proofs.constraint.+constraint.Goals as goal
 
 pub block-returns-in_err-items : goal.block-returns-in_err-items

@@ -1,6 +1,5 @@
-use Rattle.std.proofs.Common.{arith, sym, ◌∙◌, rules}
+use Rattle.std.proofs.Common.{rules}
 use Rattle.std.proofs.lemmas.Result.{err_from_is_err_and}
-use Rattle.pst_ast.specs.ExpressionView.{view_expr}
 use Rattle.pst_parse_expr.proofs.SharedRules.{outermost_settles, outermost_fails}
 use Rattle.pst_parse_expr.proofs.TooDeep.{begun_deep, not_begun}
 use Rattle.pst_parse_expr.proofs.shared.outermost.Goals as goal
