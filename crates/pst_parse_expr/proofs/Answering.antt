@@ -29,7 +29,7 @@ use Rattle.pst_reading.specs.Ended.{IsEnded}
 use Rattle.pst_reading.specs.Gives.{Given, SettlesFrom, FailsFrom}
 use Rattle.pst_reading.proofs.Whole.{read_answer, stopped_answer, deep_answer}
 
-explains : (depth n : ℕ) → Explains (Means spell_expr IsProperExpr (counts_expr depth 0)) (expr_at n depth 0)
+pub explains : (depth n : ℕ) → Explains (Means spell_expr IsProperExpr (counts_expr depth 0)) (expr_at n depth 0)
 explains depth n ts = wider (IsLevel 0 depth 0) (Means spell_expr IsProperExpr (counts_expr depth 0)) (expr_at n depth 0) ts (λ a text counts h. record { is = h.is; proper = h.proper; counted = h.counted }) (expr_explains n depth 0 ts)
 
 ends : (e : ExprTree) → IsProperExpr e → Stops 0 e None

@@ -14,3 +14,12 @@ pub mod Rules
 pub mod Turns
 pub mod Operations
 pub mod Endings
+pub mod ConstraintExplains
+pub mod ConstraintAnswering
+pub mod Starts
+pub mod ConstraintAgain
+pub mod ConstraintDeciding
+pub mod ConstraintNoEnd
+pub mod TooDeep
+pub mod SharedRules
+pub mod ConstraintRules

@@ -189,3 +189,15 @@ dots_close place = closes kind.DotDot place refl refl refl refl refl
 pub nothing_closes : Separates 0 None
 unfolding operator_of is_in
 nothing_closes = record { no_bracket = refl; no_dot = refl; no_colons = refl; loose = λ l le. (refl, and_right (l == 6) false refl) }
+
+pub semicolon_closes : (place : Place) → Separates 0 (Some (mark kind.Semicolon place))
+unfolding is_mark
+semicolon_closes place = closes kind.Semicolon place refl refl refl refl refl
+
+pub arrow_closes : (place : Place) → Separates 0 (Some (mark kind.Arrow place))
+unfolding is_mark
+arrow_closes place = closes kind.Arrow place refl refl refl refl refl
+
+pub right_brace_closes : (place : Place) → Separates 0 (Some (mark kind.RightBrace place))
+unfolding is_mark
+right_brace_closes place = closes kind.RightBrace place refl refl refl refl refl

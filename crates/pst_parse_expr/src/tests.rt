@@ -8,7 +8,7 @@ use pst_token::{Kind, Token};
 use std::alloc::Global;
 use std::test::*;
 
-fn token(kind: Kind) -> Token
+pub fn token(kind: Kind) -> Token
     ensures { result.kind ≡ kind }
 {
     Token {
@@ -25,7 +25,7 @@ fn token(kind: Kind) -> Token
 
 // Tokens of these kinds, and `End`.
 #[tactic(auto, using(crate::proofs::Endings::ended_push))]
-fn tokens_of(alloc: Global, kinds: &[Kind]) -> Result<Vec<Token>, NoMemory>
+pub fn tokens_of(alloc: Global, kinds: &[Kind]) -> Result<Vec<Token>, NoMemory>
     ensures { IfOk result (λ tokens. IsEnded tokens.items) }
 {
     let mut tokens = Vec::new(alloc);
@@ -47,7 +47,7 @@ fn outcome(alloc: Global, kinds: &[Kind], depth: u32) -> Result<usize, SyntaxFau
 }
 
 // A front, then so many times the two kinds, then a back.
-fn repeated(
+pub fn repeated(
     alloc: Global,
     front: &[Kind],
     pair: [Kind; 2],

@@ -10,3 +10,6 @@ pub mod Counted
 pub mod Final
 pub mod Looping
 pub mod Whole
+pub mod Reaching
+pub mod Lists
+pub mod Chains

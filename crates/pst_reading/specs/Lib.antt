@@ -2,3 +2,5 @@ pub mod Kinds
 pub mod Parser
 pub mod Gives
 pub mod Ended
+pub mod Lists
+pub mod Reads
