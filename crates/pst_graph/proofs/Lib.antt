@@ -6,3 +6,6 @@ mod Loops
 mod Grouped
 mod Squares
 mod Adding
+mod Preorder
+mod Ends
+mod Leaves

@@ -3,3 +3,5 @@ pub mod Links
 pub mod Acts
 pub mod Grouping
 pub mod Squares
+pub mod Tables
+pub mod Tabled

@@ -10,3 +10,4 @@ mod links;
 mod parallel;
 mod rows;
 mod square;
+mod tables;
