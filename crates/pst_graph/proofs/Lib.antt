@@ -9,3 +9,4 @@ mod Adding
 mod Preorder
 mod Ends
 mod Leaves
+mod BehindRange

@@ -6,7 +6,7 @@ use Rattle.pst_scen.specs.declared.tree.Fill.TheVariants.{Compound, Leaf, Sequen
 use Rattle.pst_scen.specs.Tree.{IsChild, StandsUnder}
 use Rattle.pst_scen.specs.Laws.{IsPreorder}
 use Rattle.pst_scen.specs.Scenarios.{AreInPreorder}
-use Rattle.pst_graph.specs.Over.{IsLeafOf, IsAwaited}
+use Rattle.pst_graph.specs.Over.{IsLeafOf, Over, IsAwaited}
 
 abbrev pub is_leaf : Fill → Bool
 is_leaf (Leaf act) = true
@@ -64,3 +64,9 @@ pub record AreEndsFrom (nodes : List Node) (ends : List ℕ) (from : ℕ) : Type
   pub many : length ends ≡ length nodes
   pub last : (n : ℕ) → n < length nodes → (last : ℕ) × (get_or ends n 0 ≡ last + 1) × StandsUnder nodes n last
   pub kept : (child parent : ℕ) → from ≤ child → IsChild nodes child parent → get_or ends child 0 ≤ get_or ends parent 0
+
+-- The first action's leaf, or something over it, stands in a sequence that awaits it before the second's leaf.
+pub record StandsBefore (nodes : List Node) (a b : ℕ) : Type 0 where
+  pub leaf : ℕ
+  pub of_act : IsLeafOf nodes a leaf
+  pub over : Over nodes (λ n. IsBehind nodes leaf n b) leaf

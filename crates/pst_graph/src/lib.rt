@@ -2,6 +2,7 @@
 #![tactic(auto)]
 
 mod before;
+mod behind;
 mod cause;
 mod climb;
 mod direct;
