@@ -10,3 +10,4 @@ mod Preorder
 mod Ends
 mod Leaves
 mod BehindRange
+mod Numbered
