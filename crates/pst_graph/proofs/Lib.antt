@@ -6,8 +6,12 @@ mod Loops
 mod Grouped
 mod Squares
 mod Adding
+mod Names
 mod Preorder
 mod Ends
 mod Leaves
 mod BehindRange
 mod Numbered
+mod Joins
+mod Closes
+mod Chains

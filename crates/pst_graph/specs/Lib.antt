@@ -5,3 +5,6 @@ pub mod Grouping
 pub mod Squares
 pub mod Tables
 pub mod Tabled
+pub mod Chains
+pub mod Bits
+pub mod Named

@@ -59,3 +59,9 @@ pub record IsWithin (first from to k : ℕ) : Type 0 where
 pub record IsInRangeTo (a from to w c d : ℕ) : Type 0 where
   pub in_range : IsInRange a from to c d
   pub word : d / 64 < w
+
+-- a relation of the family, of an index below that number, has the pair
+pub record IsOneOf (F : ℕ → ℕ → ℕ → Type 0) (to c d : ℕ) : Type 0 where
+  pub index : ℕ
+  pub below : index < to
+  pub has : F index c d
