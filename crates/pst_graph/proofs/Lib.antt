@@ -6,6 +6,7 @@ mod Loops
 mod Grouped
 mod Squares
 mod Adding
+mod Lists
 mod Names
 mod Preorder
 mod Ends

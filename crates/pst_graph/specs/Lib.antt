@@ -8,3 +8,4 @@ pub mod Tabled
 pub mod Chains
 pub mod Bits
 pub mod Named
+pub mod Listed

@@ -12,6 +12,7 @@ mod links;
 mod named;
 mod must;
 mod parallel;
+mod replaced;
 mod rows;
 mod square;
 mod tables;
