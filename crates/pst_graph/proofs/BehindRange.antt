@@ -70,7 +70,7 @@ module _ (nodes : List Node) (leaf n sequence : ℕ) (child : IsChild nodes n se
         }
 
 -- an action has one leaf
-same_leaf : (nodes : List Node) (act m n : ℕ) → AreNumbered nodes → IsLeafOf nodes act m → IsLeafOf nodes act n → m ≡ n
+pub same_leaf : (nodes : List Node) (act m n : ℕ) → AreNumbered nodes → IsLeafOf nodes act m → IsLeafOf nodes act n → m ≡ n
 same_leaf nodes act m n numbered first second = go (cases_lt m n) (cases_lt n m)
   where
     apart : (x y : ℕ) → IsLeafOf nodes act x → IsLeafOf nodes act y → x < y → ⊥

@@ -7,12 +7,14 @@ mod Grouped
 mod Squares
 mod Adding
 mod Lists
+mod Spreads
 mod Names
 mod Preorder
 mod Ends
 mod Leaves
 mod BehindRange
 mod Numbered
+mod DirectRows
 mod Joins
 mod Closes
 mod Chains

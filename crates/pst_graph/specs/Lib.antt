@@ -9,3 +9,4 @@ pub mod Chains
 pub mod Bits
 pub mod Named
 pub mod Listed
+pub mod Spread
