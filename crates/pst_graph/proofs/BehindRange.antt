@@ -127,12 +127,12 @@ pub no_row : (nodes : List Node) (old : Rows) (leaves : List ℕ) (a : ℕ) → 
 no_row nodes old leaves a numbered are more =
     adds_none old (IsInRow (StandsBefore nodes) a)
     (λ c d h.
-        let leaf = h.related.leaf in
-        let of_act = h.related.of_act in
-        let at : c ≡ leaf_count nodes leaf = numbered.leaves leaf c of_act in
-        let within : leaf < length nodes = leaf_within nodes c leaf of_act in
-        let step : leaf_count nodes (leaf + 1) ≡ leaf_count nodes leaf + 1 = leaf_counted nodes c leaf of_act in
-        let upper = leaves_grow nodes (leaf + 1) (length nodes) (omega (arith, within)) (omega arith) in
-        let many = are.many in
-        let same = h.first in
-        omega (arith, at, step, upper, many, same, more))
+    let leaf = h.related.leaf in
+    let of_act = h.related.of_act in
+    let at : c ≡ leaf_count nodes leaf = numbered.leaves leaf c of_act in
+    let within : leaf < length nodes = leaf_within nodes c leaf of_act in
+    let step : leaf_count nodes (leaf + 1) ≡ leaf_count nodes leaf + 1 = leaf_counted nodes c leaf of_act in
+    let upper = leaves_grow nodes (leaf + 1) (length nodes) (omega (arith, within)) (omega arith) in
+    let many = are.many in
+    let same = h.first in
+    omega (arith, at, step, upper, many, same, more))

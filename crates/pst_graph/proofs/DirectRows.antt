@@ -30,7 +30,7 @@ use Rattle.pst_graph.proofs.Adding.{adds_as, adds_then}
 use Rattle.pst_graph.proofs.BehindRange.{same_leaf}
 use Rattle.pst_graph.proofs.Climbs.{one_child}
 use Rattle.pst_graph.proofs.Grouped.{same_group, inside}
-use Rattle.pst_graph.proofs.Numbered.{built_numbered, stands_before}
+use Rattle.pst_graph.proofs.LeafNumbers.{built_numbered, stands_before}
 
 pub leaves_fit : (s : Scenario) (leaves : List ℕ) → IsLinked s → AreLeaves s.nodes leaves (length s.nodes) → leaf_count s.nodes (length s.nodes) ≤ length s.actions
 leaves_fit s leaves linked are = go (cases_lt (length s.actions) (leaf_count s.nodes (length s.nodes)))

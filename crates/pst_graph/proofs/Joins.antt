@@ -10,7 +10,7 @@ use Rattle.pst_graph.proofs.Grouped.{same_or_not}
 
 -- BITS OF WORDS
 
-set_is_one : (n k : ℕ) → IsBitSet n k ↔ bit_at n k ≡ 1
+pub set_is_one : (n k : ℕ) → IsBitSet n k ↔ bit_at n k ≡ 1
 set_is_one n k =
     let same = bit_set_by_shift n k in (
       λ s. sym (shr_and_one n k) ∙ same.1 s,

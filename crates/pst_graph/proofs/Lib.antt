@@ -13,8 +13,13 @@ mod Preorder
 mod Ends
 mod Leaves
 mod BehindRange
-mod Numbered
+mod LeafNumbers
 mod DirectRows
 mod Joins
 mod Closes
 mod Chains
+mod Nexts
+mod Least
+mod Refused
+mod Numbered
+mod Ended

@@ -57,15 +57,15 @@ module _ (P : ℕ → ℕ → Type 0) (first end : Rows) (list : List ℕ) where
       adds_as first end (IsOneOf (λ i. IsOnly P a (get_or list i 0)) to) (IsInRow P a) added
       (λ c d c_in d_in h. record { first = h.has.pair.first; related = h.has.related })
       (λ c d c_in d_in h.
-          let at = all.all d (subst (λ (m : ℕ). d < m) size d_in) (has c d h.related) in
-          let within = at.1 in
-          record { index = at.0; below = omega (arith, within, upper); has = record { pair = record { first = h.first; second = sym at.2 }; related = h.related } })
+      let at = all.all d (subst (λ (m : ℕ). d < m) size d_in) (has c d h.related) in
+      let within = at.1 in
+      record { index = at.0; below = omega (arith, within, upper); has = record { pair = record { first = h.first; second = sym at.2 }; related = h.related } })
 
   pub listed_rows : (Q : ℕ → Type 0) (n : ℕ) → first.size ≡ n → ListsAll Q n list → ((c d : ℕ) → P c d → Q c) → (to : ℕ) → length list ≤ to → to ≤ length list → Adds first end (IsOneOf (λ i. IsInRow P (get_or list i 0)) to) → Adds first end P
   listed_rows Q n size all has to upper lower added =
       adds_as first end (IsOneOf (λ i. IsInRow P (get_or list i 0)) to) P added
       (λ c d c_in d_in h. h.has.related)
       (λ c d c_in d_in h.
-          let at = all.all c (subst (λ (m : ℕ). c < m) size c_in) (has c d h) in
-          let within = at.1 in
-          record { index = at.0; below = omega (arith, within, upper); has = record { first = sym at.2; related = h } })
+      let at = all.all c (subst (λ (m : ℕ). c < m) size c_in) (has c d h) in
+      let within = at.1 in
+      record { index = at.0; below = omega (arith, within, upper); has = record { first = sym at.2; related = h } })

@@ -25,13 +25,13 @@ pub naming_more : (first middle last : Rows) (references : List Filled) (x i : �
 naming_more first middle last references x i filled is one two =
     family_more (IsNamingAt references x) first middle last i one
     (adds_as middle last (IsNaming filled x) (IsNamingAt references x i) two
-        (λ c d c_in d_in h. record { filled = filled; is = is; naming = h })
-        (λ c d c_in d_in h. subst (λ (f : Filled). IsNaming f x c d) (same_some h.filled filled (sym h.is ∙ is)) h.naming))
+    (λ c d c_in d_in h. record { filled = filled; is = is; naming = h })
+    (λ c d c_in d_in h. subst (λ (f : Filled). IsNaming f x c d) (same_some h.filled filled (sym h.is ∙ is)) h.naming))
 
 pub naming_all : (first last : Rows) (references : List Filled) (x n : ℕ) → length references ≤ n → Adds first last (IsOneOf (IsNamingAt references x) n) → Adds first last (IsNamingIn references x)
 naming_all first last references x n all added =
     adds_as first last (IsOneOf (IsNamingAt references x) n) (IsNamingIn references x) added
     (λ c d c_in d_in h. record { place = h.index; at = h.has })
     (λ c d c_in d_in h.
-        let within : h.place < length references = slice_get_within references h.place h.at.filled h.at.is in
-        record { index = h.place; below = omega (arith, within, all); has = h.at })
+    let within : h.place < length references = slice_get_within references h.place h.at.filled h.at.is in
+    record { index = h.place; below = omega (arith, within, all); has = h.at })

@@ -10,3 +10,5 @@ pub mod Bits
 pub mod Named
 pub mod Listed
 pub mod Spread
+pub mod Next
+pub mod Ends

@@ -9,12 +9,17 @@ mod closure;
 mod direct;
 mod groups;
 mod links;
-mod named;
 mod must;
+mod named;
+mod next;
 mod parallel;
 mod plainly;
+mod plan;
+mod refusals;
 mod replaced;
 mod rows;
 mod spread;
 mod square;
 mod tables;
+
+pub use plan::{PlanEnd, plan_of};

@@ -31,12 +31,7 @@ fn uses_flow(scenario: &Scenario, flow: Flow, a: u32) -> bool
 }
 
 /// Appends the action, where it has a reference of this kind.
-fn push_user(
-    users: &mut Vec<u32>,
-    scenario: &Scenario,
-    flow: Flow,
-    a: u32,
-) -> Result<(), NoMemory>
+fn push_user(users: &mut Vec<u32>, scenario: &Scenario, flow: Flow, a: u32) -> Result<(), NoMemory>
     requires a_in { a < length scenario.now.actions }
     requires before { ListsAll (UsesFlow scenario.now flow) a users.old.items }
     ensures { IfOk result (λ u. ListsAll (UsesFlow scenario.now flow) (a + 1) users.new.items) }

@@ -26,17 +26,17 @@ returns c =
     let to : c.leaves_until_end-to.result ≡ leaf_count nodes last = c.leaves_until_end-to.ensures in
     adds_as c.args.square.now c.add_range.new.self (IsInRange c.args.a c.leaves_until_end-from.result c.leaves_until_end-to.result) (IsInRow (λ x d. IsBehind nodes c.args.leaf c.args.n d) c.args.a) c.add_range.ensures
     (λ x d x_in d_in h.
-        let low = h.least in
-        let high = h.below in
-        record {
-          first = h.first;
-          related = range_behind nodes c.args.leaf c.args.n c.args.sequence c.requires.child c.requires.numbered c.args.tables.now.leaves.items c.requires.tables.leaves end last
-              (ends.each c.args.n c.requires.n_in) (ends.each c.args.sequence c.requires.sequence_in) (ends.within c.args.n c.requires.n_in) (ends.within c.args.sequence c.requires.sequence_in)
-              (c.if-not-is_sequence.ensures.0 refl) (λ over. no_true (c.if-is_released.ensures.1 over)) d (omega (arith, low, from)) (omega (arith, high, to));
-        })
+    let low = h.least in
+    let high = h.below in
+    record {
+      first = h.first;
+      related = range_behind nodes c.args.leaf c.args.n c.args.sequence c.requires.child c.requires.numbered c.args.tables.now.leaves.items c.requires.tables.leaves end last
+          (ends.each c.args.n c.requires.n_in) (ends.each c.args.sequence c.requires.sequence_in) (ends.within c.args.n c.requires.n_in) (ends.within c.args.sequence c.requires.sequence_in)
+          (c.if-not-is_sequence.ensures.0 refl) (λ over. no_true (c.if-is_released.ensures.1 over)) d (omega (arith, low, from)) (omega (arith, high, to));
+    })
     (λ x d x_in d_in h.
-        let range = behind_range nodes c.args.leaf c.args.n c.args.sequence c.requires.child c.requires.numbered c.args.tables.now.leaves.items c.requires.tables.leaves end last
-        (ends.each c.args.n c.requires.n_in) (ends.each c.args.sequence c.requires.sequence_in) (ends.within c.args.n c.requires.n_in) (ends.within c.args.sequence c.requires.sequence_in) d h.related in
-        let low = range.0 in
-        let high = range.1 in
-        record { first = h.first; least = omega (arith, low, from); below = omega (arith, high, to) })
+    let range = behind_range nodes c.args.leaf c.args.n c.args.sequence c.requires.child c.requires.numbered c.args.tables.now.leaves.items c.requires.tables.leaves end last
+    (ends.each c.args.n c.requires.n_in) (ends.each c.args.sequence c.requires.sequence_in) (ends.within c.args.n c.requires.n_in) (ends.within c.args.sequence c.requires.sequence_in) d h.related in
+    let low = range.0 in
+    let high = range.1 in
+    record { first = h.first; least = omega (arith, low, from); below = omega (arith, high, to) })

@@ -7,4 +7,4 @@ pub add_namings-requires-clause-inside : goal.add_namings-requires-clause-inside
 add_namings-requires-clause-inside c = λ i a filled is leads.
     subst (λ (n : ℕ). a < n) (sym c.requires.size)
     (link_inside c.args.scenario.now c.args.x c.act_at-act.result.now c.requires.linked c.act_at-act.ensures i a filled
-        (subst (λ (references : List Filled). slice_get references i ≡ Some filled) c.as_slice.ensures is) leads)
+    (subst (λ (references : List Filled). slice_get references i ≡ Some filled) c.as_slice.ensures is) leads)

@@ -2,7 +2,7 @@ use Rattle.std.proofs.Common.{◌≤◌, ℕ, List, length, sym, subst, ◌∙�
 use Rattle.pst_scen.specs.declared.tree.Node.{Node}
 use Rattle.pst_graph.specs.Squares.{Adds}
 use Rattle.pst_graph.specs.Tables.{AreNumbered, StandsBefore, leaf_count}
-use Rattle.pst_graph.proofs.Numbered.{built_numbered}
+use Rattle.pst_graph.proofs.LeafNumbers.{built_numbered}
 use Rattle.pst_graph.proofs.DirectRows.{leaves_fit, causes_added}
 use Rattle.pst_graph.proofs.rows.add_causes.Goals as goal
 

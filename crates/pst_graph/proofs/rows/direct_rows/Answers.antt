@@ -25,5 +25,5 @@ returns c =
       λ a b a_in b_in.
           subst (λ (r : Rows). Has r a b ↔ MustDirectly c.args.scenario.now a b) (sym c.into_rows.ensures.is)
           (spread_direct c.args.scenario.now c.args.groups.now c.in_ok-square.square c.add_causes.new.square c.spread.new.square c.requires.built.linked c.requires.numbers
-              (subst (λ (n : ℕ). IsBlank c.in_ok-square.square n) c.requires.count blank) added spread a b a_in b_in),
+          (subst (λ (n : ℕ). IsBlank c.in_ok-square.square n) c.requires.count blank) added spread a b a_in b_in),
     )

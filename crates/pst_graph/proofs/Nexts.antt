@@ -1,0 +1,83 @@
+-- The lowest bit of a word, and the bits of a row from one on.
+use Rattle.std.proofs.Common.{◌≡◌, ◌↔◌, ◌⊎◌, inl, inr, ⊎_elim, ◌<◌, ◌≤◌, ◌+◌, ◌*◌, ◌/◌, ◌%◌, ◌^◌, ◌-◌, ℕ, List, length, get_or, refl, sym, ap, subst, ◌∙◌, arith}
+use Rattle.std.specs.Prelude.{IsBitSet, Option, None, Some, MatchOption}
+use Rattle.std.specs.Int.{bit_at, trailing_zeros, w64}
+use Rattle.std.proofs.lemmas.Bool.{cases_lt}
+use Rattle.std.proofs.lemmas.Nat.{shr-shr}
+use Rattle.std.proofs.lemmas.Nat.Bits.{bit_at_above, bit_at-trailing_zeros}
+use Rattle.pst_scen.specs.declared.rows.Rows.{Rows}
+use Rattle.pst_scen.specs.Rows.{row_words, Has}
+use Rattle.pst_graph.specs.Next.{IsNext, IsLowest}
+use Rattle.pst_graph.proofs.Joins.{set_is_one}
+
+shifted_bit : (word j k : ℕ) → bit_at (word / 2 ^ j) k ≡ bit_at word (j + k)
+shifted_bit word j k = ap (λ x. x % 2) (shr-shr word j k)
+
+pub shifted_set : (word j k : ℕ) → IsBitSet (word / 2 ^ j) k ↔ IsBitSet word (j + k)
+shifted_set word j k = (
+  λ s. (set_is_one word (j + k)).1 (sym (shifted_bit word j k) ∙ (set_is_one (word / 2 ^ j) k).0 s),
+  λ s. (set_is_one (word / 2 ^ j) k).1 (shifted_bit word j k ∙ (set_is_one word (j + k)).0 s),
+)
+
+-- a word of 64 bits has no bit from 64 on
+pub high_free : (word k : ℕ) → word < 2 ^ 64 → 64 ≤ k → IsBitSet word k → ⊥
+high_free word k small high s = let one = (set_is_one word k).0 s in let none = bit_at_above word 64 k small high in omega (arith, one, none)
+
+pub shifted_has : (word bit k : ℕ) → word < 2 ^ 64 → IsBitSet (word / 2 ^ bit) k ↔ (bit + k < 64) × IsBitSet word (bit + k)
+shifted_has word bit k small = (there, λ h. (shifted_set word bit k).1 h.1)
+  where
+    there : IsBitSet (word / 2 ^ bit) k → (bit + k < 64) × IsBitSet word (bit + k)
+    there s =
+        let set = (shifted_set word bit k).0 s in
+        ⊎_elim (λ less. (less, set)) (λ high. absurd (high_free word (bit + k) small high set)) (cases_lt (bit + k) 64)
+
+pub rest_has : (words : List ℕ) (row a b rest : ℕ) → ((k : ℕ) → IsBitSet rest k ↔ (b % 64 + k < 64) × IsBitSet (get_or words (a * row + b / 64) 0) (b % 64 + k))
+    → (k : ℕ) → IsBitSet rest k ↔ (b % 64 + k < 64) × IsBitSet (get_or words (a * row + (b + k) / 64) 0) ((b + k) % 64)
+rest_has words row a b rest is k = (λ s. let h = (is k).0 s in (h.0, (here h.0).0 h.1), λ h. (is k).1 (h.0, (here h.0).1 h.1))
+  where
+    here : b % 64 + k < 64 → IsBitSet (get_or words (a * row + b / 64) 0) (b % 64 + k) ↔ IsBitSet (get_or words (a * row + (b + k) / 64) 0) ((b + k) % 64)
+    here less =
+        let quotient : b / 64 ≡ (b + k) / 64 = omega (arith, less) in
+        let bit : b % 64 + k ≡ (b + k) % 64 = omega (arith, less) in (
+          λ s. subst (λ (q : ℕ). IsBitSet (get_or words (a * row + q) 0) ((b + k) % 64)) quotient (subst (λ (r : ℕ). IsBitSet (get_or words (a * row + b / 64) 0) r) bit s),
+          λ s. subst (λ (r : ℕ). IsBitSet (get_or words (a * row + b / 64) 0) r) (sym bit) (subst (λ (q : ℕ). IsBitSet (get_or words (a * row + q) 0) ((b + k) % 64)) (sym quotient) s),
+        )
+
+-- the row has none behind the first number, below the second
+abbrev pub HasNoneBelow : Rows → ℕ → ℕ → ℕ → Type 0
+HasNoneBelow rows a after to = (b : ℕ) → after < b → b < to → Has rows a b → ⊥
+
+module _ (rows : Rows) (a after at rest : ℕ) (before : HasNoneBelow rows a after at) (is : (k : ℕ) → IsBitSet rest k ↔ (at % 64 + k < 64) × Has rows a (at + k)) where
+  next_below : (k : ℕ) → IsLowest rest k → HasNoneBelow rows a after (at + k)
+  next_below k h c low high has = ⊎_elim (λ less. before c low less has) here (cases_lt c at)
+    where
+      here : at ≤ c → ⊥
+      here more =
+          let fits = ((is k).0 h.set).0 in
+          let same : at + (c - at) ≡ c = omega (arith, more) in
+          let less : c - at < k = omega (arith, more, high) in
+          h.none (c - at) less ((is (c - at)).1 (omega (arith, fits, less), subst (λ (x : ℕ). Has rows a x) (sym same) has))
+
+  pub next_word : ((k : ℕ) → IsBitSet rest k → ⊥) → HasNoneBelow rows a after (at + (64 - at % 64))
+  next_word none c low high has = ⊎_elim (λ less. before c low less has) here (cases_lt c at)
+    where
+      here : at ≤ c → ⊥
+      here more =
+          let same : at + (c - at) ≡ c = omega (arith, more) in
+          let fits : at % 64 + (c - at) < 64 = omega (arith, more, high) in
+          none (c - at) ((is (c - at)).1 (fits, subst (λ (x : ℕ). Has rows a x) (sym same) has))
+
+  pub next_found : (k : ℕ) (result : Option ℕ) → after < at → IsLowest rest k → MatchOption result (rows.size ≤ at + k) (λ n. (n ≡ at + k) × (at + k < rows.size)) → MatchOption result (HasNoneBelow rows a after rows.size) (IsNext rows a after)
+  next_found k None on h out = λ c low inside. next_below k h c low (omega (arith, inside, out))
+  next_found k (Some n) on h is_n =
+      let same = is_n.0 in
+      subst (λ (x : ℕ). IsNext rows a after x) (sym same)
+      (record { behind = omega (arith, on); inside = is_n.1; has = ((is k).0 h.set).1; none = next_below k h })
+
+pub lowest_bit : (word : ℕ) → word < 2 ^ 64 → (word ≡ 0 → ⊥) → IsLowest word (trailing_zeros w64 word)
+lowest_bit word small some =
+    let at = bit_at-trailing_zeros w64 word (omega (arith, some)) small in
+    record {
+      set = (set_is_one word (trailing_zeros w64 word)).1 at.1;
+      none = λ k less s. let one = (set_is_one word k).0 s in let none = at.2 k less in omega (arith, one, none);
+    }

@@ -1,0 +1,9 @@
+use Rattle.std.proofs.Common.{◌<◌, ◌-◌}
+use Rattle.pst_graph.proofs.Nexts.{HasNoneBelow}
+use Rattle.pst_graph.proofs.next.next_in.Given as goal
+
+abbrev pub decreases-words : goal.decreases-words
+decreases-words l = l.rows.size - l.at
+
+abbrev pub invariant-words : goal.invariant-words
+invariant-words l = record { behind : l.after < l.at; none : HasNoneBelow l.rows l.a l.after l.at }

@@ -1,0 +1,10 @@
+use Rattle.std.proofs.Common.{◌<◌, ◌≤◌, ◌-◌, length}
+use Rattle.pst_scen.specs.Refusals.{IsParallelClash}
+use Rattle.pst_graph.proofs.Least.{HoldsNowhereTo}
+use Rattle.pst_graph.proofs.refusals.find_contender_of.Given as goal
+
+abbrev pub decreases-rest : goal.decreases-rest
+decreases-rest l = length l.scenario.actions - l.at
+
+abbrev pub invariant-rest : goal.invariant-rest
+invariant-rest l = record { behind : l.a ≤ l.at; before : HoldsNowhereTo (IsParallelClash l.scenario l.a) l.at }

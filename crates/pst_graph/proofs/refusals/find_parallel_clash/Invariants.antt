@@ -1,0 +1,6 @@
+use Rattle.std.proofs.Common.{◌<◌, ℕ}
+use Rattle.pst_scen.specs.Refusals.{IsParallelClash}
+use Rattle.pst_graph.proofs.refusals.find_parallel_clash.Given as goal
+
+abbrev pub invariant-loop-a : goal.invariant-loop-a
+invariant-loop-a l = (c d : ℕ) → c < l.a → IsParallelClash l.scenario c d → ⊥
