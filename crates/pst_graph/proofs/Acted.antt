@@ -15,7 +15,7 @@ use Rattle.pst_graph.specs.Links.{HasLink, HasUse, WritesUsed, HasDispute}
 use Rattle.pst_graph.specs.Acts.{NamesStream, LinksOrder, ByBuffer, BySource, ByPrevious, ByReader, Touches}
 use Rattle.pst_graph.proofs.Climbs.{same_some}
 
-one_act : (s : Scenario) (a : ℕ) (x y : Act) → IsAct s a x → IsAct s a y → x ≡ y
+pub one_act : (s : Scenario) (a : ℕ) (x y : Act) → IsAct s a x → IsAct s a y → x ≡ y
 one_act s a x y is other = same_some x y (sym is ∙ other)
 
 module _ (s : Scenario) (a : ℕ) (act : Act) (is_act : IsAct s a act) where

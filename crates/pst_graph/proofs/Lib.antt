@@ -4,6 +4,7 @@ mod Bits
 mod Acted
 mod Loops
 mod Grouped
+mod Streaming
 mod Squares
 mod Adding
 mod Lists

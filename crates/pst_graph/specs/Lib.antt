@@ -12,3 +12,4 @@ pub mod Listed
 pub mod Spread
 pub mod Next
 pub mod Ends
+pub mod Streamed
