@@ -14,3 +14,4 @@ mod Least
 mod Refused
 mod Numbered
 mod Ended
+mod Walking

@@ -7,3 +7,4 @@ pub mod Chains
 pub mod Bits
 pub mod Next
 pub mod Ends
+pub mod Walks

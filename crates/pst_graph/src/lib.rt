@@ -15,5 +15,6 @@ mod plan;
 mod refusals;
 mod rows;
 mod square;
+mod walk;
 
 pub use plan::{PlanEnd, plan_of};
