@@ -20,7 +20,7 @@ one_act s a x y is other = same_some x y (sym is ∙ other)
 
 module _ (s : Scenario) (a : ℕ) (act : Act) (is_act : IsAct s a act) where
   -- a reference at a place of the action's list
-  referred : (n : ℕ) (filled : Filled) → slice_get act.references n ≡ Some filled → Refers s a filled.flow filled.pool filled.link
+  pub referred : (n : ℕ) (filled : Filled) → slice_get act.references n ≡ Some filled → Refers s a filled.flow filled.pool filled.link
   referred n filled is = record { act = act; reference = n; filled = filled; is_act = is_act; is = is; of_flow = refl; of_pool = refl; linked = refl }
 
   placed : {flow : Flow} {pool : ℕ} {to : Link} → (r : Refers s a flow pool to) → slice_get act.references r.reference ≡ Some r.filled

@@ -6,6 +6,15 @@ mod Loops
 mod Grouped
 mod Squares
 mod Adding
+mod Lists
+mod Spreads
+mod Names
+mod Preorder
+mod Ends
+mod Leaves
+mod BehindRange
+mod LeafNumbers
+mod DirectRows
 mod Joins
 mod Closes
 mod Chains

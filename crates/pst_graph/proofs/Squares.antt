@@ -5,7 +5,7 @@ use Rattle.std.specs.Int.{bit_at}
 use Rattle.std.proofs.lemmas.Bool.{cases_lt}
 use Rattle.std.proofs.lemmas.List.{get_or-set_same, get_or-set_other}
 use Rattle.std.proofs.lemmas.Nat.{div-mul-add}
-use Rattle.std.proofs.lemmas.Nat.Bits.{and_pow, bit_at_or, bit_at-lt, bit_at-zero}
+use Rattle.std.proofs.lemmas.Nat.Bits.{and_pow, bit_at_or, bit_at-lt, bit_at-zero, bit_at_ones, bit_at_ones_above}
 use Rattle.std.proofs.Math.Pow.{pow_pos}
 use Rattle.pst_scen.specs.declared.rows.Rows.{Rows}
 use Rattle.pst_scen.specs.Rows.{row_words, Has}
@@ -58,6 +58,14 @@ or_bit n m k = (
     joined : IsBitSet n k ⊎ IsBitSet m k → bit_at (bit_or n m) k ≡ 1
     joined (inl set) = let both = bit_at_or n m k in let is = (bit_is_one n k).0 set in let lt = bit_at-lt m k in omega (arith, both, is, lt)
     joined (inr set) = let both = bit_at_or n m k in let is = (bit_is_one m k).0 set in let lt = bit_at-lt n k in omega (arith, both, is, lt)
+
+-- the bits of the word that has all
+pub all_bits : (k : ℕ) → IsBitSet 18446744073709551615 k ↔ k < 64
+all_bits k = (λ set. below (cases_lt k 64) ((bit_is_one 18446744073709551615 k).0 set), λ less. (bit_is_one 18446744073709551615 k).1 (bit_at_ones 64 k less))
+  where
+    below : (k < 64) ⊎ (64 ≤ k) → bit_at 18446744073709551615 k ≡ 1 → k < 64
+    below (inl less) is = less
+    below (inr more) is = let none : bit_at 18446744073709551615 k ≡ 0 = bit_at_ones_above 64 k more in absurd (omega (arith, none, is))
 
 -- the pairs of one word more
 pub word_added : (old new : Rows) (a w mask : ℕ) → w < row_words old.size → a * row_words old.size + w < length old.words → new.size ≡ old.size → new.words ≡ set old.words (a * row_words old.size + w) (bit_or (get_or old.words (a * row_words old.size + w) 0) mask) → Adds old new (IsMasked a w mask)

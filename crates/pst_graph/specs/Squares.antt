@@ -1,5 +1,5 @@
 -- Squares of bits in the making.
-use Rattle.std.specs.Prelude.{◌≡◌, ◌↔◌, ◌⊎◌, ◌≤◌, ◌<◌, ◌/◌, ◌%◌, ℕ, IsBitSet}
+use Rattle.std.specs.Prelude.{◌≡◌, ◌↔◌, ◌⊎◌, ◌≤◌, ◌<◌, ◌+◌, ◌/◌, ◌%◌, ℕ, IsBitSet}
 use Rattle.pst_scen.specs.declared.rows.Rows.{Rows}
 use Rattle.pst_scen.specs.Rows.{Has}
 
@@ -49,3 +49,19 @@ pub record IsBelow (P : ℕ → ℕ → Type 0) (to c d : ℕ) : Type 0 where
 pub record IsAbove (P : ℕ → ℕ → Type 0) (to c d : ℕ) : Type 0 where
   pub below : c < to
   pub related : P c d
+
+-- the number that stands k after the first one lies in the range
+pub record IsWithin (first from to k : ℕ) : Type 0 where
+  pub least : from ≤ first + k
+  pub below : first + k < to
+
+-- the pair is of that row and range, in a word before that one
+pub record IsInRangeTo (a from to w c d : ℕ) : Type 0 where
+  pub in_range : IsInRange a from to c d
+  pub word : d / 64 < w
+
+-- a relation of the family, of an index below that number, has the pair
+pub record IsOneOf (F : ℕ → ℕ → ℕ → Type 0) (to c d : ℕ) : Type 0 where
+  pub index : ℕ
+  pub below : index < to
+  pub has : F index c d

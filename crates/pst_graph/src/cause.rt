@@ -13,7 +13,7 @@ use crate::links::{has_dispute, has_link, has_own_dispute, reads_replaced, write
 use pst_scen::{Act, Flow, Scenario};
 
 /// The action of that number.
-fn act_at(scenario: &Scenario, a: u32) -> &Act
+pub(crate) fn act_at(scenario: &Scenario, a: u32) -> &Act
     requires { a < length scenario.now.actions }
     ensures { IsAct scenario.now a result.now }
 {

@@ -2,6 +2,7 @@
 #![tactic(auto)]
 
 mod before;
+mod behind;
 mod cause;
 mod climb;
 mod closure;
@@ -9,12 +10,17 @@ mod direct;
 mod groups;
 mod links;
 mod must;
+mod named;
 mod next;
 mod parallel;
+mod plainly;
 mod plan;
 mod refusals;
+mod replaced;
 mod rows;
+mod spread;
 mod square;
+mod tables;
 mod walk;
 
 pub use plan::{PlanEnd, plan_of};

@@ -46,7 +46,7 @@ impl From<NoMemory> for PlanEnd {
 
 /// The groups, the order and the conflicts of the scenario, whether or not it has a plan.
 fn entries_of(alloc: Global, scenario: &Scenario) -> Result<Plan, NoMemory>
-    requires linked { IsLinked scenario.now }
+    requires built { IsBuilt scenario.now }
     requires few { length scenario.now.actions < 2 ^ 31 }
     ensures { IfOk result (AreEntriesOf scenario.now) }
 {

@@ -1,7 +1,7 @@
 //! Squares of bits in the making.
 ghost use Rattle.std.specs.Prelude.{◌≡◌, ◌↔◌, ◌≤◌, ◌<◌, ◌+◌, ◌*◌, ◌^◌, ℕ, length, IsTrue, IsBitSet, IfOk};
 ghost use Rattle.pst_scen.specs.Rows.{row_words, IsSquare, Has};
-ghost use Rattle.pst_graph.specs.Squares.{IsBlank, Adds, IsPair, IsMasked};
+ghost use Rattle.pst_graph.specs.Squares.{IsBlank, Adds, IsPair, IsMasked, IsWithin, IsInRange};
 
 use pst_base::{Items, NoMemory};
 use pst_scen::Rows;
@@ -41,6 +41,31 @@ fn bit(k: u32) -> u64
     ensures { (j : ℕ) → IsBitSet result j ↔ j ≡ k }
 {
     1 << k
+}
+
+/// Whether the number that stands k after the first one lies in the range.
+fn is_within(first: usize, from: usize, to: usize, k: usize) -> bool
+    requires { first + k < 2 ^ 64 }
+    ensures { IsTrue result ↔ IsWithin first from to k }
+{
+    from <= first + k && first + k < to
+}
+
+/// The word's bits whose numbers lie in the range, where its lowest bit is of the first number.
+fn range_mask(first: usize, from: usize, to: usize) -> u64
+    requires { first < 2 ^ 32 }
+    ensures { (k : ℕ) → IsBitSet result k ↔ (k < 64) × IsWithin first from to k }
+{
+    if is_within(first, from, to, 0) && is_within(first, from, to, 63) {
+        return u64::MAX;
+    }
+    let mut mask = 0;
+    for k in 0..64 {
+        if is_within(first, from, to, k) {
+            mask = mask | 1 << k;
+        }
+    }
+    mask
 }
 
 impl Square {
@@ -90,6 +115,17 @@ impl Square {
         ensures { Adds self.old self.new (IsPair a b) }
     {
         self.add_word(a, b as usize / 64, bit(b % 64));
+    }
+
+    /// Adds the pairs of the row of `a` whose second number lies in the range.
+    pub(crate) fn add_range(&mut self, a: u32, from: u32, to: u32)
+        requires a_in { a < self.old.size }
+        requires to_in { to ≤ self.old.size }
+        ensures { Adds self.old self.new (IsInRange a from to) }
+    {
+        for w in from as usize / 64..(to as usize + 63) / 64 {
+            self.add_word(a, w, range_mask(w * 64, from as usize, to as usize));
+        }
     }
 
     /// The rows of the square.
