@@ -24,3 +24,4 @@ mod Least
 mod Refused
 mod Numbered
 mod Ended
+mod Walking

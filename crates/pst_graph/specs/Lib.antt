@@ -13,3 +13,4 @@ pub mod Spread
 pub mod Next
 pub mod Ends
 pub mod Streamed
+pub mod Walks

@@ -21,5 +21,6 @@ mod rows;
 mod spread;
 mod square;
 mod tables;
+mod walk;
 
 pub use plan::{PlanEnd, plan_of};

@@ -3,7 +3,7 @@ use Rattle.std.proofs.Math.Seq.{take-append_seam}
 use Rattle.pst_scen.specs.Rows.{row_words}
 use Rattle.pst_graph.specs.Bits.{IsClosure}
 use Rattle.pst_graph.proofs.Closes.{written}
-use Rattle.pst_graph.proofs.closure.closed_rows.Goals as goal
+use Rattle.pst_graph.proofs.closure.stepwise_rows.Goals as goal
 
 pub returns : goal.returns
 returns c =
