@@ -16,6 +16,8 @@ mod Leaves
 mod BehindRange
 mod LeafNumbers
 mod DirectRows
+mod UsesListed
+mod UsesApart
 mod Joins
 mod Closes
 mod Chains

@@ -14,3 +14,4 @@ pub mod Next
 pub mod Ends
 pub mod Streamed
 pub mod Walks
+pub mod Uses

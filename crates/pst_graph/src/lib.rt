@@ -1,6 +1,7 @@
 //! The plan of a scenario: its groups, its order and its conflicts, or why it has none.
 #![tactic(auto)]
 
+mod apart;
 mod before;
 mod behind;
 mod cause;
@@ -21,6 +22,8 @@ mod rows;
 mod spread;
 mod square;
 mod tables;
+mod usage;
+mod uses;
 mod walk;
 
 pub use plan::{PlanEnd, plan_of};
