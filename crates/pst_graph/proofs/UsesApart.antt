@@ -26,8 +26,8 @@ pub from_more : (first middle last : Rows) (u : Use) (uses : List Use) (i : ℕ)
 from_more first middle last u uses i v is one two =
     family_more (IsApartFrom u uses) first middle last i one
     (adds_as middle last (AreApart u v) (IsApartFrom u uses i) two
-        (λ c d c_in d_in h. record { other = v; is = is; apart = h })
-        (λ c d c_in d_in h. subst (λ (w : Use). AreApart u w c d) (same_some h.other v (sym h.is ∙ is)) h.apart))
+    (λ c d c_in d_in h. record { other = v; is = is; apart = h })
+    (λ c d c_in d_in h. subst (λ (w : Use). AreApart u w c d) (same_some h.other v (sym h.is ∙ is)) h.apart))
 
 pub from_all : (first last : Rows) (u : Use) (uses : List Use) (n : ℕ) → length uses ≤ n → Adds first last (IsOneOf (IsApartFrom u uses) n) → Adds first last (IsApartFromAny u uses)
 from_all first last u uses n all added =
@@ -39,8 +39,8 @@ pub apart_more : (first middle last : Rows) (uses : List Use) (i : ℕ) (u : Use
 apart_more first middle last uses i u is one two =
     family_more (IsApartAt uses) first middle last i one
     (adds_as middle last (IsApartFromAny u uses) (IsApartAt uses i) two
-        (λ c d c_in d_in h. record { one = u; is = is; apart = h })
-        (λ c d c_in d_in h. subst (λ (w : Use). IsApartFromAny w uses c d) (same_some h.one u (sym h.is ∙ is)) h.apart))
+    (λ c d c_in d_in h. record { one = u; is = is; apart = h })
+    (λ c d c_in d_in h. subst (λ (w : Use). IsApartFromAny w uses c d) (same_some h.one u (sym h.is ∙ is)) h.apart))
 
 pub apart_all : (first last : Rows) (uses : List Use) (n : ℕ) → length uses ≤ n → Adds first last (IsOneOf (IsApartAt uses) n) → Adds first last (AreApartIn uses)
 apart_all first last uses n all added =

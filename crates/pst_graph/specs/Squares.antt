@@ -55,10 +55,17 @@ pub record IsWithin (first from to k : ℕ) : Type 0 where
   pub least : from ≤ first + k
   pub below : first + k < to
 
--- the pair is of that row and range, in a word before that one
-pub record IsInRangeTo (a from to w c d : ℕ) : Type 0 where
+-- the pair is of that row and range, in one of those words
+pub record IsInPart (a from to first last c d : ℕ) : Type 0 where
   pub in_range : IsInRange a from to c d
-  pub word : d / 64 < w
+  pub low : first ≤ d / 64
+  pub high : d / 64 < last
+
+-- the pair is of that row, in one of those words
+pub record IsFilled (a first last c d : ℕ) : Type 0 where
+  pub row : c ≡ a
+  pub low : first ≤ d / 64
+  pub high : d / 64 < last
 
 -- a relation of the family, of an index below that number, has the pair
 pub record IsOneOf (F : ℕ → ℕ → ℕ → Type 0) (to c d : ℕ) : Type 0 where

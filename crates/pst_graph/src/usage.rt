@@ -92,11 +92,7 @@ fn push_uses(uses: &mut Vec<Use>, scenario: &Scenario, a: u32) -> Result<(), NoM
 }
 
 /// The uses of all actions.
-pub(crate) fn uses_of(
-    alloc: Global,
-    scenario: &Scenario,
-    count: u32,
-) -> Result<Vec<Use>, NoMemory>
+pub(crate) fn uses_of(alloc: Global, scenario: &Scenario, count: u32) -> Result<Vec<Use>, NoMemory>
     requires { count ≡ length scenario.now.actions }
     ensures { IfOk result (λ uses. AreUses scenario.now uses.items count) }
 {

@@ -7,5 +7,5 @@ pub returns : goal.returns
 returns c =
     none_apart c.args.scenario.now c.args.groups.now
     (λ a b a_in from.
-        let below : a < c.loop-a.a = grind (arith, nat_tests, a_in, c.requires.count, c.loop-a-test.false) in
-        c.loop-a.invariant a b below from)
+    let below : a < c.loop-a.a = grind (arith, nat_tests, a_in, c.requires.count, c.loop-a-test.false) in
+    c.loop-a.invariant a b below from)

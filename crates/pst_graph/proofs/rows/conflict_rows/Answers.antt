@@ -24,7 +24,7 @@ returns c =
       λ a b a_in b_in.
           subst (λ (r : Rows). Has r a b ↔ Conflict c.args.scenario.now a b) (sym c.into_rows.ensures.is)
           (all_conflicts c.args.scenario.now c.in_ok-uses.uses.items c.in_ok-square.square c.add_all_apart.new.square
-              (subst (λ (n : ℕ). AreUses c.args.scenario.now c.in_ok-uses.uses.items n) c.requires c.in_ok-uses.ensures)
-              (subst (λ (n : ℕ). IsBlank c.in_ok-square.square n) c.requires blank)
-              (subst (λ (uses : List Use). Adds c.in_ok-square.square c.add_all_apart.new.square (AreApartIn uses)) c.deref.ensures.value added) a b a_in b_in),
+          (subst (λ (n : ℕ). AreUses c.args.scenario.now c.in_ok-uses.uses.items n) c.requires c.in_ok-uses.ensures)
+          (subst (λ (n : ℕ). IsBlank c.in_ok-square.square n) c.requires blank)
+          (subst (λ (uses : List Use). Adds c.in_ok-square.square c.add_all_apart.new.square (AreApartIn uses)) c.deref.ensures.value added) a b a_in b_in),
     )
