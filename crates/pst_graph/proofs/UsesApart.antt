@@ -1,20 +1,18 @@
 -- Pairs of actions that uses keep apart.
-use Rattle.std.proofs.Common.{◌≡◌, ◌≢◌, ◌↔◌, ◌⊎◌, inl, inr, ⊎_elim, ◌<◌, ◌≤◌, ◌+◌, ℕ, List, Bool, true, false, length, slice_get, Some, refl, sym, subst, ap, ◌∙◌, arith}
+use Rattle.std.proofs.Common.{◌≡◌, ◌≢◌, ◌↔◌, ◌⊎◌, inl, inr, ⊎_elim, ◌<◌, ◌≤◌, ◌+◌, ℕ, List, Bool, true, false, length, slice_get, Some, refl, sym, subst, ◌∙◌, arith}
 use Rattle.std.proofs.lemmas.Option.{slice_get_within}
 use Rattle.pst_scen.specs.declared.rows.Rows.{Rows}
 use Rattle.pst_scen.specs.declared.act.Act.{Act}
-use Rattle.pst_scen.specs.declared.act.Filled.{Filled}
-use Rattle.pst_scen.specs.declared.act.Claimed.{Claimed}
 use Rattle.pst_scen.specs.declared.act.Flow.{Flow}
 use Rattle.pst_scen.specs.declared.act.Flow.TheVariants.{StateIn, StateOut}
 use Rattle.pst_scen.specs.declared.act.Link.{Link}
 use Rattle.pst_scen.specs.declared.scenario.Scenario.{Scenario}
-use Rattle.pst_scen.specs.Flows.{IsAct, IsClaim, Claims, Refers}
+use Rattle.pst_scen.specs.Flows.{IsAct, Claims, Refers}
 use Rattle.pst_scen.specs.Rows.{Has}
 use Rattle.pst_scen.specs.Conflicts.{Clash, Resource, FirstWrites, SecondWrites, Uses, Conflict}
 use Rattle.pst_graph.specs.declared.uses.Use.{Use}
 use Rattle.pst_graph.specs.Squares.{IsBlank, Adds, IsOneOf}
-use Rattle.pst_graph.specs.Uses.{IsClaimUse, IsStateUse, IsUseOfClaims, IsUseOfReferences, IsUse, Listed, AreUses, AreExclusive, AreApart, IsApartFrom, IsApartFromAny, IsApartAt, AreApartIn}
+use Rattle.pst_graph.specs.Uses.{IsUseOfClaims, IsUseOfReferences, IsUse, Listed, AreUses, AreExclusive, AreApart, IsApartFrom, IsApartFromAny, IsApartAt, AreApartIn}
 use Rattle.pst_graph.proofs.Adding.{adds_as, family_more}
 use Rattle.pst_graph.proofs.Climbs.{same_some}
 

@@ -1,11 +1,7 @@
-use Rattle.std.proofs.Common.{◌≡◌, ◌<◌, ◌≤◌, ℕ, List, length, slice_get, Some, refl, sym, subst, ◌∙◌, arith}
-use Rattle.std.proofs.lemmas.Option.{slice_get_read, slice_get_within}
-use Rattle.std.proofs.lemmas.Bool.Decides.{nat_tests}
-use Rattle.pst_scen.specs.declared.act.Act.{Act}
+use Rattle.std.proofs.Common.{◌≡◌, List, length, slice_get, Some, refl, subst}
+use Rattle.std.proofs.lemmas.Option.{slice_get_read}
 use Rattle.pst_scen.specs.declared.act.Filled.{Filled}
-use Rattle.pst_graph.specs.Streamed.{IsJoined}
-use Rattle.pst_graph.proofs.Acted.{one_act}
-use Rattle.pst_graph.proofs.Streaming.{stream_link, stream_inside, joined_more}
+use Rattle.pst_graph.proofs.Streaming.{stream_link, stream_inside}
 use Rattle.pst_graph.proofs.groups.join_all_of.Goals as goal
 
 pub join_by-requires-clause-link : goal.join_by-requires-clause-link

@@ -1,4 +1,4 @@
-use Rattle.std.proofs.Common.{ℕ, List, length, subst}
+use Rattle.std.proofs.Common.{List, length, subst}
 use Rattle.pst_scen.specs.declared.act.Claimed.{Claimed}
 use Rattle.pst_scen.specs.declared.act.Filled.{Filled}
 use Rattle.pst_graph.specs.Uses.{IsUseOfClaims, IsUseOfReferences, Lengthens, HasClaims, HasReferences}
