@@ -15,3 +15,4 @@ pub mod Ends
 pub mod Streamed
 pub mod Walks
 pub mod Uses
+pub mod Sets

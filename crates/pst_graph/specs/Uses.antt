@@ -102,3 +102,44 @@ pub record IsApartAt (uses : List Use) (place c d : ℕ) : Type 0 where
 pub record AreApartIn (uses : List Use) (c d : ℕ) : Type 0 where
   pub place : ℕ
   pub at : IsApartAt uses place c d
+
+-- both exclude the same uses
+pub record AreSameKind (u v : Use) : Type 0 where
+  pub state : u.state ≡ v.state
+  pub pool : u.pool ≡ v.pool
+  pub instance : u.instance ≡ v.instance
+  pub alone : u.alone ≡ v.alone
+
+-- the kind of that number is the use's
+pub record IsKindAt (kinds : List Use) (u : Use) (place : ℕ) : Type 0 where
+  pub kind : Use
+  pub is : slice_get kinds place ≡ Some kind
+  pub same : AreSameKind u kind
+
+-- each of the uses before that place has a kind in the list
+abbrev pub HaveKinds : List Use → List Use → ℕ → Type 0
+HaveKinds kinds uses to = (i : ℕ) (u : Use) → i < to → slice_get uses i ≡ Some u → (place : ℕ) × IsKindAt kinds u place
+
+-- the pair is of that number and the action of a use that the one excludes
+pub record IsExcluded (kind v : Use) (k c d : ℕ) : Type 0 where
+  pub first : c ≡ k
+  pub second : d ≡ v.act
+  pub exclusive : AreExclusive kind v
+
+pub record IsExcludedAt (kind : Use) (uses : List Use) (k place c d : ℕ) : Type 0 where
+  pub other : Use
+  pub is : slice_get uses place ≡ Some other
+  pub excluded : IsExcluded kind other k c d
+
+pub record IsExcludedBy (kind : Use) (uses : List Use) (k c d : ℕ) : Type 0 where
+  pub place : ℕ
+  pub at : IsExcludedAt kind uses k place c d
+
+-- the pair is of a kind's number and the action of a use that the kind excludes
+pub record IsOfKind (kinds uses : List Use) (k c d : ℕ) : Type 0 where
+  pub kind : Use
+  pub is : slice_get kinds k ≡ Some kind
+  pub excluded : IsExcludedBy kind uses k c d
+
+abbrev pub IsOfKinds : List Use → List Use → ℕ → ℕ → Type 0
+IsOfKinds kinds uses c d = IsOfKind kinds uses c c d

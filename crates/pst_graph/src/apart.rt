@@ -8,7 +8,7 @@ use crate::square::Square;
 use crate::uses::Use;
 
 /// Whether both are of one instance or one state pool, and one of them excludes the other.
-fn are_exclusive(u: Use, v: Use) -> bool
+pub(crate) fn are_exclusive(u: Use, v: Use) -> bool
     ensures { IsTrue result ↔ AreExclusive u v }
 {
     if u.pool != v.pool || u.instance != v.instance {

@@ -9,6 +9,7 @@ mod climb;
 mod closure;
 mod direct;
 mod groups;
+mod kinds;
 mod links;
 mod must;
 mod named;

@@ -8,8 +8,8 @@ ghost use Rattle.pst_order.specs.Built.{IsBuilt};
 ghost use Rattle.pst_graph.specs.Grouping.{MustDirectly};
 ghost use Rattle.pst_graph.specs.Squares.{Adds};
 
-use crate::apart::add_all_apart;
 use crate::behind::add_behinds;
+use crate::kinds::add_conflicts;
 use crate::named::add_named;
 use crate::replaced::add_replaced;
 use crate::spread::spread;
@@ -31,7 +31,7 @@ pub(crate) fn conflict_rows(
 {
     let uses = uses_of(alloc, scenario, count)?;
     let mut square = Square::new(alloc, count)?;
-    add_all_apart(&mut square, &uses);
+    add_conflicts(alloc, &mut square, &uses, count)?;
     Ok(square.into_rows())
 }
 

@@ -1,8 +1,9 @@
 //! Squares of bits in the making.
-ghost use Rattle.std.specs.Prelude.{◌≡◌, ◌↔◌, ◌⊎◌, ◌≤◌, ◌<◌, ◌+◌, ◌*◌, ◌/◌, ◌^◌, ℕ, length, get_or, IsTrue, IsBitSet, IfOk};
+ghost use Rattle.std.specs.Prelude.{◌≡◌, ◌≢◌, ◌↔◌, ◌⊎◌, ◌≤◌, ◌<◌, ◌+◌, ◌*◌, ◌/◌, ◌^◌, ℕ, length, get_or, IsTrue, IsBitSet, IfOk};
 ghost use Rattle.pst_scen.specs.Rows.{row_words, IsSquare, Has};
-ghost use Rattle.pst_graph.specs.Squares.{IsBlank, Adds, IsPair, IsMasked, IsWithin, IsInRange, IsInPart, IsFilled};
+ghost use Rattle.pst_graph.specs.Squares.{IsBlank, Adds, IsPair, IsMasked, IsWithin, IsInRange, IsInPart, IsFilled, IsCopied, IsCopiedAt};
 
+use crate::walk::without;
 use pst_base::{Items, NoMemory};
 use pst_scen::Rows;
 use std::alloc::Global;
@@ -79,6 +80,17 @@ fn fill_words(words: &mut [u64], from: usize, to: usize)
     for i in from..to {
         words[i] = u64::MAX;
     }
+}
+
+/// The word `w` of a row without the bit of that number.
+fn word_without(word: u64, w: usize, b: usize) -> u64
+    requires { w < 2 ^ 32 }
+    ensures { (k : ℕ) → k < 64 → IsBitSet result k ↔ IsBitSet word k × (w * 64 + k ≢ b) }
+{
+    if b / 64 != w {
+        return word;
+    }
+    without(word, bit((b % 64) as u32))
 }
 
 impl Square {
@@ -171,6 +183,49 @@ impl Square {
         self.add_part(a, from, to, first, first + 1);
         self.fill(a, first + 1, last);
         self.add_part(a, from, to, last.max(first + 1), (to as usize + 63) / 64);
+    }
+
+    /// The word `w` of the row of `a`.
+    fn word(&self, a: u32, w: usize) -> u64
+        requires a_in { a < self.now.size }
+        requires w_in { w < row_words self.now.size }
+        ensures { result ≡ get_or self.now.words (a * row_words self.now.size + w) 0 }
+    {
+        self.words[self.place(a, w)]
+    }
+
+    /// The number of words of a row.
+    fn row_len(&self) -> usize
+        ensures is { result ≡ row_words self.now.size }
+        ensures small { result < 2 ^ 32 }
+    {
+        words_in(self.size)
+    }
+
+    /// Adds, in one word, the pairs of `a` with the other numbers that the row of `k` in the other
+    /// square has.
+    fn add_copied_word(&mut self, a: u32, other: &Square, k: u32, w: usize)
+        requires a_in { a < self.old.size }
+        requires same { other.now.size ≡ self.old.size }
+        requires k_in { k < self.old.size }
+        requires w_in { w < row_words self.old.size }
+        requires small { w < 2 ^ 32 }
+        ensures { Adds self.old self.new (IsCopiedAt other.now a k w) }
+    {
+        let mask = word_without(other.word(k, w), w, a as usize);
+        self.add_word(a, w, mask);
+    }
+
+    /// Adds the pairs of `a` with the other numbers that the row of `k` in the other square has.
+    pub(crate) fn add_row(&mut self, a: u32, other: &Square, k: u32)
+        requires a_in { a < self.old.size }
+        requires same { other.now.size ≡ self.old.size }
+        requires k_in { k < self.old.size }
+        ensures { Adds self.old self.new (IsCopied other.now a k) }
+    {
+        for w in 0..self.row_len() {
+            self.add_copied_word(a, other, k, w);
+        }
     }
 
     /// The rows of the square.
