@@ -1,9 +1,9 @@
 -- Pairs that are added to a square step by step.
-use Rattle.std.proofs.Common.{◌↔◌, ◌⊎◌, inl, inr, ⊎_elim, ◌<◌, ◌≤◌, ◌+◌, ℕ, sym, subst, ◌∙◌, refl, arith}
+use Rattle.std.proofs.Common.{◌≡◌, ◌↔◌, ◌⊎◌, inl, inr, ⊎_elim, ◌<◌, ◌≤◌, ◌+◌, ℕ, sym, subst, ◌∙◌, refl, arith}
 use Rattle.std.proofs.lemmas.Bool.{cases_lt}
 use Rattle.pst_scen.specs.declared.rows.Rows.{Rows}
 use Rattle.pst_scen.specs.Rows.{Has}
-use Rattle.pst_graph.specs.Squares.{IsBlank, Adds, IsPair, IsOnly, IsInRow, IsBelow, IsAbove}
+use Rattle.pst_graph.specs.Squares.{IsBlank, Adds, IsPair, IsOnly, IsInRow, IsBelow, IsAbove, IsOneOf}
 
 pub adds_none : (old : Rows) (P : ℕ → ℕ → Type 0) → ((c d : ℕ) → P c d → ⊥) → Adds old old P
 adds_none old P none = record { sized = refl; has = λ c d c_in d_in. (λ has. inl has, λ either. ⊎_elim (λ has. has) (λ p. absurd (none c d p)) either) }
@@ -80,3 +80,27 @@ module _ (P : ℕ → ℕ → Type 0) where
   pub none_added : (old : Rows) (a b : ℕ) → (P a b → ⊥) → Adds old old (IsOnly P a b)
   none_added old a b not =
       adds_none old (IsOnly P a b) (λ c d only. not (subst (λ (x : ℕ). P x b) only.pair.first (subst (λ (y : ℕ). P c y) only.pair.second only.related)))
+
+-- one relation of a family after another
+module _ (F : ℕ → ℕ → ℕ → Type 0) where
+  pub family_none : (old : Rows) → Adds old old (IsOneOf F 0)
+  family_none old = adds_none old (IsOneOf F 0) (λ c d h. let below = h.below in omega (arith, below))
+
+  pub family_more : (first middle last : Rows) (n : ℕ) → Adds first middle (IsOneOf F n) → Adds middle last (F n) → Adds first last (IsOneOf F (n + 1))
+  family_more first middle last n one two =
+      adds_as first last (λ c d. IsOneOf F n c d ⊎ F n c d) (IsOneOf F (n + 1))
+      (adds_then first middle last (IsOneOf F n) (F n) one two) (λ c d c_in d_in. to c d) (λ c d c_in d_in. from c d)
+    where
+      to : (c d : ℕ) → IsOneOf F n c d ⊎ F n c d → IsOneOf F (n + 1) c d
+      to c d (inl h) = let below = h.below in record { index = h.index; below = omega (arith, below); has = h.has }
+      to c d (inr h) = record { index = n; below = omega arith; has = h }
+
+      from : (c d : ℕ) → IsOneOf F (n + 1) c d → IsOneOf F n c d ⊎ F n c d
+      from c d h = go (cases_lt h.index n)
+        where
+          go : (h.index < n) ⊎ (n ≤ h.index) → IsOneOf F n c d ⊎ F n c d
+          go (inl less) = inl (record { index = h.index; below = less; has = h.has })
+          go (inr more) =
+              let below = h.below in
+              let same : h.index ≡ n = omega (arith, more, below) in
+              inr (subst (λ (i : ℕ). F i c d) same h.has)

@@ -2,8 +2,8 @@
 use Rattle.std.proofs.Common.{ℕ}
 use Rattle.pst_scen.specs.declared.scenario.Scenario.{Scenario}
 use Rattle.pst_scen.specs.Refusals.{IsUnrefused}
-use Rattle.pst_graph.specs.declared.plan.PlanEnd.{PlanEnd}
-use Rattle.pst_graph.specs.declared.plan.PlanEnd.TheVariants.{Cycle, GroupClash, ParallelOrder, ParallelClash, NoMemory}
+use Rattle.pst_graph.specs.declared.planning.PlanEnd.{PlanEnd}
+use Rattle.pst_graph.specs.declared.planning.PlanEnd.TheVariants.{Cycle, GroupClash, ParallelOrder, ParallelClash, NoMemory}
 use Rattle.pst_graph.specs.Ends.{IsRefusal}
 
 pub refused : (s : Scenario) (end : PlanEnd) → IsRefusal s end → IsUnrefused s → ⊥

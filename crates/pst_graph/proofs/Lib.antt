@@ -4,8 +4,20 @@ mod Bits
 mod Acted
 mod Loops
 mod Grouped
+mod Streaming
 mod Squares
 mod Adding
+mod Lists
+mod Spreads
+mod Names
+mod Preorder
+mod Ends
+mod Leaves
+mod BehindRange
+mod LeafNumbers
+mod DirectRows
+mod UsesListed
+mod UsesApart
 mod Joins
 mod Closes
 mod Chains
@@ -14,3 +26,4 @@ mod Least
 mod Refused
 mod Numbered
 mod Ended
+mod Walking

@@ -7,7 +7,8 @@ use Rattle.std.proofs.lemmas.Nat.{shr-shr}
 use Rattle.std.proofs.lemmas.Nat.Bits.{bit_at_above, bit_at-trailing_zeros}
 use Rattle.pst_scen.specs.declared.rows.Rows.{Rows}
 use Rattle.pst_scen.specs.Rows.{row_words, Has}
-use Rattle.pst_graph.specs.Next.{IsNext, IsLowest}
+use Rattle.pst_graph.specs.Bits.{HasBit}
+use Rattle.pst_graph.specs.Next.{IsNextOf, IsLowest}
 use Rattle.pst_graph.proofs.Joins.{set_is_one}
 
 shifted_bit : (word j k : ℕ) → bit_at (word / 2 ^ j) k ≡ bit_at word (j + k)
@@ -31,24 +32,28 @@ shifted_has word bit k small = (there, λ h. (shifted_set word bit k).1 h.1)
         let set = (shifted_set word bit k).0 s in
         ⊎_elim (λ less. (less, set)) (λ high. absurd (high_free word (bit + k) small high set)) (cases_lt (bit + k) 64)
 
+-- a bit of the word of one pair is that of a later pair of the row
+pub moved_bit : (words : List ℕ) (row a b k : ℕ) → b % 64 + k < 64 → IsBitSet (get_or words (a * row + b / 64) 0) (b % 64 + k) ↔ HasBit row words a (b + k)
+moved_bit words row a b k less =
+    let quotient : b / 64 ≡ (b + k) / 64 = omega (arith, less) in
+    let bit : b % 64 + k ≡ (b + k) % 64 = omega (arith, less) in (
+      λ s. subst (λ (q : ℕ). IsBitSet (get_or words (a * row + q) 0) ((b + k) % 64)) quotient (subst (λ (r : ℕ). IsBitSet (get_or words (a * row + b / 64) 0) r) bit s),
+      λ s. subst (λ (r : ℕ). IsBitSet (get_or words (a * row + b / 64) 0) r) (sym bit) (subst (λ (q : ℕ). IsBitSet (get_or words (a * row + q) 0) ((b + k) % 64)) (sym quotient) s),
+    )
+
 pub rest_has : (words : List ℕ) (row a b rest : ℕ) → ((k : ℕ) → IsBitSet rest k ↔ (b % 64 + k < 64) × IsBitSet (get_or words (a * row + b / 64) 0) (b % 64 + k))
-    → (k : ℕ) → IsBitSet rest k ↔ (b % 64 + k < 64) × IsBitSet (get_or words (a * row + (b + k) / 64) 0) ((b + k) % 64)
-rest_has words row a b rest is k = (λ s. let h = (is k).0 s in (h.0, (here h.0).0 h.1), λ h. (is k).1 (h.0, (here h.0).1 h.1))
-  where
-    here : b % 64 + k < 64 → IsBitSet (get_or words (a * row + b / 64) 0) (b % 64 + k) ↔ IsBitSet (get_or words (a * row + (b + k) / 64) 0) ((b + k) % 64)
-    here less =
-        let quotient : b / 64 ≡ (b + k) / 64 = omega (arith, less) in
-        let bit : b % 64 + k ≡ (b + k) % 64 = omega (arith, less) in (
-          λ s. subst (λ (q : ℕ). IsBitSet (get_or words (a * row + q) 0) ((b + k) % 64)) quotient (subst (λ (r : ℕ). IsBitSet (get_or words (a * row + b / 64) 0) r) bit s),
-          λ s. subst (λ (r : ℕ). IsBitSet (get_or words (a * row + b / 64) 0) r) (sym bit) (subst (λ (q : ℕ). IsBitSet (get_or words (a * row + q) 0) ((b + k) % 64)) (sym quotient) s),
-        )
+    → (k : ℕ) → IsBitSet rest k ↔ (b % 64 + k < 64) × HasBit row words a (b + k)
+rest_has words row a b rest is k = (
+  λ s. let h = (is k).0 s in (h.0, (moved_bit words row a b k h.0).0 h.1),
+  λ h. (is k).1 (h.0, (moved_bit words row a b k h.0).1 h.1),
+)
 
--- the row has none behind the first number, below the second
-abbrev pub HasNoneBelow : Rows → ℕ → ℕ → ℕ → Type 0
-HasNoneBelow rows a after to = (b : ℕ) → after < b → b < to → Has rows a b → ⊥
+-- no number of the range, below that one, has the property
+abbrev pub HoldsNowhere : (ℕ → Type 0) → (ℕ → Type 0) → ℕ → Type 0
+HoldsNowhere InRange P to = (b : ℕ) → InRange b → b < to → P b → ⊥
 
-module _ (rows : Rows) (a after at rest : ℕ) (before : HasNoneBelow rows a after at) (is : (k : ℕ) → IsBitSet rest k ↔ (at % 64 + k < 64) × Has rows a (at + k)) where
-  next_below : (k : ℕ) → IsLowest rest k → HasNoneBelow rows a after (at + k)
+module _ (InRange P : ℕ → Type 0) (at rest : ℕ) (before : HoldsNowhere InRange P at) (is : (k : ℕ) → IsBitSet rest k ↔ (at % 64 + k < 64) × P (at + k)) where
+  next_below : (k : ℕ) → IsLowest rest k → HoldsNowhere InRange P (at + k)
   next_below k h c low high has = ⊎_elim (λ less. before c low less has) here (cases_lt c at)
     where
       here : at ≤ c → ⊥
@@ -56,23 +61,23 @@ module _ (rows : Rows) (a after at rest : ℕ) (before : HasNoneBelow rows a aft
           let fits = ((is k).0 h.set).0 in
           let same : at + (c - at) ≡ c = omega (arith, more) in
           let less : c - at < k = omega (arith, more, high) in
-          h.none (c - at) less ((is (c - at)).1 (omega (arith, fits, less), subst (λ (x : ℕ). Has rows a x) (sym same) has))
+          h.none (c - at) less ((is (c - at)).1 (omega (arith, fits, less), subst P (sym same) has))
 
-  pub next_word : ((k : ℕ) → IsBitSet rest k → ⊥) → HasNoneBelow rows a after (at + (64 - at % 64))
+  pub next_word : ((k : ℕ) → IsBitSet rest k → ⊥) → HoldsNowhere InRange P (at + (64 - at % 64))
   next_word none c low high has = ⊎_elim (λ less. before c low less has) here (cases_lt c at)
     where
       here : at ≤ c → ⊥
       here more =
           let same : at + (c - at) ≡ c = omega (arith, more) in
           let fits : at % 64 + (c - at) < 64 = omega (arith, more, high) in
-          none (c - at) ((is (c - at)).1 (fits, subst (λ (x : ℕ). Has rows a x) (sym same) has))
+          none (c - at) ((is (c - at)).1 (fits, subst P (sym same) has))
 
-  pub next_found : (k : ℕ) (result : Option ℕ) → after < at → IsLowest rest k → MatchOption result (rows.size ≤ at + k) (λ n. (n ≡ at + k) × (at + k < rows.size)) → MatchOption result (HasNoneBelow rows a after rows.size) (IsNext rows a after)
-  next_found k None on h out = λ c low inside. next_below k h c low (omega (arith, inside, out))
-  next_found k (Some n) on h is_n =
+  pub next_found : (size k : ℕ) (result : Option ℕ) → ((b : ℕ) → at ≤ b → InRange b) → IsLowest rest k → MatchOption result (size ≤ at + k) (λ n. (n ≡ at + k) × (at + k < size)) → MatchOption result (HoldsNowhere InRange P size) (IsNextOf InRange P size)
+  next_found size k None on h out = λ c low inside. next_below k h c low (omega (arith, inside, out))
+  next_found size k (Some n) on h is_n =
       let same = is_n.0 in
-      subst (λ (x : ℕ). IsNext rows a after x) (sym same)
-      (record { behind = omega (arith, on); inside = is_n.1; has = ((is k).0 h.set).1; none = next_below k h })
+      subst (λ (x : ℕ). IsNextOf InRange P size x) (sym same)
+      (record { behind = on (at + k) (omega arith); inside = is_n.1; has = ((is k).0 h.set).1; none = next_below k h })
 
 pub lowest_bit : (word : ℕ) → word < 2 ^ 64 → (word ≡ 0 → ⊥) → IsLowest word (trailing_zeros w64 word)
 lowest_bit word small some =

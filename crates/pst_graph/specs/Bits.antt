@@ -1,5 +1,7 @@
 -- Squares by their words, of which so many stand in a row.
 use Rattle.std.specs.Prelude.{◌≡◌, ◌≢◌, ◌↔◌, ◌⊎◌, ◌+◌, ◌*◌, ◌/◌, ◌%◌, ◌<◌, ℕ, List, length, get_or, IsBitSet, bit_or}
+use Rattle.pst_scen.specs.declared.rows.Rows.{Rows}
+use Rattle.pst_scen.specs.Rows.{IsSquare, Has}
 use Rattle.pst_graph.specs.Chains.{IsChain}
 
 -- the pair's bit is set
@@ -30,3 +32,7 @@ pub record GoThrough (row : ℕ) (old new : List ℕ) (limit m : ℕ) : Type 0 w
 pub record IsClosure (size row : ℕ) (old new : List ℕ) : Type 0 where
   pub many : length new ≡ length old
   pub chains : (a b : ℕ) → a < size → b < size → HasBit row new a b ↔ IsChain (HasBit row old) size a b
+
+-- the square of the pairs that a chain of the given ones joins
+abbrev pub IsClosureOf : Rows → Rows → Type 0
+IsClosureOf direct rows = (rows.size ≡ direct.size) × IsSquare rows × ((a b : ℕ) → a < direct.size → b < direct.size → Has rows a b ↔ IsChain (Has direct) direct.size a b)

@@ -1,10 +1,10 @@
 -- What the answers of `plan_of` that are no plan say of the scenario.
-use Rattle.std.specs.Prelude.{ℕ, Option, None, Some, MatchOption}
+use Rattle.std.specs.Prelude.{Option, None, Some, MatchOption}
 use Rattle.pst_scen.specs.declared.scenario.Scenario.{Scenario}
 use Rattle.pst_scen.specs.Refusals.{Refusal, IsRefused}
 use Rattle.pst_scen.specs.Refusals as refusal
-use Rattle.pst_graph.specs.declared.plan.PlanEnd.{PlanEnd}
-use Rattle.pst_graph.specs.declared.plan.PlanEnd.TheVariants.{Cycle, GroupClash, ParallelOrder, ParallelClash, NoMemory}
+use Rattle.pst_graph.specs.declared.planning.PlanEnd.{PlanEnd}
+use Rattle.pst_graph.specs.declared.planning.PlanEnd.TheVariants.{Cycle, GroupClash, ParallelOrder, ParallelClash, NoMemory}
 
 -- the refusal that the answer is; none for want of memory
 abbrev pub refusal_of : PlanEnd → Option Refusal

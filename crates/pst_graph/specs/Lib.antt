@@ -3,8 +3,17 @@ pub mod Links
 pub mod Acts
 pub mod Grouping
 pub mod Squares
+pub mod Tables
+pub mod Tabled
 pub mod Chains
 pub mod Bits
+pub mod Named
+pub mod Listed
+pub mod Spread
 pub mod Next
 pub mod Ends
 pub mod Whole
+pub mod Streamed
+pub mod Walks
+pub mod Uses
+pub mod Sets

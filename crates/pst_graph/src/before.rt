@@ -83,7 +83,7 @@ fn is_free(nodes: &[Node], sequence: usize, n: usize) -> bool
 }
 
 /// Whether something over the leaf is free in the sequence.
-fn is_released(nodes: &[Node], sequence: usize, leaf: usize) -> bool
+pub(crate) fn is_released(nodes: &[Node], sequence: usize, leaf: usize) -> bool
     requires preorder { IsPreorder nodes.now }
     requires within { leaf < length nodes.now }
     ensures { IsTrue result ↔ Over nodes.now (IsFree nodes.now sequence) leaf }

@@ -2,8 +2,9 @@
 ghost use Rattle.std.specs.Prelude.{◌≡◌, ◌≢◌, ◌↔◌, ◌≤◌, ◌<◌, ◌+◌, ◌*◌, ◌/◌, ℕ, length, get_or, bit_or, IsTrue, IfOk};
 ghost use Rattle.pst_scen.specs.Rows.{row_words, IsSquare, Has};
 ghost use Rattle.pst_graph.specs.Chains.{IsChain};
-ghost use Rattle.pst_graph.specs.Bits.{HasBit, IsJoined, LeadsThrough, GoThrough, IsClosure};
+ghost use Rattle.pst_graph.specs.Bits.{HasBit, IsJoined, LeadsThrough, GoThrough, IsClosure, IsClosureOf};
 
+use crate::walk::walked_rows;
 use pst_base::{Items, NoMemory};
 use pst_scen::Rows;
 use std::alloc::Global;
@@ -29,7 +30,7 @@ fn join_word(words: &mut [u64], at: usize, from: usize)
 }
 
 /// Gives the row of `a` the bits of m's row too.
-fn join_row(words: &mut [u64], row: usize, a: usize, m: usize)
+pub(crate) fn join_row(words: &mut [u64], row: usize, a: usize, m: usize)
     requires a_in { a * row + row ≤ length words.old }
     requires m_in { m * row + row ≤ length words.old }
     ensures { IsJoined row words.old words.new a m }
@@ -74,10 +75,11 @@ fn close(words: &mut [u64], count: usize, row: usize)
     }
 }
 
-/// The square of the pairs that a chain of the given ones joins.
-pub(crate) fn closed_rows(alloc: Global, direct: &Rows) -> Result<Rows, NoMemory>
+/// The square of the pairs that a chain of the given ones joins, by one middle after another, in
+/// time that grows with the cube of its size.
+pub(crate) fn stepwise_rows(alloc: Global, direct: &Rows) -> Result<Rows, NoMemory>
     requires { IsSquare direct.now }
-    ensures { IfOk result (λ rows. (rows.size ≡ direct.now.size) × IsSquare rows × ((a b : ℕ) → a < direct.now.size → b < direct.now.size → Has rows a b ↔ IsChain (Has direct.now) direct.now.size a b)) }
+    ensures { IfOk result (IsClosureOf direct.now) }
 {
     let count = direct.size as usize;
     let mut words = Vec::from_slice(alloc, direct.words.as_slice())?;
@@ -86,4 +88,15 @@ pub(crate) fn closed_rows(alloc: Global, direct: &Rows) -> Result<Rows, NoMemory
         size: direct.size,
         words: Items::from_vec(words),
     })
+}
+
+/// The square of the pairs that a chain of the given ones joins.
+pub(crate) fn closed_rows(alloc: Global, direct: &Rows) -> Result<Rows, NoMemory>
+    requires { IsSquare direct.now }
+    ensures { IfOk result (IsClosureOf direct.now) }
+{
+    if let Some(rows) = walked_rows(alloc, direct)? {
+        return Ok(rows);
+    }
+    stepwise_rows(alloc, direct)
 }

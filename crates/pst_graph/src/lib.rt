@@ -1,21 +1,32 @@
 //! The plan of a scenario: its groups, its order and its conflicts, or why it has none.
 #![tactic(auto)]
 
+mod apart;
 mod before;
+mod behind;
 mod cause;
 mod climb;
 mod closure;
 mod direct;
 mod groups;
+mod kinds;
 mod links;
 mod must;
+mod named;
 mod next;
 mod parallel;
-mod plan;
+mod plainly;
+mod planning;
 mod refusals;
+mod replaced;
 mod rows;
+mod spread;
 mod square;
+mod tables;
+mod usage;
+mod uses;
+mod walk;
 mod whole;
 
-pub use plan::{PlanEnd, plan_of};
+pub use planning::{PlanEnd, plan_of};
 pub use whole::plan;

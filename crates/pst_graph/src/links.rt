@@ -6,7 +6,7 @@ ghost use Rattle.pst_graph.specs.Links.{HasLink, HasUse, WritesInto, WritesUsed,
 use pst_scen::{Claimed, Filled, Flow, Link};
 
 /// Whether both are the same kind and direction.
-fn is_flow(one: Flow, other: Flow) -> bool
+pub(crate) fn is_flow(one: Flow, other: Flow) -> bool
     ensures { IsTrue result ↔ one ≡ other }
 {
     one == other

@@ -3,7 +3,7 @@ ghost use Rattle.std.specs.Prelude.{◌≡◌, ◌↔◌, ◌<◌, ℕ, length, 
 ghost use Rattle.pst_scen.specs.Order.{Must};
 ghost use Rattle.pst_scen.specs.Plans.{IsGroupNumber};
 ghost use Rattle.pst_scen.specs.Rows.{IsSquare, Has};
-ghost use Rattle.pst_order.specs.Facts.{IsLinked};
+ghost use Rattle.pst_order.specs.Built.{IsBuilt};
 
 use crate::closure::closed_rows;
 use crate::rows::direct_rows;
@@ -18,7 +18,7 @@ pub(crate) fn must_rows(
     groups: &[u32],
     count: u32,
 ) -> Result<Rows, NoMemory>
-    requires linked { IsLinked scenario.now }
+    requires built { IsBuilt scenario.now }
     requires many { length groups.now ≡ length scenario.now.actions }
     requires numbers { (c : ℕ) → c < length scenario.now.actions → IsGroupNumber scenario.now c (get_or groups.now c 0) }
     requires count { count ≡ length scenario.now.actions }

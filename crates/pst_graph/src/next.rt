@@ -6,7 +6,7 @@ ghost use Rattle.pst_graph.specs.Next.{IsNext, IsLowest};
 use pst_scen::Rows;
 
 /// The bits of the word from that one on.
-fn from_bit(word: u64, bit: usize) -> u64
+pub(crate) fn from_bit(word: u64, bit: usize) -> u64
     requires { bit < 64 }
     ensures { (k : ℕ) → IsBitSet result k ↔ (bit + k < 64) × IsBitSet word (bit + k) }
 {
@@ -25,7 +25,7 @@ fn rest_of_word(rows: &Rows, a: u32, b: usize) -> u64
 }
 
 /// The lowest bit of the word.
-fn lowest(word: u64) -> Option<u32>
+pub(crate) fn lowest(word: u64) -> Option<u32>
     ensures { MatchOption result ((k : ℕ) → IsBitSet word k → ⊥) (IsLowest word) }
 {
     if word == 0 {

@@ -3,40 +3,22 @@ ghost use Rattle.std.specs.Prelude.{◌≡◌, ◌↔◌, ◌<◌, ◌*◌, ◌^
 ghost use Rattle.pst_scen.specs.Conflicts.{Conflict};
 ghost use Rattle.pst_scen.specs.Plans.{IsGroupNumber};
 ghost use Rattle.pst_scen.specs.Rows.{IsSquare, Has};
-ghost use Rattle.pst_order.specs.Facts.{IsLinked};
+ghost use Rattle.pst_scen.specs.Order.{Direct};
+ghost use Rattle.pst_order.specs.Built.{IsBuilt};
 ghost use Rattle.pst_graph.specs.Grouping.{MustDirectly};
-ghost use Rattle.pst_graph.specs.Squares.{Adds, IsOnly, IsInRow};
+ghost use Rattle.pst_graph.specs.Squares.{Adds};
 
-use crate::cause::conflicts;
-use crate::direct::must_directly;
+use crate::behind::add_behinds;
+use crate::kinds::add_conflicts;
+use crate::named::add_named;
+use crate::replaced::add_replaced;
+use crate::spread::spread;
 use crate::square::Square;
+use crate::tables::Tables;
+use crate::usage::uses_of;
 use pst_base::NoMemory;
 use pst_scen::{Rows, Scenario};
 use std::alloc::Global;
-
-/// Adds the pair of actions where they conflict.
-fn add_conflict(square: &mut Square, scenario: &Scenario, a: u32, b: u32)
-    requires size { square.old.size ≡ length scenario.now.actions }
-    requires a_in { a < length scenario.now.actions }
-    requires b_in { b < length scenario.now.actions }
-    ensures { Adds square.old square.new (IsOnly (Conflict scenario.now) a b) }
-{
-    if conflicts(scenario, a, b) {
-        square.add(a, b);
-    }
-}
-
-/// Adds the row of conflicts of the action.
-fn add_conflicts(square: &mut Square, scenario: &Scenario, count: u32, a: u32)
-    requires count { count ≡ length scenario.now.actions }
-    requires size { square.old.size ≡ length scenario.now.actions }
-    requires a_in { a < length scenario.now.actions }
-    ensures { Adds square.old square.new (IsInRow (Conflict scenario.now) a) }
-{
-    for b in 0..count {
-        add_conflict(square, scenario, a, b);
-    }
-}
 
 /// The square of the pairs of actions that conflict.
 pub(crate) fn conflict_rows(
@@ -47,42 +29,30 @@ pub(crate) fn conflict_rows(
     requires { count ≡ length scenario.now.actions }
     ensures { IfOk result (λ rows. (rows.size ≡ length scenario.now.actions) × IsSquare rows × ((a b : ℕ) → a < length scenario.now.actions → b < length scenario.now.actions → Has rows a b ↔ Conflict scenario.now a b)) }
 {
+    let uses = uses_of(alloc, scenario, count)?;
     let mut square = Square::new(alloc, count)?;
-    for a in 0..count {
-        add_conflicts(&mut square, scenario, count, a);
-    }
+    add_conflicts(alloc, &mut square, &uses, count)?;
     Ok(square.into_rows())
 }
 
-/// Adds the pair of actions where the first is a direct cause for a member of the second's group.
-fn add_direct(square: &mut Square, scenario: &Scenario, groups: &[u32], count: u32, a: u32, b: u32)
-    requires linked { IsLinked scenario.now }
-    requires many { length groups.now ≡ length scenario.now.actions }
-    requires numbers { (c : ℕ) → c < length scenario.now.actions → IsGroupNumber scenario.now c (get_or groups.now c 0) }
+/// Adds the pairs of which the first is a direct cause for the second.
+fn add_causes(
+    alloc: Global,
+    square: &mut Square,
+    scenario: &Scenario,
+    count: u32,
+) -> Result<(), NoMemory>
+    requires built { IsBuilt scenario.now }
     requires count { count ≡ length scenario.now.actions }
     requires size { square.old.size ≡ length scenario.now.actions }
-    requires a_in { a < length scenario.now.actions }
-    requires b_in { b < length scenario.now.actions }
-    ensures { Adds square.old square.new (IsOnly (MustDirectly scenario.now) a b) }
+    ensures { IfOk result (λ u. Adds square.old square.new (Direct scenario.now)) }
 {
-    if must_directly(scenario, groups, count, a, b) {
-        square.add(a, b);
-    }
-}
-
-/// Adds the row of the pairs of which the action is the first.
-fn add_directs(square: &mut Square, scenario: &Scenario, groups: &[u32], count: u32, a: u32)
-    requires linked { IsLinked scenario.now }
-    requires many { length groups.now ≡ length scenario.now.actions }
-    requires numbers { (c : ℕ) → c < length scenario.now.actions → IsGroupNumber scenario.now c (get_or groups.now c 0) }
-    requires count { count ≡ length scenario.now.actions }
-    requires size { square.old.size ≡ length scenario.now.actions }
-    requires a_in { a < length scenario.now.actions }
-    ensures { Adds square.old square.new (IsInRow (MustDirectly scenario.now) a) }
-{
-    for b in 0..count {
-        add_direct(square, scenario, groups, count, a, b);
-    }
+    let nodes = scenario.nodes.as_slice();
+    let tables = Tables::new(alloc, nodes)?;
+    add_behinds(square, nodes, &tables, count);
+    add_named(square, scenario, count);
+    add_replaced(alloc, square, scenario, count)?;
+    Ok(())
 }
 
 /// The square of the pairs of which the first is a direct cause for a member of the second's group.
@@ -92,15 +62,14 @@ pub(crate) fn direct_rows(
     groups: &[u32],
     count: u32,
 ) -> Result<Rows, NoMemory>
-    requires linked { IsLinked scenario.now }
+    requires built { IsBuilt scenario.now }
     requires many { length groups.now ≡ length scenario.now.actions }
     requires numbers { (c : ℕ) → c < length scenario.now.actions → IsGroupNumber scenario.now c (get_or groups.now c 0) }
     requires count { count ≡ length scenario.now.actions }
     ensures { IfOk result (λ rows. (rows.size ≡ length scenario.now.actions) × IsSquare rows × ((a b : ℕ) → a < length scenario.now.actions → b < length scenario.now.actions → Has rows a b ↔ MustDirectly scenario.now a b)) }
 {
     let mut square = Square::new(alloc, count)?;
-    for a in 0..count {
-        add_directs(&mut square, scenario, groups, count, a);
-    }
+    add_causes(alloc, &mut square, scenario, count)?;
+    spread(alloc, &mut square, groups, count)?;
     Ok(square.into_rows())
 }

@@ -3,11 +3,11 @@ ghost use Rattle.std.specs.Prelude.{◌≡◌, IfErr, MatchResult};
 ghost use Rattle.pst_model.specs.ModelView.{view_model};
 ghost use Rattle.pst_scen.specs.Plans.{IsPlanOf};
 ghost use Rattle.pst_scen.specs.Refusals.{IsUnrefused};
-ghost use Rattle.pst_graph.specs.declared.plan.PlanEnd.TheVariants as end;
+ghost use Rattle.pst_graph.specs.declared.planning.PlanEnd.TheVariants as end;
 ghost use Rattle.pst_graph.specs.Ends.{IsEndOf};
 ghost use Rattle.pst_graph.specs.Whole.{IsReadWhole};
 
-use crate::plan::{PlanEnd, plan_of};
+use crate::planning::{PlanEnd, plan_of};
 use pst_built::whole_readings_are_built;
 use pst_model::Model;
 use pst_scen::{Plan, Scenario};

@@ -1,9 +1,10 @@
 use Rattle.std.proofs.Common.{◌<◌, ◌-◌}
-use Rattle.pst_graph.proofs.Nexts.{HasNoneBelow}
+use Rattle.pst_scen.specs.Rows.{Has}
+use Rattle.pst_graph.proofs.Nexts.{HoldsNowhere}
 use Rattle.pst_graph.proofs.next.next_in.Given as goal
 
 abbrev pub decreases-words : goal.decreases-words
 decreases-words l = l.rows.size - l.at
 
 abbrev pub invariant-words : goal.invariant-words
-invariant-words l = record { behind : l.after < l.at; none : HasNoneBelow l.rows l.a l.after l.at }
+invariant-words l = record { behind : l.after < l.at; none : HoldsNowhere (λ b. l.after < b) (Has l.rows l.a) l.at }

@@ -1,0 +1,97 @@
+//! The plan of a scenario, or why it has none.
+ghost use Rattle.std.specs.Prelude.{◌≡◌, ◌<◌, ◌^◌, length, IfOk, IfErr, MatchOption, MatchResult};
+ghost use Rattle.pst_scen.specs.Plans.{AreEntriesOf, IsPlanOf};
+ghost use Rattle.pst_scen.specs.Refusals.{IsUnrefused};
+ghost use Rattle.pst_order.specs.Facts.{IsLinked};
+ghost use Rattle.pst_order.specs.Built.{IsBuilt};
+ghost use Rattle.pst_graph.specs.declared.planning.PlanEnd.TheVariants as end;
+ghost use Rattle.pst_graph.specs.Ends.{IsRefusal, IsEndOf};
+
+use crate::groups::groups_of;
+use crate::must::must_rows;
+use crate::refusals::{find_cycle, find_group_clash, find_parallel_clash, find_parallel_order};
+use crate::rows::conflict_rows;
+use pst_base::NoMemory;
+use pst_order::unrefused_is_planned;
+use pst_scen::{Plan, Scenario};
+use std::alloc::Global;
+
+/// Why a scenario has no plan. The first reason in this order is given, with its least action or
+/// pair: the least first action, and with it the least second one.
+#[derive(Clone, Copy, Debug, PartialEq, Eq)]
+pub enum PlanEnd {
+    /// The action must end before it starts.
+    Cycle { a: u32 },
+    /// Two actions that streams join, so that they start together, can't run at one time. Where `a`
+    /// is `b`, two claims of it on one resource instance aren't both shares.
+    GroupClash { a: u32, b: u32 },
+    /// Two actions in different branches of one parallel block are ordered.
+    ParallelOrder { a: u32, b: u32 },
+    /// Two actions in different branches of one parallel block claim one resource instance, and at
+    /// least one of them locks it.
+    ParallelClash { a: u32, b: u32 },
+    /// Memory ran out, which says nothing of the scenario.
+    NoMemory,
+}
+
+impl From<NoMemory> for PlanEnd {
+    ghost use Rattle.std.specs.Prelude.{◌≡◌};
+
+    ghost from_gives = { λ _ e. e ≡ end.NoMemory };
+
+    fn from(_error: NoMemory) -> PlanEnd {
+        PlanEnd::NoMemory
+    }
+}
+
+/// The groups, the order and the conflicts of the scenario, whether or not it has a plan.
+fn entries_of(alloc: Global, scenario: &Scenario) -> Result<Plan, NoMemory>
+    requires built { IsBuilt scenario.now }
+    requires few { length scenario.now.actions < 2 ^ 31 }
+    ensures { IfOk result (AreEntriesOf scenario.now) }
+{
+    let count = scenario.actions.as_slice().len() as u32;
+    let groups = groups_of(alloc, scenario, count)?;
+    let must = must_rows(alloc, scenario, &groups, count)?;
+    let conflict = conflict_rows(alloc, scenario, count)?;
+    Ok(Plan::of_rows(groups, must, conflict))
+}
+
+/// The first reason why the scenario has no plan.
+fn refusal(scenario: &Scenario, plan: &Plan) -> Option<PlanEnd>
+    requires linked { IsLinked scenario.now }
+    requires entries { AreEntriesOf scenario.now plan.now }
+    ensures { MatchOption result (IsUnrefused scenario.now) (IsRefusal scenario.now) }
+{
+    if let Some(a) = find_cycle(scenario, plan) {
+        return Some(PlanEnd::Cycle { a });
+    }
+    if let Some((a, b)) = find_group_clash(scenario, plan) {
+        return Some(PlanEnd::GroupClash { a, b });
+    }
+    if let Some((a, b)) = find_parallel_order(scenario, plan) {
+        return Some(PlanEnd::ParallelOrder { a, b });
+    }
+    if let Some((a, b)) = find_parallel_clash(scenario, plan) {
+        return Some(PlanEnd::ParallelClash { a, b });
+    }
+    None
+}
+
+/// The plan of the scenario, or the first reason why it has none, with its least action or pair.
+///
+/// Sequences, buffers and states order actions, and locks and writers of states conflict, as the
+/// standard says. That stream partners start together, and what join forms release, are this
+/// project's own.
+pub fn plan_of(alloc: Global, scenario: &Scenario) -> Result<Plan, PlanEnd>
+    requires { IsBuilt scenario.now }
+    ensures answers { MatchResult result (IsPlanOf scenario.now) (IsEndOf scenario.now) }
+    ensures unrefused { IsUnrefused scenario.now → IfErr result (λ e. e ≡ end.NoMemory) }
+{
+    unrefused_is_planned();
+    let plan = entries_of(alloc, scenario)?;
+    if let Some(end) = refusal(scenario, &plan) {
+        return Err(end);
+    }
+    Ok(plan)
+}
