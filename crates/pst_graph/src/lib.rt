@@ -7,7 +7,6 @@ mod behind;
 mod cause;
 mod climb;
 mod closure;
-mod direct;
 mod groups;
 mod kinds;
 mod links;
@@ -15,7 +14,6 @@ mod must;
 mod named;
 mod next;
 mod parallel;
-mod plainly;
 mod plan;
 mod refusals;
 mod replaced;
@@ -28,3 +26,8 @@ mod uses;
 mod walk;
 
 pub use plan::{PlanEnd, plan_of};
+
+#[cfg(test)]
+mod plainly;
+#[cfg(test)]
+mod tests;
