@@ -24,3 +24,4 @@ mod Refused
 mod Numbered
 mod Ended
 mod Walking
+mod Checks

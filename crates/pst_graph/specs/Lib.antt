@@ -13,3 +13,4 @@ pub mod Spread
 pub mod Next
 pub mod Ends
 pub mod Walks
+pub mod Checked

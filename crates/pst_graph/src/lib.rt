@@ -3,6 +3,8 @@
 
 mod before;
 mod behind;
+#[cfg(test)]
+mod built;
 mod cause;
 mod climb;
 mod closure;
@@ -24,3 +26,6 @@ mod tables;
 mod walk;
 
 pub use plan::{PlanEnd, plan_of};
+
+#[cfg(test)]
+mod tests;

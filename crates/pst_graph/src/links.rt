@@ -13,7 +13,7 @@ pub(crate) fn is_flow(one: Flow, other: Flow) -> bool
 }
 
 /// Whether both links are the same.
-fn is_link(one: Link, other: Link) -> bool
+pub(crate) fn is_link(one: Link, other: Link) -> bool
     ensures { IsTrue result ↔ one ≡ other }
 {
     one == other
@@ -44,7 +44,7 @@ pub(crate) fn has_link(references: &[Filled], flow: Flow, act: u32) -> bool
 }
 
 /// Whether it is a reference to a state pool.
-fn is_state(flow: Flow) -> bool
+pub(crate) fn is_state(flow: Flow) -> bool
     ensures { IsTrue result ↔ (flow ≡ Flow.StateIn) ⊎ (flow ≡ Flow.StateOut) }
 {
     match flow {
