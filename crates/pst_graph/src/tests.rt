@@ -91,6 +91,25 @@ fn scenario(alloc: Global, level: u32, nodes: Vec<Node>, acts: Vec<Act>) -> Scen
     }
 }
 
+/// Whether the plan has the first action end before the second starts.
+fn must(plan: &Plan, a: u32, b: u32) -> bool {
+    a < plan.len() && b < plan.len() && plan.must(a, b)
+}
+
+/// Whether the two actions can't run at one time.
+fn conflict(plan: &Plan, a: u32, b: u32) -> bool {
+    a < plan.len() && b < plan.len() && plan.conflict(a, b)
+}
+
+/// The number of the action's group; none where there is no such action.
+fn group(plan: &Plan, a: u32) -> Option<u32> {
+    if a < plan.len() {
+        Some(plan.group(a))
+    } else {
+        None
+    }
+}
+
 /// Two actions in a block, which have the nodes 2 and 3.
 fn pair(alloc: Global, block: Fill, one: Act, other: Act) -> Result<Scenario, Fail> {
     let nodes = vec![in alloc; root(alloc), node(0, block), leaf(1, 0), leaf(1, 1)]?;
@@ -198,9 +217,9 @@ fn orders_producers_first(rt: HostRuntime) -> Result<(), Fail> {
     let one = refers(alloc, Some(2), Flow::BufferOut, Link::Nothing)?;
     let other = refers(alloc, Some(3), Flow::BufferIn, to(0))?;
     let plan = plan(alloc, &pair(alloc, Fill::Schedule, one, other)?)?;
-    assert!(rt; plan.must(0, 1));
-    assert!(rt; !plan.must(1, 0));
-    assert!(rt; !plan.conflict(0, 1));
+    assert!(rt; must(&plan, 0, 1));
+    assert!(rt; !must(&plan, 1, 0));
+    assert!(rt; !conflict(&plan, 0, 1));
     Ok(())
 }
 
@@ -216,14 +235,14 @@ fn groups_stream_partners(rt: HostRuntime) -> Result<(), Fail> {
         refers(alloc, None, Flow::StreamOut, to(1))?,
     ]?;
     let plan = plan(alloc, &scenario(alloc, 2, nodes, acts))?;
-    for (a, group) in [(0, 0), (1, 1), (2, 0), (3, 1)] {
-        assert_eq!(rt; plan.group(a), group);
+    for (a, number) in [(0, 0), (1, 1), (2, 0), (3, 1)] {
+        assert_eq!(rt; group(&plan, a), Some(number));
     }
     assert_eq!(rt; plan.width(), 2);
-    assert!(rt; plan.must(0, 1));
-    assert!(rt; plan.must(0, 3));
-    assert!(rt; !plan.must(2, 1));
-    assert!(rt; !plan.must(3, 0));
+    assert!(rt; must(&plan, 0, 1));
+    assert!(rt; must(&plan, 0, 3));
+    assert!(rt; !must(&plan, 2, 1));
+    assert!(rt; !must(&plan, 3, 0));
     Ok(())
 }
 
@@ -258,9 +277,9 @@ fn orders_writers_before_readers(rt: HostRuntime) -> Result<(), Fail> {
         refers(alloc, None, Flow::StateOut, Link::Initial)?,
     ]?;
     let plan = plan(alloc, &scenario(alloc, 1, nodes, acts))?;
-    assert!(rt; plan.must(1, 0));
-    assert!(rt; !plan.must(0, 1));
-    assert!(rt; plan.conflict(0, 1));
+    assert!(rt; must(&plan, 1, 0));
+    assert!(rt; !must(&plan, 0, 1));
+    assert!(rt; conflict(&plan, 0, 1));
     Ok(())
 }
 
@@ -271,8 +290,8 @@ fn orders_readers_before_the_next_writer(rt: HostRuntime) -> Result<(), Fail> {
     let one = refers(alloc, Some(2), Flow::StateOut, Link::Initial)?;
     let other = refers(alloc, Some(3), Flow::StateIn, Link::Initial)?;
     let plan = plan(alloc, &pair(alloc, Fill::Schedule, one, other)?)?;
-    assert!(rt; plan.must(1, 0));
-    assert!(rt; !plan.must(0, 1));
+    assert!(rt; must(&plan, 1, 0));
+    assert!(rt; !must(&plan, 0, 1));
     Ok(())
 }
 
@@ -328,10 +347,10 @@ fn awaits_joined_branches(rt: HostRuntime) -> Result<(), Fail> {
         action(alloc, Some(4), Vec::new(alloc), Vec::new(alloc)),
     ]?;
     let plan = plan(alloc, &scenario(alloc, 0, nodes, acts))?;
-    assert!(rt; plan.must(0, 2));
-    assert!(rt; !plan.must(1, 2));
-    assert!(rt; !plan.must(2, 1));
-    assert!(rt; !plan.must(0, 1));
+    assert!(rt; must(&plan, 0, 2));
+    assert!(rt; !must(&plan, 1, 2));
+    assert!(rt; !must(&plan, 2, 1));
+    assert!(rt; !must(&plan, 0, 1));
     Ok(())
 }
 
@@ -354,8 +373,8 @@ fn releases_branches(rt: HostRuntime) -> Result<(), Fail> {
         joined: 0,
     };
     let plan = plan(alloc, &across(alloc, released)?)?;
-    assert!(rt; plan.must(1, 0));
-    assert!(rt; !plan.must(0, 1));
+    assert!(rt; must(&plan, 1, 0));
+    assert!(rt; !must(&plan, 0, 1));
     let awaited = across(alloc, Fill::Parallel)?;
     assert_eq!(rt; end_of(alloc, &awaited)?, Some(PlanEnd::Cycle { a: 0 }));
     Ok(())
@@ -386,9 +405,7 @@ fn closes_circles(rt: HostRuntime) -> Result<(), Fail> {
     let Ok(rows) = closed_rows(rt.alloc(), &direct) else {
         return Err(Fail::from("no memory"));
     };
-    for (a, word) in [(0, 7), (1, 7), (2, 7), (3, 7), (4, 0)] {
-        assert_eq!(rt; rows.words.as_slice()[a], word);
-    }
+    assert!(rt; rows.words.as_slice() == [7, 7, 7, 7, 0].as_slice());
     Ok(())
 }
 
@@ -411,16 +428,24 @@ fn closes_by_a_walk_as_by_steps(rt: HostRuntime) -> Result<(), Fail> {
     Ok(())
 }
 
-// As many numbers as a scenario may have actions, each leading to the next one.
+/// The square in which each number leads to the next one.
+fn chain(alloc: Global, size: u32) -> Result<Rows, NoMemory>
+    ensures { IfOk result (λ rows. (rows.size ≡ size) × IsSquare rows) }
+{
+    let mut square = Square::new(alloc, size)?;
+    for b in 1..size {
+        square.add(b - 1, b);
+    }
+    Ok(square.into_rows())
+}
+
+// As many numbers as a scenario may have actions.
 #[test]
 fn closes_long_chains(rt: HostRuntime) -> Result<(), Fail> {
-    let Ok(mut chain) = Square::new(rt.alloc(), 16384) else {
+    let Ok(direct) = chain(rt.alloc(), 16384) else {
         return Err(Fail::from("no memory"));
     };
-    for b in 1..16384 {
-        chain.add(b - 1, b);
-    }
-    let Ok(Some(rows)) = walked_rows(rt.alloc(), &chain.into_rows()) else {
+    let Ok(Some(rows)) = walked_rows(rt.alloc(), &direct) else {
         return Err(Fail::from("no closure"));
     };
     assert!(rt; rows.has(0, 16383));
