@@ -3,19 +3,19 @@ use Rattle.std.proofs.Common.{◌≡◌, ◌⊎◌, inl, inr, ⊎_elim, ℕ, sli
 use Rattle.pst_scen.specs.declared.act.Act.{Act}
 use Rattle.pst_scen.specs.declared.act.Filled.{Filled}
 use Rattle.pst_scen.specs.declared.act.Flow.{Flow}
-use Rattle.pst_scen.specs.declared.act.Flow.TheVariants.{BufferIn, StreamIn, StreamOut, StateIn, StateOut}
+use Rattle.pst_scen.specs.declared.act.Flow.TheVariants.{BufferIn, StateIn, StateOut}
 use Rattle.pst_scen.specs.declared.act.Link.{Link}
 use Rattle.pst_scen.specs.declared.act.Link.TheVariants as link
 use Rattle.pst_scen.specs.declared.scenario.Scenario.{Scenario}
-use Rattle.pst_scen.specs.Flows.{IsAct, Refers, Streams, FromFirst, FromSecond, Writes}
+use Rattle.pst_scen.specs.Flows.{IsAct, Refers, Writes}
 use Rattle.pst_scen.specs.Order.{Before, Cause, Sequence, Buffer, Source, Previous, Replaced}
 use Rattle.pst_scen.specs.Conflicts.{Clash, Resource, FirstWrites, SecondWrites, Uses}
 use Rattle.pst_scen.specs.Plans.{Contend}
 use Rattle.pst_graph.specs.Links.{HasLink, HasUse, WritesUsed, HasDispute}
-use Rattle.pst_graph.specs.Acts.{NamesStream, LinksOrder, ByBuffer, BySource, ByPrevious, ByReader, Touches}
+use Rattle.pst_graph.specs.Acts.{LinksOrder, ByBuffer, BySource, ByPrevious, ByReader, Touches}
 use Rattle.pst_graph.proofs.Climbs.{same_some}
 
-one_act : (s : Scenario) (a : ℕ) (x y : Act) → IsAct s a x → IsAct s a y → x ≡ y
+pub one_act : (s : Scenario) (a : ℕ) (x y : Act) → IsAct s a x → IsAct s a y → x ≡ y
 one_act s a x y is other = same_some x y (sym is ∙ other)
 
 module _ (s : Scenario) (a : ℕ) (act : Act) (is_act : IsAct s a act) where
@@ -35,18 +35,6 @@ module _ (s : Scenario) (a : ℕ) (act : Act) (is_act : IsAct s a act) where
   refers_link : (flow : Flow) (pool b reference : ℕ) → Refers s a flow pool (link.Act b reference) → HasLink act.references flow b
   refers_link flow pool b reference r = record { reference = r.reference; filled = r.filled; is = placed r; of_flow = r.of_flow; leads = (reference, r.linked) }
 
-  pub named_first : (b : ℕ) → NamesStream act b → Streams s a b
-  named_first b (inl h) = FromFirst h.filled.pool h.leads.0 StreamIn (inl refl) (link_refers StreamIn b h)
-  named_first b (inr h) = FromFirst h.filled.pool h.leads.0 StreamOut (inr refl) (link_refers StreamOut b h)
-
-  pub named_second : (b : ℕ) → NamesStream act b → Streams s b a
-  named_second b (inl h) = FromSecond h.filled.pool h.leads.0 StreamIn (inl refl) (link_refers StreamIn b h)
-  named_second b (inr h) = FromSecond h.filled.pool h.leads.0 StreamOut (inr refl) (link_refers StreamOut b h)
-
-  names_of : (flow : Flow) (pool b reference : ℕ) → (flow ≡ StreamIn) ⊎ (flow ≡ StreamOut) → Refers s a flow pool (link.Act b reference) → NamesStream act b
-  names_of flow pool b reference (inl is) r = inl (refers_link StreamIn pool b reference (subst (λ (f : Flow). Refers s a f pool (link.Act b reference)) is r))
-  names_of flow pool b reference (inr is) r = inr (refers_link StreamOut pool b reference (subst (λ (f : Flow). Refers s a f pool (link.Act b reference)) is r))
-
   uses_of : (pool : ℕ) → HasUse act.references pool → Uses s a pool
   uses_of pool u = (u.filled.link, ⊎_elim (λ k. inl (used StateIn k)) (λ k. inr (used StateOut k)) u.of_flow)
     where
@@ -58,10 +46,6 @@ module _ (s : Scenario) (a : ℕ) (act : Act) (is_act : IsAct s a act) where
   of_uses pool other same (to, inr r) = record { reference = r.reference; filled = r.filled; is = placed r; of_flow = inr r.of_flow; of_pool = r.of_pool ∙ sym same }
 
 module _ (s : Scenario) (a b : ℕ) (one other : Act) (is_one : IsAct s a one) (is_other : IsAct s b other) where
-  pub named_by : Streams s a b → NamesStream one b ⊎ NamesStream other a
-  named_by (FromFirst pool reference flow kind r) = inl (names_of s a one is_one flow pool b reference kind r)
-  named_by (FromSecond pool reference flow kind r) = inr (names_of s b other is_other flow pool a reference kind r)
-
   pub order_cause : LinksOrder one other a → Cause s a b
   order_cause (ByBuffer h) = Buffer (record { pool = h.filled.pool; output = h.leads.0; input = link_refers s b other is_other BufferIn a h })
   order_cause (BySource h) = Source h.filled.pool (link.Act a h.leads.0) (link_refers s b other is_other StateIn a h) (h.leads.0, refl)

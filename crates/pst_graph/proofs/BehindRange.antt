@@ -1,15 +1,14 @@
 -- Which actions' leaves stand behind a node: one range of numbers.
-use Rattle.std.proofs.Common.{◌≡◌, ◌↔◌, ◌⊎◌, inl, inr, ⊎_elim, ◌<◌, ◌≤◌, ◌+◌, ℕ, List, length, get_or, refl, sym, subst, ◌∙◌, arith}
+use Rattle.std.proofs.Common.{◌≡◌, ◌⊎◌, inl, inr, ◌<◌, ◌≤◌, ◌+◌, ℕ, List, length, get_or, sym, subst, arith}
 use Rattle.std.proofs.lemmas.Bool.{cases_lt}
-use Rattle.std.proofs.lemmas.Option.{slice_get_within}
 use Rattle.pst_scen.specs.declared.rows.Rows.{Rows}
 use Rattle.pst_scen.specs.declared.tree.Node.{Node}
 use Rattle.pst_scen.specs.Tree.{IsChild, StandsUnder, IsSequence}
-use Rattle.pst_graph.specs.Over.{IsLeafOf, Over, IsFree, IsAwaited}
-use Rattle.pst_graph.specs.Squares.{Adds, IsInRange, IsInRow, IsAbove}
+use Rattle.pst_graph.specs.Over.{IsLeafOf, Over, IsFree}
+use Rattle.pst_graph.specs.Squares.{Adds, IsInRow}
 use Rattle.pst_graph.specs.Tables.{AreNumbered, IsEnd, AreLeaves, IsBehind, StandsBefore, leaf_count}
 use Rattle.pst_graph.proofs.Adding.{adds_none, adds_as, adds_then}
-use Rattle.pst_graph.proofs.Climbs.{one_parent, up, over_here, over_up, over_down, over_root}
+use Rattle.pst_graph.proofs.Climbs.{one_parent, up, over_here, over_up, over_root}
 use Rattle.pst_graph.proofs.Awaits.{leaf_within}
 use Rattle.pst_graph.proofs.Leaves.{leaf_counted, leaves_grow}
 use Rattle.pst_graph.proofs.Preorder.{later_behind, behind_later}

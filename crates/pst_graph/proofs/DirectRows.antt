@@ -1,5 +1,5 @@
 -- The square of direct pairs, from the order of statements, the names of references and what is replaced.
-use Rattle.std.proofs.Common.{◌≡◌, ◌≢◌, ◌↔◌, ◌⊎◌, inl, inr, ⊎_elim, ◌<◌, ◌≤◌, ◌+◌, ◌∷◌, [], ℕ, List, length, get_or, slice_get, Some, refl, sym, subst, ap, ◌∙◌, arith}
+use Rattle.std.proofs.Common.{◌≡◌, ◌≢◌, ◌↔◌, ◌⊎◌, inl, inr, ⊎_elim, ◌<◌, ◌≤◌, ◌∷◌, [], ℕ, List, length, get_or, slice_get, Some, refl, sym, subst, ◌∙◌, arith}
 use Rattle.std.proofs.lemmas.Bool.{cases_lt}
 use Rattle.std.proofs.lemmas.Option.{slice_get-get_or}
 use Rattle.pst_scen.specs.declared.rows.Rows.{Rows}
@@ -7,10 +7,9 @@ use Rattle.pst_scen.specs.declared.act.Act.{Act}
 use Rattle.pst_scen.specs.declared.act.Flow.{Flow}
 use Rattle.pst_scen.specs.declared.act.Flow.TheVariants.{BufferIn, StateIn, StateOut}
 use Rattle.pst_scen.specs.declared.act.Link.{Link}
-use Rattle.pst_scen.specs.declared.act.Link.TheVariants as link
 use Rattle.pst_scen.specs.declared.scenario.Scenario.{Scenario}
-use Rattle.pst_scen.specs.Tree.{IsChild, StandsUnder}
-use Rattle.pst_scen.specs.Flows.{IsAct, Refers, LeadsTo}
+use Rattle.pst_scen.specs.Tree.{StandsUnder}
+use Rattle.pst_scen.specs.Flows.{IsAct, Refers}
 use Rattle.pst_scen.specs.Order.{Before, Itself, Sequence, Direct}
 use Rattle.pst_scen.specs.Plans.{IsGroupNumber}
 use Rattle.pst_scen.specs.Rows.{Has}

@@ -13,7 +13,7 @@ streams_inside : (s : Scenario) (a b : ℕ) → IsLinked s → Streams s a b →
 streams_inside s a b linked (FromFirst pool reference flow kind r) = (slice_get_within s.actions a r.act r.is_act, linked.links_in a pool b reference flow r)
 streams_inside s a b linked (FromSecond pool reference flow kind r) = (linked.links_in b pool a reference flow r, slice_get_within s.actions b r.act r.is_act)
 
-streams_back : (s : Scenario) (a b : ℕ) → Streams s a b → Streams s b a
+pub streams_back : (s : Scenario) (a b : ℕ) → Streams s a b → Streams s b a
 streams_back s a b (FromFirst pool reference flow kind r) = FromSecond pool reference flow kind r
 streams_back s a b (FromSecond pool reference flow kind r) = FromFirst pool reference flow kind r
 

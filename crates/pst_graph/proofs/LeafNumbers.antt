@@ -1,17 +1,16 @@
 -- Leaves whose actions are numbered in the order of their nodes.
-use Rattle.std.proofs.Common.{◌≡◌, ◌↔◌, ◌⊎◌, inl, inr, ◌<◌, ◌≤◌, ◌+◌, ◌++◌, ◌∷◌, [], ℕ, zero, suc, List, length, get_or, take, map, Some, slice_get, cond, true, false, refl, sym, subst, ap, ◌∙◌, arith}
+use Rattle.std.proofs.Common.{◌≡◌, ◌↔◌, ◌⊎◌, inl, inr, ◌+◌, ◌++◌, ◌∷◌, [], ℕ, zero, suc, List, length, take, map, cond, true, false, refl, sym, subst, ap, ◌∙◌, arith}
 use Rattle.std.specs.List.{enumerate_from, range_with_len, flat_map}
-use Rattle.std.proofs.lemmas.Bool.{cases_lt}
 use Rattle.std.proofs.lemmas.List.Sums.{sum_by-cons}
 use Rattle.pst_scen.specs.declared.tree.Node.{Node}
 use Rattle.pst_scen.specs.declared.tree.Fill.{Fill}
 use Rattle.pst_scen.specs.declared.tree.Fill.TheVariants.{Compound, Leaf, Sequence, Parallel, Schedule, Joined, Select, Repeat, Turn, If, Match}
 use Rattle.pst_scen.specs.declared.scenario.Scenario.{Scenario}
-use Rattle.pst_scen.specs.Scenarios.{leaf_of, leaves_of}
+use Rattle.pst_scen.specs.Scenarios.{leaf_of}
 use Rattle.pst_scen.specs.Order.{Before}
 use Rattle.pst_order.specs.Built.{IsBuilt}
 use Rattle.pst_graph.specs.Over.{IsLeafOf}
-use Rattle.pst_graph.specs.Tables.{is_leaf, leaf_count, AreNumbered, IsBehind, StandsBefore}
+use Rattle.pst_graph.specs.Tables.{is_leaf, leaf_count, AreNumbered, StandsBefore}
 use Rattle.pst_graph.proofs.Climbs.{same_some}
 use Rattle.pst_graph.proofs.Awaits.{leaf_inside, before_by_leaves}
 

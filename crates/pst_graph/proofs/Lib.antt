@@ -4,6 +4,7 @@ mod Bits
 mod Acted
 mod Loops
 mod Grouped
+mod Streaming
 mod Squares
 mod Adding
 mod Lists
@@ -15,6 +16,8 @@ mod Leaves
 mod BehindRange
 mod LeafNumbers
 mod DirectRows
+mod UsesListed
+mod UsesApart
 mod Joins
 mod Closes
 mod Chains

@@ -1,11 +1,11 @@
 -- Lists of the actions that have something, and the pairs of those that are listed.
-use Rattle.std.proofs.Common.{◌≡◌, ◌≢◌, ◌↔◌, ◌⊎◌, inl, inr, ◌<◌, ◌≤◌, ◌+◌, ◌++◌, ◌∷◌, [], ℕ, List, length, get_or, refl, sym, subst, ap, ◌∙◌, arith}
+use Rattle.std.proofs.Common.{◌≡◌, ◌⊎◌, inl, inr, ◌<◌, ◌≤◌, ◌+◌, ◌++◌, ◌∷◌, [], ℕ, List, length, get_or, refl, sym, subst, ◌∙◌, arith}
 use Rattle.std.proofs.lemmas.Bool.{cases_lt}
 use Rattle.std.proofs.lemmas.List.{get_or_push, length_push, get_or_append_left}
 use Rattle.pst_scen.specs.declared.rows.Rows.{Rows}
 use Rattle.pst_graph.specs.Squares.{Adds, IsOnly, IsInRow, IsOneOf}
 use Rattle.pst_graph.specs.Listed.{ListsAll}
-use Rattle.pst_graph.proofs.Adding.{adds_as, family_more}
+use Rattle.pst_graph.proofs.Adding.{adds_as}
 
 module _ (P : ℕ → Type 0) where
   pub lists_none : ListsAll P 0 []

@@ -1,18 +1,17 @@
 -- Pairs that references name.
-use Rattle.std.proofs.Common.{◌≡◌, ◌↔◌, ◌⊎◌, inl, inr, ⊎_elim, ◌<◌, ◌≤◌, ◌+◌, ℕ, List, length, slice_get, Some, refl, sym, subst, ap, ◌∙◌, arith}
+use Rattle.std.proofs.Common.{◌≡◌, ◌<◌, ◌≤◌, ◌+◌, ℕ, List, length, slice_get, Some, sym, subst, ◌∙◌, arith}
 use Rattle.std.proofs.lemmas.Option.{slice_get_within}
 use Rattle.pst_scen.specs.declared.rows.Rows.{Rows}
 use Rattle.pst_scen.specs.declared.act.Act.{Act}
 use Rattle.pst_scen.specs.declared.act.Filled.{Filled}
 use Rattle.pst_scen.specs.declared.act.Link.{Link}
-use Rattle.pst_scen.specs.declared.act.Link.TheVariants as link
 use Rattle.pst_scen.specs.declared.scenario.Scenario.{Scenario}
 use Rattle.pst_scen.specs.Flows.{IsAct, Refers, LeadsTo}
 use Rattle.pst_order.specs.Facts.{IsLinked}
 use Rattle.pst_graph.specs.Squares.{Adds, IsOneOf}
 use Rattle.pst_graph.specs.Named.{IsNaming, IsNamingAt, IsNamingIn}
 use Rattle.pst_graph.proofs.Acted.{referred}
-use Rattle.pst_graph.proofs.Adding.{adds_none, adds_as, family_more}
+use Rattle.pst_graph.proofs.Adding.{adds_as, family_more}
 use Rattle.pst_graph.proofs.Climbs.{same_some}
 
 -- what a reference of an action is linked to is an action of the scenario

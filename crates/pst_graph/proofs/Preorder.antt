@@ -1,13 +1,12 @@
 -- Nodes in preorder: those under a node are one range of numbers.
-use Rattle.std.proofs.Common.{◌≡◌, ◌≢◌, ◌↔◌, ◌⊎◌, inl, inr, ⊎_elim, ◌<◌, ◌≤◌, ◌+◌, ℕ, zero, suc, List, length, Some, None, slice_get, refl, sym, subst, ap, ◌∙◌, arith}
+use Rattle.std.proofs.Common.{◌≡◌, ◌⊎◌, inl, inr, ◌<◌, ◌≤◌, ℕ, zero, suc, List, Some, slice_get, refl, sym, subst, ◌∙◌, arith}
 use Rattle.std.proofs.lemmas.Bool.{cases_lt}
-use Rattle.std.proofs.lemmas.Option.{slice_get_within}
 use Rattle.pst_scen.specs.declared.tree.Node.{Node}
 use Rattle.pst_scen.specs.Tree.{IsChild, StandsUnder, AtTop, Below}
 use Rattle.pst_scen.specs.Laws.{IsPreorder}
 use Rattle.pst_scen.specs.Scenarios.{AreInPreorder}
 use Rattle.pst_graph.specs.Tables.{IsEnd}
-use Rattle.pst_graph.proofs.Climbs.{same_some, one_parent, parent_less, under_up, up, under_le, one_child}
+use Rattle.pst_graph.proofs.Climbs.{same_some, parent_less, under_up, under_le, one_child}
 
 same_node : (nodes : List Node) (n : ℕ) (x y : Node) → slice_get nodes n ≡ Some x → slice_get nodes n ≡ Some y → x ≡ y
 same_node nodes n x y one other = same_some x y (sym one ∙ other)

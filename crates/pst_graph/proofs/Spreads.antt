@@ -1,12 +1,11 @@
 -- Pairs that are spread along a row.
-use Rattle.std.proofs.Common.{◌≡◌, ◌≢◌, ◌↔◌, ◌⊎◌, inl, inr, ⊎_elim, ◌<◌, ◌≤◌, ◌+◌, ℕ, List, length, get_or, refl, sym, subst, ap, ◌∙◌, arith}
+use Rattle.std.proofs.Common.{◌≡◌, ◌⊎◌, inl, inr, ◌<◌, ◌≤◌, ◌+◌, ℕ, List, length, get_or, sym, subst, ◌∙◌, arith}
 use Rattle.std.proofs.lemmas.Bool.{cases_lt}
 use Rattle.pst_scen.specs.declared.rows.Rows.{Rows}
 use Rattle.pst_scen.specs.Rows.{Has}
-use Rattle.pst_graph.specs.Squares.{Adds, IsInRow, IsAbove}
+use Rattle.pst_graph.specs.Squares.{Adds, IsInRow}
 use Rattle.pst_graph.specs.Listed.{ListsAll}
 use Rattle.pst_graph.specs.Spread.{IsFollower, IsSpread, IsSpreading, IsGathered, IsShared, AreOwn}
-use Rattle.pst_graph.proofs.Adding.{adds_as, above_more}
 
 module _ (groups : List ℕ) (a : ℕ) where
   -- the pairs that a spread row is spread to, it is spread to

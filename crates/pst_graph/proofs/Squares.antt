@@ -1,5 +1,5 @@
 -- Bits that are added to a square.
-use Rattle.std.proofs.Common.{◌≡◌, ◌≢◌, ◌↔◌, ◌⊎◌, inl, inr, ⊎_elim, ◌<◌, ◌≤◌, ◌+◌, ◌*◌, ◌/◌, ◌%◌, ◌^◌, ℕ, List, length, get_or, set, sym, subst, ap, ◌∙◌, arith}
+use Rattle.std.proofs.Common.{◌≡◌, ◌≢◌, ◌↔◌, ◌⊎◌, inl, inr, ⊎_elim, ◌<◌, ◌≤◌, ◌+◌, ◌-◌, ◌*◌, ◌/◌, ◌%◌, ◌^◌, ℕ, List, length, get_or, set, refl, sym, subst, ap, ◌∙◌, arith}
 use Rattle.std.specs.Prelude.{IsBitSet, bit_or}
 use Rattle.std.specs.Int.{bit_at}
 use Rattle.std.proofs.lemmas.Bool.{cases_lt}
@@ -9,7 +9,7 @@ use Rattle.std.proofs.lemmas.Nat.Bits.{and_pow, bit_at_or, bit_at-lt, bit_at-zer
 use Rattle.std.proofs.Math.Pow.{pow_pos}
 use Rattle.pst_scen.specs.declared.rows.Rows.{Rows}
 use Rattle.pst_scen.specs.Rows.{row_words, Has}
-use Rattle.pst_graph.specs.Squares.{Adds, IsPair, IsMasked}
+use Rattle.pst_graph.specs.Squares.{Adds, IsPair, IsMasked, IsFilled}
 use Rattle.pst_graph.proofs.Grouped.{same_or_not}
 
 -- a place belongs to one row, at one place in it
@@ -100,3 +100,42 @@ pair_added old new a b mask bit added = record { sized = added.sized; has = λ c
       λ has. ⊎_elim (λ before. inl before) (λ masked. inr (record { first = masked.first; second = let place = (bit (d % 64)).0 masked.bit in let word = masked.word in omega (arith, place, word) })) (one.0 has),
       λ has. one.1 (⊎_elim (λ before. inl before) (λ pair. inr (record { first = pair.first; word = ap (λ (n : ℕ). n / 64) pair.second; bit = (bit (d % 64)).1 (ap (λ (n : ℕ). n % 64) pair.second) })) has),
     )
+
+-- the pairs of words that are filled
+pub words_filled : (old new : Rows) (a first last : ℕ) → last ≤ row_words old.size → new.size ≡ old.size → ((i : ℕ) → a * row_words old.size + first ≤ i → i < a * row_words old.size + last → get_or new.words i 0 ≡ 18446744073709551615) → ((i : ℕ) → (i < a * row_words old.size + first) ⊎ (a * row_words old.size + last ≤ i) → get_or new.words i 0 ≡ get_or old.words i 0) → Adds old new (IsFilled a first last)
+words_filled old new a first last last_in size filled others = record { sized = size; has = λ c d c_in d_in. each c d d_in (cases_lt (c * row_words old.size + d / 64) (a * row_words old.size + first)) (cases_lt (c * row_words old.size + d / 64) (a * row_words old.size + last)) }
+  where
+    read : (c d x : ℕ) → get_or new.words (c * row_words old.size + d / 64) 0 ≡ x → Has new c d ↔ IsBitSet x (d % 64)
+    read c d x is =
+        let word : get_or new.words (c * row_words new.size + d / 64) 0 ≡ x = ap (λ (n : ℕ). get_or new.words (c * row_words n + d / 64) 0) size ∙ is in
+        (λ has. subst (λ (v : ℕ). IsBitSet v (d % 64)) word has, λ has. subst (λ (v : ℕ). IsBitSet v (d % 64)) (sym word) has)
+
+    row_of : (c d : ℕ) → c ≡ a → c * row_words old.size ≡ a * row_words old.size
+    row_of c d same = ap (λ (n : ℕ). n * row_words old.size) same
+
+    kept : (c d : ℕ) → (c * row_words old.size + d / 64 < a * row_words old.size + first) ⊎ (a * row_words old.size + last ≤ c * row_words old.size + d / 64) → Has new c d ↔ Has old c d ⊎ IsFilled a first last c d
+    kept c d out =
+        let is = read c d (get_or old.words (c * row_words old.size + d / 64) 0) (others (c * row_words old.size + d / 64) out) in (
+          λ has. inl (is.0 has),
+          λ either. is.1 (⊎_elim (λ before. before) (λ h. absurd (outside h out)) either),
+        )
+      where
+        outside : IsFilled a first last c d → (c * row_words old.size + d / 64 < a * row_words old.size + first) ⊎ (a * row_words old.size + last ≤ c * row_words old.size + d / 64) → ⊥
+        outside h (inl less) = let same = row_of c d h.row in let low = h.low in omega (arith, same, low, less)
+        outside h (inr more) = let same = row_of c d h.row in let high = h.high in omega (arith, same, high, more)
+
+    each : (c d : ℕ) → d < old.size → (c * row_words old.size + d / 64 < a * row_words old.size + first) ⊎ (a * row_words old.size + first ≤ c * row_words old.size + d / 64) → (c * row_words old.size + d / 64 < a * row_words old.size + last) ⊎ (a * row_words old.size + last ≤ c * row_words old.size + d / 64) → Has new c d ↔ Has old c d ⊎ IsFilled a first last c d
+    each c d d_in (inl less) upper = kept c d (inl less)
+    each c d d_in (inr more) (inr high) = kept c d (inr high)
+    each c d d_in (inr low) (inl high) =
+        let is = read c d 18446744073709551615 (filled (c * row_words old.size + d / 64) low high) in
+        let bit : d % 64 < 64 = omega arith in
+        let d_word : d / 64 < row_words old.size = omega (arith, d_in) in
+        let w : ℕ = c * row_words old.size + d / 64 - a * row_words old.size in
+        let w_in : w < row_words old.size = omega (arith, low, high, last_in) in
+        let there : c * row_words old.size + d / 64 ≡ a * row_words old.size + w = omega (arith, low) in
+        let one = one_place (row_words old.size) c a (d / 64) w d_word w_in there in
+        let same = row_of c d one.0 in (
+          λ has. inr (record { row = one.0; low = omega (arith, same, low); high = omega (arith, same, high) }),
+          λ either. is.1 ((all_bits (d % 64)).1 bit),
+        )

@@ -1,12 +1,8 @@
 -- What the references and claims of two actions have to do with each other.
 use Rattle.std.specs.Prelude.{◌⊎◌, ℕ}
 use Rattle.pst_scen.specs.declared.act.Act.{Act}
-use Rattle.pst_scen.specs.declared.act.Flow.TheVariants.{BufferIn, StreamIn, StreamOut, StateIn, StateOut}
+use Rattle.pst_scen.specs.declared.act.Flow.TheVariants.{BufferIn, StateIn, StateOut}
 use Rattle.pst_graph.specs.Links.{HasLink, ReadsReplaced, WritesUsed}
-
--- the action names a stream to or from the one of that number
-abbrev pub NamesStream : Act → ℕ → Type 0
-NamesStream act other = HasLink act.references StreamIn other ⊎ HasLink act.references StreamOut other
 
 -- why links have the first action, which has that number, come before the second
 pub data LinksOrder (one other : Act) (a : ℕ) : Type 0 where

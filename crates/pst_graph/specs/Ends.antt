@@ -1,5 +1,5 @@
 -- What the answers of `plan_of` that are no plan say of the scenario.
-use Rattle.std.specs.Prelude.{ℕ, Option, None, Some, MatchOption}
+use Rattle.std.specs.Prelude.{Option, None, Some, MatchOption}
 use Rattle.pst_scen.specs.declared.scenario.Scenario.{Scenario}
 use Rattle.pst_scen.specs.Refusals.{Refusal, IsRefused}
 use Rattle.pst_scen.specs.Refusals as refusal

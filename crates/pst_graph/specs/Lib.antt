@@ -12,5 +12,8 @@ pub mod Listed
 pub mod Spread
 pub mod Next
 pub mod Ends
+pub mod Streamed
 pub mod Walks
 pub mod Checked
+pub mod Uses
+pub mod Sets

@@ -1,5 +1,5 @@
 -- Squares of bits in the making.
-use Rattle.std.specs.Prelude.{◌≡◌, ◌↔◌, ◌⊎◌, ◌≤◌, ◌<◌, ◌+◌, ◌/◌, ◌%◌, ℕ, IsBitSet}
+use Rattle.std.specs.Prelude.{◌≡◌, ◌≢◌, ◌↔◌, ◌⊎◌, ◌≤◌, ◌<◌, ◌+◌, ◌/◌, ◌%◌, ℕ, IsBitSet}
 use Rattle.pst_scen.specs.declared.rows.Rows.{Rows}
 use Rattle.pst_scen.specs.Rows.{Has}
 
@@ -55,13 +55,31 @@ pub record IsWithin (first from to k : ℕ) : Type 0 where
   pub least : from ≤ first + k
   pub below : first + k < to
 
--- the pair is of that row and range, in a word before that one
-pub record IsInRangeTo (a from to w c d : ℕ) : Type 0 where
+-- the pair is of that row and range, in one of those words
+pub record IsInPart (a from to first last c d : ℕ) : Type 0 where
   pub in_range : IsInRange a from to c d
-  pub word : d / 64 < w
+  pub low : first ≤ d / 64
+  pub high : d / 64 < last
+
+-- the pair is of that row, in one of those words
+pub record IsFilled (a first last c d : ℕ) : Type 0 where
+  pub row : c ≡ a
+  pub low : first ≤ d / 64
+  pub high : d / 64 < last
 
 -- a relation of the family, of an index below that number, has the pair
 pub record IsOneOf (F : ℕ → ℕ → ℕ → Type 0) (to c d : ℕ) : Type 0 where
   pub index : ℕ
   pub below : index < to
   pub has : F index c d
+
+-- the pair is of that row and another number, which a row of the other square has
+pub record IsCopied (other : Rows) (a k c d : ℕ) : Type 0 where
+  pub first : c ≡ a
+  pub different : d ≢ a
+  pub has : Has other k d
+
+-- the same in one word
+pub record IsCopiedAt (other : Rows) (a k w c d : ℕ) : Type 0 where
+  pub copied : IsCopied other a k c d
+  pub word : d / 64 ≡ w

@@ -1,5 +1,5 @@
 -- Tables of nodes, and what they tell of the order of statements.
-use Rattle.std.specs.Prelude.{ℕ, List, length}
+use Rattle.std.specs.Prelude.{List, length}
 use Rattle.pst_scen.specs.declared.tree.Node.{Node}
 use Rattle.pst_graph.specs.declared.tables.Tables.{Tables}
 use Rattle.pst_graph.specs.Tables.{AreEnds, AreCounts, AreLeaves}

@@ -1,11 +1,11 @@
 //! Why one action comes before another, and what joins two or keeps them apart.
 ghost use Rattle.std.specs.Prelude.{◌≡◌, ◌≢◌, ◌↔◌, ◌<◌, length, IsTrue};
-ghost use Rattle.pst_scen.specs.Flows.{IsAct, Streams, Feeds};
+ghost use Rattle.pst_scen.specs.Flows.{IsAct, Feeds};
 ghost use Rattle.pst_scen.specs.Order.{Cause, Direct};
 ghost use Rattle.pst_scen.specs.Conflicts.{Clash, Conflict};
 ghost use Rattle.pst_scen.specs.Plans.{Contend, ClashesAlone};
 ghost use Rattle.pst_scen.specs.Laws.{IsPreorder, HasOneLeafEach};
-ghost use Rattle.pst_graph.specs.Acts.{NamesStream, LinksOrder, Touches};
+ghost use Rattle.pst_graph.specs.Acts.{LinksOrder, Touches};
 ghost use Rattle.pst_graph.specs.Links.{HasDispute};
 
 use crate::before::before;
@@ -18,29 +18,6 @@ pub(crate) fn act_at(scenario: &Scenario, a: u32) -> &Act
     ensures { IsAct scenario.now a result.now }
 {
     &scenario.actions.as_slice()[a as usize]
-}
-
-/// Whether the action names a stream to or from the one of that number.
-fn names_stream(act: &Act, other: u32) -> bool
-    ensures { IsTrue result ↔ NamesStream act.now other }
-{
-    let references = act.references.as_slice();
-    if has_link(references, Flow::StreamIn, other) {
-        return true;
-    }
-    has_link(references, Flow::StreamOut, other)
-}
-
-/// Whether a stream goes from one to the other, as the one or the other names it.
-pub(crate) fn streams(scenario: &Scenario, a: u32, b: u32) -> bool
-    requires a_in { a < length scenario.now.actions }
-    requires b_in { b < length scenario.now.actions }
-    ensures { IsTrue result ↔ Streams scenario.now a b }
-{
-    if names_stream(act_at(scenario, a), b) {
-        return true;
-    }
-    names_stream(act_at(scenario, b), a)
 }
 
 /// Whether a link of the two actions, of which the first has that number, has it come before the

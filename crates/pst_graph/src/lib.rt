@@ -1,6 +1,7 @@
 //! The plan of a scenario: its groups, its order and its conflicts, or why it has none.
 #![tactic(auto)]
 
+mod apart;
 mod before;
 mod behind;
 #[cfg(test)]
@@ -10,6 +11,7 @@ mod climb;
 mod closure;
 mod direct;
 mod groups;
+mod kinds;
 mod links;
 mod must;
 mod named;
@@ -23,6 +25,8 @@ mod rows;
 mod spread;
 mod square;
 mod tables;
+mod usage;
+mod uses;
 mod walk;
 
 pub use plan::{PlanEnd, plan_of};

@@ -6,42 +6,19 @@ ghost use Rattle.pst_scen.specs.Rows.{IsSquare, Has};
 ghost use Rattle.pst_scen.specs.Order.{Direct};
 ghost use Rattle.pst_order.specs.Built.{IsBuilt};
 ghost use Rattle.pst_graph.specs.Grouping.{MustDirectly};
-ghost use Rattle.pst_graph.specs.Squares.{Adds, IsOnly, IsInRow};
+ghost use Rattle.pst_graph.specs.Squares.{Adds};
 
 use crate::behind::add_behinds;
-use crate::cause::conflicts;
+use crate::kinds::add_conflicts;
 use crate::named::add_named;
 use crate::replaced::add_replaced;
 use crate::spread::spread;
 use crate::square::Square;
 use crate::tables::Tables;
+use crate::usage::uses_of;
 use pst_base::NoMemory;
 use pst_scen::{Rows, Scenario};
 use std::alloc::Global;
-
-/// Adds the pair of actions where they conflict.
-fn add_conflict(square: &mut Square, scenario: &Scenario, a: u32, b: u32)
-    requires size { square.old.size ≡ length scenario.now.actions }
-    requires a_in { a < length scenario.now.actions }
-    requires b_in { b < length scenario.now.actions }
-    ensures { Adds square.old square.new (IsOnly (Conflict scenario.now) a b) }
-{
-    if conflicts(scenario, a, b) {
-        square.add(a, b);
-    }
-}
-
-/// Adds the row of conflicts of the action.
-fn add_conflicts(square: &mut Square, scenario: &Scenario, count: u32, a: u32)
-    requires count { count ≡ length scenario.now.actions }
-    requires size { square.old.size ≡ length scenario.now.actions }
-    requires a_in { a < length scenario.now.actions }
-    ensures { Adds square.old square.new (IsInRow (Conflict scenario.now) a) }
-{
-    for b in 0..count {
-        add_conflict(square, scenario, a, b);
-    }
-}
 
 /// The square of the pairs of actions that conflict.
 pub(crate) fn conflict_rows(
@@ -52,10 +29,9 @@ pub(crate) fn conflict_rows(
     requires { count ≡ length scenario.now.actions }
     ensures { IfOk result (λ rows. (rows.size ≡ length scenario.now.actions) × IsSquare rows × ((a b : ℕ) → a < length scenario.now.actions → b < length scenario.now.actions → Has rows a b ↔ Conflict scenario.now a b)) }
 {
+    let uses = uses_of(alloc, scenario, count)?;
     let mut square = Square::new(alloc, count)?;
-    for a in 0..count {
-        add_conflicts(&mut square, scenario, count, a);
-    }
+    add_conflicts(alloc, &mut square, &uses, count)?;
     Ok(square.into_rows())
 }
 

@@ -62,7 +62,7 @@ fn take_over(words: &mut [u64], row: usize, a: usize, c: usize)
 }
 
 /// The bits of the first word that the second one lacks.
-fn without(word: u64, other: u64) -> u64
+pub(crate) fn without(word: u64, other: u64) -> u64
     ensures { (k : ℕ) → k < 64 → IsBitSet result k ↔ IsBitSet word k × (IsBitSet other k → ⊥) }
 {
     word & !other

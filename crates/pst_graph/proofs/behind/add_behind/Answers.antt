@@ -1,4 +1,4 @@
-use Rattle.std.proofs.Common.{◌≡◌, ◌≤◌, ◌<◌, ℕ, subst, sym, refl, get_or, arith}
+use Rattle.std.proofs.Common.{◌≡◌, ℕ, refl, get_or, arith}
 use Rattle.pst_graph.specs.Squares.{IsInRange, IsInRow}
 use Rattle.pst_graph.specs.Tables.{IsBehind, leaf_count}
 use Rattle.pst_graph.proofs.Adding.{adds_none, adds_as}

@@ -1,4 +1,4 @@
-use Rattle.std.proofs.Common.{◌<◌, ◌∙◌, ℕ, arith}
+use Rattle.std.proofs.Common.{◌<◌, ◌∙◌, arith}
 use Rattle.pst_graph.proofs.Climbs.{child_read, rootless, parent_less}
 use Rattle.pst_graph.proofs.BehindRange.{climbed, at_root}
 use Rattle.pst_graph.proofs.behind.add_row.Goals as goal

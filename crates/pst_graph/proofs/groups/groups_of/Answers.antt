@@ -8,8 +8,8 @@ passes-init c =
     alone_members c.args.scenario.now c.in_ok-groups.groups.items (c.in_ok-groups.ensures.0 ∙ c.requires.count)
     (λ a a_in. c.in_ok-groups.ensures.1 a (subst (λ (n : ℕ). a < n) (sym c.requires.count) a_in))
 
-pub passes-preserved : goal.passes-preserved
-passes-preserved c =
+pub join_all-requires-clause-members : goal.join_all-requires-clause-members
+join_all-requires-clause-members c =
     let apart = subst (λ (g : List ℕ). IsApart c.args.scenario.now g c.in-Some.a c.in-Some.b) c.deref.ensures.value c.in-Some.ensures in
     lowered_members c.args.scenario.now c.passes.groups.items c.lower.new.groups.items c.in-Some.a c.in-Some.b c.passes.invariant apart
     c.lower.ensures.many c.lower.ensures.at c.lower.ensures.others

@@ -1,4 +1,3 @@
-use Rattle.std.proofs.Common.{refl}
 use Rattle.pst_graph.specs.Named.{IsNaming}
 use Rattle.pst_graph.proofs.Adding.{adds_none}
 use Rattle.pst_graph.proofs.named.add_naming.Goals as goal

@@ -1,4 +1,4 @@
-use Rattle.std.proofs.Common.{◌≤◌, ℕ, length, arith}
+use Rattle.std.proofs.Common.{◌≤◌, length, arith}
 use Rattle.std.proofs.lemmas.Bool.Decides.{nat_tests}
 use Rattle.pst_scen.specs.declared.act.Flow.TheVariants.{StateOut}
 use Rattle.pst_graph.specs.Listed.{UsesFlow, IsReplacing}

@@ -1,9 +1,9 @@
-use Rattle.std.proofs.Common.{◌≤◌, ℕ, List, length, sym, subst, ◌∙◌}
+use Rattle.std.proofs.Common.{List, sym, subst}
 use Rattle.pst_scen.specs.declared.tree.Node.{Node}
 use Rattle.pst_graph.specs.Squares.{Adds}
-use Rattle.pst_graph.specs.Tables.{AreNumbered, StandsBefore, leaf_count}
+use Rattle.pst_graph.specs.Tables.{AreNumbered, StandsBefore}
 use Rattle.pst_graph.proofs.LeafNumbers.{built_numbered}
-use Rattle.pst_graph.proofs.DirectRows.{leaves_fit, causes_added}
+use Rattle.pst_graph.proofs.DirectRows.{causes_added}
 use Rattle.pst_graph.proofs.rows.add_causes.Goals as goal
 
 pub new-requires-clause-numbered : goal.new-requires-clause-numbered

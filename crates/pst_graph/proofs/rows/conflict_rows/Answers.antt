@@ -1,24 +1,30 @@
-use Rattle.std.proofs.Common.{◌≡◌, ◌↔◌, ℕ, length, sym, subst, ap, ◌∙◌, arith}
-use Rattle.std.proofs.lemmas.Bool.Decides.{nat_tests}
+use Rattle.std.proofs.Common.{◌≡◌, ◌↔◌, ◌<◌, ℕ, List, length, slice_get, Some, sym, subst, ap, ◌∙◌}
 use Rattle.pst_scen.specs.declared.rows.Rows.{Rows}
 use Rattle.pst_scen.specs.Conflicts.{Conflict}
 use Rattle.pst_scen.specs.Rows.{Has}
-use Rattle.pst_graph.specs.Squares.{Adds, IsAbove}
-use Rattle.pst_graph.proofs.Adding.{above_more, all_rows}
+use Rattle.pst_graph.specs.declared.uses.Use.{Use}
+use Rattle.pst_graph.specs.Squares.{IsBlank, Adds}
+use Rattle.pst_graph.specs.Uses.{AreUses, AreApartIn}
+use Rattle.pst_graph.proofs.UsesApart.{use_inside, all_conflicts}
 use Rattle.pst_graph.proofs.rows.conflict_rows.Goals as goal
 
-pub loop-a-preserved : goal.loop-a-preserved
-loop-a-preserved c = above_more (Conflict c.args.scenario.now) c.in_ok-square.square c.loop-a.square c.add_conflicts.new.square c.loop-a.a c.loop-a.invariant c.add_conflicts.ensures
+pub add_conflicts-requires-clause-inside : goal.add_conflicts-requires-clause-inside
+add_conflicts-requires-clause-inside c = λ i v is.
+    let blank = c.in_ok-square.ensures in
+    subst (λ (n : ℕ). v.act < n) (sym (blank.sized ∙ c.requires))
+    (use_inside c.args.scenario.now c.in_ok-uses.uses.items c.args.count i v c.in_ok-uses.ensures (subst (λ (uses : List Use). slice_get uses i ≡ Some v) c.deref.ensures.value is))
 
 pub returns : goal.returns
 returns c =
-    let all : c.loop-a.a ≡ length c.args.scenario.now.actions = grind (arith, nat_tests, c.loop-a-test.false, c.loop-a.auto.a-end, c.requires) in
-    let many = c.requires in
     let blank = c.in_ok-square.ensures in
-    let size : c.into_rows.result.size ≡ length c.args.scenario.now.actions = ap (λ (r : Rows). r.size) c.into_rows.ensures.is ∙ c.loop-a.invariant.sized ∙ blank.sized ∙ c.requires in (
+    let added = c.in_ok-add_conflicts.ensures in
+    let size : c.into_rows.result.size ≡ length c.args.scenario.now.actions = ap (λ (r : Rows). r.size) c.into_rows.ensures.is ∙ added.sized ∙ blank.sized ∙ c.requires in (
       size,
       c.into_rows.ensures.square,
       λ a b a_in b_in.
           subst (λ (r : Rows). Has r a b ↔ Conflict c.args.scenario.now a b) (sym c.into_rows.ensures.is)
-          (all_rows (Conflict c.args.scenario.now) c.in_ok-square.square c.loop-a.square c.args.count blank (subst (λ (n : ℕ). Adds c.in_ok-square.square c.loop-a.square (IsAbove (Conflict c.args.scenario.now) n)) (all ∙ sym many) c.loop-a.invariant) a b (omega (arith, a_in, many)) (omega (arith, b_in, many))),
+          (all_conflicts c.args.scenario.now c.in_ok-uses.uses.items c.in_ok-square.square c.add_conflicts.new.square
+          (subst (λ (n : ℕ). AreUses c.args.scenario.now c.in_ok-uses.uses.items n) c.requires c.in_ok-uses.ensures)
+          (subst (λ (n : ℕ). IsBlank c.in_ok-square.square n) c.requires blank)
+          (subst (λ (uses : List Use). Adds c.in_ok-square.square c.add_conflicts.new.square (AreApartIn uses)) c.deref.ensures.value added) a b a_in b_in),
     )

@@ -1,4 +1,4 @@
-use Rattle.std.proofs.Common.{◌≤◌, ◌<◌, ◌+◌, refl, arith}
+use Rattle.std.proofs.Common.{refl, arith}
 use Rattle.pst_graph.proofs.Squares.{all_bits}
 use Rattle.pst_graph.proofs.square.range_mask.Goals as goal
 

@@ -1,7 +1,6 @@
-use Rattle.std.proofs.Common.{◌≡◌, ◌<◌, ◌≤◌, ℕ, get_or, set, length, sym, subst, arith}
+use Rattle.std.proofs.Common.{◌≡◌, ◌<◌, ◌≤◌, ℕ, get_or, set, sym, subst, arith}
 use Rattle.std.proofs.lemmas.List.{get_or_read}
 use Rattle.std.proofs.lemmas.Bool.Decides.{nat_tests}
-use Rattle.pst_scen.specs.Tree.{IsChild}
 use Rattle.pst_graph.specs.Tables.{AreEndsFrom}
 use Rattle.pst_graph.proofs.Climbs.{one_parent, child_read, rootless, parent_less}
 use Rattle.pst_graph.proofs.Ends.{unchanged_from, widened_from}

@@ -1,0 +1,6 @@
+use Rattle.std.proofs.Common.{◌≤◌, sum}
+use Rattle.pst_graph.specs.Grouping.{AreMembers}
+use Rattle.pst_graph.proofs.groups.join_all.Given as goal
+
+abbrev pub invariant-loop-a : goal.invariant-loop-a
+invariant-loop-a l = record { members : AreMembers l.scenario l.groups.items; less : sum l.groups.items ≤ sum l.initial.groups.items }
