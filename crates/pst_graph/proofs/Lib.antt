@@ -28,3 +28,4 @@ mod Refused
 mod Numbered
 mod Ended
 mod Walking
+mod Checks

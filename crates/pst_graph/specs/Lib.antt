@@ -14,5 +14,6 @@ pub mod Next
 pub mod Ends
 pub mod Streamed
 pub mod Walks
+pub mod Checked
 pub mod Uses
 pub mod Sets

@@ -4,6 +4,8 @@
 mod apart;
 mod before;
 mod behind;
+#[cfg(test)]
+mod built;
 mod cause;
 mod climb;
 mod closure;
@@ -27,6 +29,8 @@ mod walk;
 
 pub use plan::{PlanEnd, plan_of};
 
+#[cfg(test)]
+mod conflict_tests;
 #[cfg(test)]
 mod plainly;
 #[cfg(test)]

@@ -12,14 +12,14 @@ pub(crate) fn is_flow(one: Flow, other: Flow) -> bool
 }
 
 /// Whether both links are the same.
-fn is_link(one: Link, other: Link) -> bool
+pub(crate) fn is_link(one: Link, other: Link) -> bool
     ensures { IsTrue result ↔ one ≡ other }
 {
     one == other
 }
 
 /// Whether it is a reference to a state pool.
-fn is_state(flow: Flow) -> bool
+pub(crate) fn is_state(flow: Flow) -> bool
     ensures { IsTrue result ↔ (flow ≡ Flow.StateIn) ⊎ (flow ≡ Flow.StateOut) }
 {
     match flow {
