@@ -1,6 +1,7 @@
 mod Climbs
 mod Awaits
 mod Bits
+mod Branches
 mod Acted
 mod Loops
 mod Grouped
@@ -27,3 +28,4 @@ mod Refused
 mod Numbered
 mod Ended
 mod Walking
+mod Checks

@@ -15,5 +15,6 @@ pub mod Ends
 pub mod Whole
 pub mod Streamed
 pub mod Walks
+pub mod Checked
 pub mod Uses
 pub mod Sets

@@ -50,6 +50,12 @@ pub record IsParallelBlock (nodes : List Node) (n : ℕ) : Type 0 where
   pub is : IsNode nodes n node
   pub parallel : IsParallel node.fill
 
+-- the node is a branch of a parallel block
+pub record IsBranch (nodes : List Node) (branch : ℕ) : Type 0 where
+  pub block : ℕ
+  pub is_block : IsParallelBlock nodes block
+  pub is_child : IsChild nodes branch block
+
 -- the node is a branch of a parallel block, and n stands in another branch of it
 pub record IsBranchBeside (nodes : List Node) (n branch : ℕ) : Type 0 where
   pub block : ℕ

@@ -4,10 +4,11 @@
 mod apart;
 mod before;
 mod behind;
+#[cfg(test)]
+mod built;
 mod cause;
 mod climb;
 mod closure;
-mod direct;
 mod groups;
 mod kinds;
 mod links;
@@ -15,6 +16,7 @@ mod must;
 mod named;
 mod next;
 mod parallel;
+#[cfg(test)]
 mod plainly;
 mod planning;
 mod refusals;
@@ -30,3 +32,10 @@ mod whole;
 
 pub use planning::{PlanEnd, plan_of};
 pub use whole::plan;
+
+#[cfg(test)]
+mod conflict_tests;
+#[cfg(test)]
+mod run_tests;
+#[cfg(test)]
+mod tests;

@@ -1,8 +1,8 @@
 //! Which actions stand in different branches of one parallel block.
-ghost use Rattle.std.specs.Prelude.{◌≡◌, ◌<◌, ◌↔◌, length, IsTrue};
+ghost use Rattle.std.specs.Prelude.{◌≡◌, ◌<◌, ◌↔◌, length, IsTrue, ℕ};
 ghost use Rattle.pst_scen.specs.Plans.{IsParallel, StandParallel};
 ghost use Rattle.pst_scen.specs.Laws.{IsPreorder, HasOneLeafEach};
-ghost use Rattle.pst_graph.specs.Over.{Over, IsParallelBlock, IsBranchBeside};
+ghost use Rattle.pst_graph.specs.Over.{Over, IsParallelBlock, IsBranch, IsBranchBeside};
 
 use crate::climb::{child_over, leaf_of};
 use pst_scen::{Fill, Node, Scenario};
@@ -61,6 +61,47 @@ fn are_leaves_parallel(nodes: &[Node], leaf: usize, other: usize) -> bool
         at = parent as usize;
     }
     true
+}
+
+/// Whether the node is a branch of a parallel block.
+fn is_branch(nodes: &[Node], n: usize) -> bool
+    requires preorder { IsPreorder nodes.now }
+    requires within { n < length nodes.now }
+    ensures { IsTrue result ↔ IsBranch nodes.now n }
+{
+    let Some(block) = nodes[n].parent else {
+        return false;
+    };
+    is_block(nodes, block as usize)
+}
+
+/// Whether the leaf stands in a branch of a parallel block.
+fn is_leaf_in_branch(nodes: &[Node], leaf: usize) -> bool
+    requires preorder { IsPreorder nodes.now }
+    requires leaf_in { leaf < length nodes.now }
+    ensures { IsTrue result ↔ Over nodes.now (IsBranch nodes.now) leaf }
+{
+    let mut at = leaf;
+    'parents: while !is_branch(nodes, at) {
+        let Some(parent) = nodes[at].parent else {
+            return false;
+        };
+        at = parent as usize;
+    }
+    true
+}
+
+/// Whether the action stands in a parallel block. One that doesn't has none that stands beside it.
+pub(crate) fn stands_in_parallel(scenario: &Scenario, a: u32) -> bool
+    requires preorder { IsPreorder scenario.now.nodes }
+    requires one_leaf { HasOneLeafEach scenario.now.nodes }
+    ensures { (b : ℕ) → StandParallel scenario.now a b → IsTrue result }
+{
+    let nodes = scenario.nodes.as_slice();
+    let Some(leaf) = leaf_of(nodes, a) else {
+        return false;
+    };
+    is_leaf_in_branch(nodes, leaf)
 }
 
 /// Whether the two actions stand in different branches of one parallel block.

@@ -7,7 +7,7 @@ ghost use Rattle.pst_order.specs.Facts.{IsLinked};
 
 use crate::cause::{clashes_alone, contend};
 use crate::next::next_in;
-use crate::parallel::stand_parallel;
+use crate::parallel::{stand_parallel, stands_in_parallel};
 use pst_scen::{Plan, Scenario};
 
 /// The least action that must come before itself.
@@ -102,6 +102,9 @@ fn find_ordered_of(scenario: &Scenario, plan: &Plan, a: u32) -> Option<u32>
     requires a_in { a < length scenario.now.actions }
     ensures { MatchOption result ((b : ℕ) → IsParallelOrdered scenario.now a b → ⊥) (IsLeast (IsParallelOrdered scenario.now a)) }
 {
+    if !stands_in_parallel(scenario, a) {
+        return None;
+    }
     let count = plan.len();
     for b in a + 1..count {
         if is_ordered_beside(scenario, plan, a, b) {

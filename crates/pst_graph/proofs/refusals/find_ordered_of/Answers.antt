@@ -21,3 +21,6 @@ returns c = λ b h.
     let b_in = (parallel_in c.args.scenario.now c.args.plan.now c.requires.linked c.requires.entries c.args.a b h.parallel).1 in
     let below : b < c.loop-b.b = grind (arith, nat_tests, b_in, c.len-count.ensures.is, c.requires.entries.many, c.loop-b-test.false) in
     c.loop-b.invariant b below h
+
+pub returns-then-not-stands_in_parallel : goal.returns-then-not-stands_in_parallel
+returns-then-not-stands_in_parallel c = λ b h. no_true (c.if-not-stands_in_parallel.ensures b h.parallel)
