@@ -1,6 +1,7 @@
 mod Climbs
 mod Awaits
 mod Bits
+mod Branches
 mod Acted
 mod Loops
 mod Grouped

@@ -17,17 +17,6 @@ pub record IsApart (s : Scenario) (groups : List ℕ) (a b : ℕ) : Type 0 where
   pub link : Streams s a b
   pub less : get_or groups b 0 < get_or groups a 0
 
--- x has the number of b's group, and a is a direct cause for it
-pub record LeadsInto (s : Scenario) (groups : List ℕ) (a b x : ℕ) : Type 0 where
-  pub x_in : x < length s.actions
-  pub same : get_or groups x 0 ≡ get_or groups b 0
-  pub direct : Direct s a x
-
--- a is a direct cause for an action that has the number of b's group
-pub record HasMemberAfter (s : Scenario) (groups : List ℕ) (a b : ℕ) : Type 0 where
-  pub x : ℕ
-  pub leads : LeadsInto s groups a b x
-
 -- a is a direct cause for a member of b's group
 pub record MustDirectly (s : Scenario) (a b : ℕ) : Type 0 where
   pub x : ℕ

@@ -1,16 +1,13 @@
-//! Why one action comes before another, and what joins two or keeps them apart.
+//! What keeps two actions apart.
 ghost use Rattle.std.specs.Prelude.{◌≡◌, ◌≢◌, ◌↔◌, ◌<◌, length, IsTrue};
-ghost use Rattle.pst_scen.specs.Flows.{IsAct, Feeds};
-ghost use Rattle.pst_scen.specs.Order.{Cause, Direct};
+ghost use Rattle.pst_scen.specs.Flows.{IsAct};
 ghost use Rattle.pst_scen.specs.Conflicts.{Clash, Conflict};
 ghost use Rattle.pst_scen.specs.Plans.{Contend, ClashesAlone};
-ghost use Rattle.pst_scen.specs.Laws.{IsPreorder, HasOneLeafEach};
-ghost use Rattle.pst_graph.specs.Acts.{LinksOrder, Touches};
+ghost use Rattle.pst_graph.specs.Acts.{Touches};
 ghost use Rattle.pst_graph.specs.Links.{HasDispute};
 
-use crate::before::before;
-use crate::links::{has_dispute, has_link, has_own_dispute, reads_replaced, writes_used};
-use pst_scen::{Act, Flow, Scenario};
+use crate::links::{has_dispute, has_own_dispute, writes_used};
+use pst_scen::{Act, Scenario};
 
 /// The action of that number.
 pub(crate) fn act_at(scenario: &Scenario, a: u32) -> &Act
@@ -18,52 +15,6 @@ pub(crate) fn act_at(scenario: &Scenario, a: u32) -> &Act
     ensures { IsAct scenario.now a result.now }
 {
     &scenario.actions.as_slice()[a as usize]
-}
-
-/// Whether a link of the two actions, of which the first has that number, has it come before the
-/// second.
-fn links_order(one: &Act, other: &Act, a: u32) -> bool
-    ensures { IsTrue result ↔ LinksOrder one.now other.now a }
-{
-    let references = other.references.as_slice();
-    if has_link(references, Flow::BufferIn, a) {
-        return true;
-    }
-    if has_link(references, Flow::StateIn, a) {
-        return true;
-    }
-    if has_link(references, Flow::StateOut, a) {
-        return true;
-    }
-    reads_replaced(one.references.as_slice(), references)
-}
-
-/// Whether there is a cause for the first action to come before the second.
-pub(crate) fn causes(scenario: &Scenario, a: u32, b: u32) -> bool
-    requires preorder { IsPreorder scenario.now.nodes }
-    requires one_leaf { HasOneLeafEach scenario.now.nodes }
-    requires a_in { a < length scenario.now.actions }
-    requires b_in { b < length scenario.now.actions }
-    ensures { IsTrue result ↔ Cause scenario.now a b }
-{
-    if links_order(act_at(scenario, a), act_at(scenario, b), a) {
-        return true;
-    }
-    before(scenario, a, b)
-}
-
-/// Whether the first action is a direct cause for the second.
-pub(crate) fn is_direct(scenario: &Scenario, a: u32, b: u32) -> bool
-    requires preorder { IsPreorder scenario.now.nodes }
-    requires one_leaf { HasOneLeafEach scenario.now.nodes }
-    requires a_in { a < length scenario.now.actions }
-    requires b_in { b < length scenario.now.actions }
-    ensures { IsTrue result ↔ Direct scenario.now a b }
-{
-    if a == b {
-        return false;
-    }
-    causes(scenario, a, b)
 }
 
 /// Whether claims of the two actions dispute each other.

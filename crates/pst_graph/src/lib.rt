@@ -9,7 +9,6 @@ mod built;
 mod cause;
 mod climb;
 mod closure;
-mod direct;
 mod groups;
 mod kinds;
 mod links;
@@ -17,7 +16,6 @@ mod must;
 mod named;
 mod next;
 mod parallel;
-mod plainly;
 mod plan;
 mod refusals;
 mod replaced;
@@ -31,5 +29,9 @@ mod walk;
 
 pub use plan::{PlanEnd, plan_of};
 
+#[cfg(test)]
+mod conflict_tests;
+#[cfg(test)]
+mod plainly;
 #[cfg(test)]
 mod tests;

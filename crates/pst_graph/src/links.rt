@@ -1,7 +1,6 @@
 //! What references and claims of actions have to do with each other.
 ghost use Rattle.std.specs.Prelude.{◌≡◌, ◌↔◌, ◌⊎◌, ◌<◌, ℕ, length, IsTrue};
-ghost use Rattle.pst_scen.specs.Flows.{LeadsTo};
-ghost use Rattle.pst_graph.specs.Links.{HasLink, HasUse, WritesInto, WritesUsed, Replaces, IsReplaced, ReadsReplaced, AreDisputed, Disputes, HasDispute, DisputesElsewhere, HasOwnDispute};
+ghost use Rattle.pst_graph.specs.Links.{HasUse, WritesInto, WritesUsed, Replaces, IsReplaced, ReadsReplaced, AreDisputed, Disputes, HasDispute, DisputesElsewhere, HasOwnDispute};
 
 use pst_scen::{Claimed, Filled, Flow, Link};
 
@@ -17,30 +16,6 @@ pub(crate) fn is_link(one: Link, other: Link) -> bool
     ensures { IsTrue result ↔ one ≡ other }
 {
     one == other
-}
-
-/// Whether the link leads to the action.
-fn leads_to(link: Link, act: u32) -> bool
-    ensures { IsTrue result ↔ LeadsTo link act }
-{
-    match link {
-        Link::Act { act: other, .. } => other == act,
-        _ => false,
-    }
-}
-
-/// Whether a reference of this kind leads to the action.
-pub(crate) fn has_link(references: &[Filled], flow: Flow, act: u32) -> bool
-    ensures { IsTrue result ↔ HasLink references.now flow act }
-{
-    for i in 0..references.len() {
-        if is_flow(references[i].flow, flow) {
-            if leads_to(references[i].link, act) {
-                return true;
-            }
-        }
-    }
-    false
 }
 
 /// Whether it is a reference to a state pool.

@@ -1,70 +1,14 @@
-//! Squares of the pairs of actions that are related, pair by pair.
-ghost use Rattle.std.specs.Prelude.{◌≡◌, ◌↔◌, ◌<◌, ◌*◌, ◌^◌, ℕ, length, get_or, IfOk};
+//! The square of the pairs of actions that conflict, pair by pair, for tests.
+ghost use Rattle.std.specs.Prelude.{◌≡◌, ◌↔◌, ◌<◌, ℕ, length, IfOk};
 ghost use Rattle.pst_scen.specs.Conflicts.{Conflict};
-ghost use Rattle.pst_scen.specs.Plans.{IsGroupNumber};
 ghost use Rattle.pst_scen.specs.Rows.{IsSquare, Has};
-ghost use Rattle.pst_order.specs.Facts.{IsLinked};
-ghost use Rattle.pst_graph.specs.Grouping.{MustDirectly};
 ghost use Rattle.pst_graph.specs.Squares.{Adds, IsOnly, IsInRow};
 
 use crate::cause::conflicts;
-use crate::direct::must_directly;
 use crate::square::Square;
 use pst_base::NoMemory;
 use pst_scen::{Rows, Scenario};
 use std::alloc::Global;
-
-/// Adds the pair of actions where the first is a direct cause for a member of the second's group.
-fn add_direct(square: &mut Square, scenario: &Scenario, groups: &[u32], count: u32, a: u32, b: u32)
-    requires linked { IsLinked scenario.now }
-    requires many { length groups.now ≡ length scenario.now.actions }
-    requires numbers { (c : ℕ) → c < length scenario.now.actions → IsGroupNumber scenario.now c (get_or groups.now c 0) }
-    requires count { count ≡ length scenario.now.actions }
-    requires size { square.old.size ≡ length scenario.now.actions }
-    requires a_in { a < length scenario.now.actions }
-    requires b_in { b < length scenario.now.actions }
-    ensures { Adds square.old square.new (IsOnly (MustDirectly scenario.now) a b) }
-{
-    if must_directly(scenario, groups, count, a, b) {
-        square.add(a, b);
-    }
-}
-
-/// Adds the row of the pairs of which the action is the first.
-fn add_directs(square: &mut Square, scenario: &Scenario, groups: &[u32], count: u32, a: u32)
-    requires linked { IsLinked scenario.now }
-    requires many { length groups.now ≡ length scenario.now.actions }
-    requires numbers { (c : ℕ) → c < length scenario.now.actions → IsGroupNumber scenario.now c (get_or groups.now c 0) }
-    requires count { count ≡ length scenario.now.actions }
-    requires size { square.old.size ≡ length scenario.now.actions }
-    requires a_in { a < length scenario.now.actions }
-    ensures { Adds square.old square.new (IsInRow (MustDirectly scenario.now) a) }
-{
-    for b in 0..count {
-        add_direct(square, scenario, groups, count, a, b);
-    }
-}
-
-/// The square of the pairs of which the first is a direct cause for a member of the second's group,
-/// pair by pair.
-pub(crate) fn direct_rows_plainly(
-    alloc: Global,
-    scenario: &Scenario,
-    groups: &[u32],
-    count: u32,
-) -> Result<Rows, NoMemory>
-    requires linked { IsLinked scenario.now }
-    requires many { length groups.now ≡ length scenario.now.actions }
-    requires numbers { (c : ℕ) → c < length scenario.now.actions → IsGroupNumber scenario.now c (get_or groups.now c 0) }
-    requires count { count ≡ length scenario.now.actions }
-    ensures { IfOk result (λ rows. (rows.size ≡ length scenario.now.actions) × IsSquare rows × ((a b : ℕ) → a < length scenario.now.actions → b < length scenario.now.actions → Has rows a b ↔ MustDirectly scenario.now a b)) }
-{
-    let mut square = Square::new(alloc, count)?;
-    for a in 0..count {
-        add_directs(&mut square, scenario, groups, count, a);
-    }
-    Ok(square.into_rows())
-}
 
 /// Adds the pair of actions where they conflict.
 fn add_conflict(square: &mut Square, scenario: &Scenario, a: u32, b: u32)
