@@ -156,14 +156,18 @@ fn in_sequence(alloc: Global, count: u32) -> Result<Scenario, Fail> {
 fn in_blocks(alloc: Global, count: u32) -> Result<Scenario, Fail> {
     let mut nodes = vec![in alloc; root(alloc), node(0, Fill::Schedule)]?;
     let mut acts = Vec::new(alloc);
+    let mut place: u32 = 2;
+    let mut act: u32 = 0;
     for branch in 0..4 {
-        let block = nodes.len() as u32;
+        let block = place;
         nodes.push(node(1, Fill::Schedule))?;
         for _ in 0..count {
-            let place = nodes.len() as u32;
-            nodes.push(leaf(block, acts.len() as u32))?;
+            place = place.saturating_add(1);
+            nodes.push(leaf(block, act))?;
             acts.push(claims(alloc, place, true, branch)?)?;
+            act = act.saturating_add(1);
         }
+        place = place.saturating_add(1);
     }
     Ok(scenario(alloc, 0, nodes, acts))
 }
