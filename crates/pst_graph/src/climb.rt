@@ -36,8 +36,8 @@ fn is_leaf_of(fill: &Fill, act: u32) -> bool
     }
 }
 
-/// The action's leaf.
-pub(crate) fn leaf_of(nodes: &[Node], act: u32) -> Option<usize>
+/// The action's leaf, found by looking at all nodes.
+fn search_leaf(nodes: &[Node], act: u32) -> Option<usize>
     ensures { MatchOption result ((n : ℕ) → IsLeafOf nodes.now act n → ⊥) (IsLeafOf nodes.now act) }
 {
     for n in 0..nodes.len() {
@@ -46,6 +46,25 @@ pub(crate) fn leaf_of(nodes: &[Node], act: u32) -> Option<usize>
         }
     }
     None
+}
+
+/// Whether the node is there, and is the action's leaf.
+fn is_leaf_at(nodes: &[Node], n: usize, act: u32) -> bool
+    ensures { IsTrue result → IsLeafOf nodes.now act n }
+{
+    n < nodes.len() && is_leaf_of(&nodes[n].fill, act)
+}
+
+/// The action's leaf. It is looked for at the given node first.
+pub(crate) fn leaf_of(nodes: &[Node], node: Option<u32>, act: u32) -> Option<usize>
+    ensures { MatchOption result ((n : ℕ) → IsLeafOf nodes.now act n → ⊥) (IsLeafOf nodes.now act) }
+{
+    if let Some(n) = node {
+        if is_leaf_at(nodes, n as usize, act) {
+            return Some(n as usize);
+        }
+    }
+    search_leaf(nodes, act)
 }
 
 /// The node directly in the top one that is the given node or stands over it.

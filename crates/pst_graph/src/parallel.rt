@@ -1,5 +1,7 @@
 //! Which actions stand in different branches of one parallel block.
 ghost use Rattle.std.specs.Prelude.{◌≡◌, ◌<◌, ◌↔◌, length, IsTrue, ℕ};
+ghost use Rattle.pst_scen.specs.declared.act.Act.{Act};
+ghost use Rattle.pst_scen.specs.Flows.{IsAct};
 ghost use Rattle.pst_scen.specs.Plans.{IsParallel, StandParallel};
 ghost use Rattle.pst_scen.specs.Laws.{IsPreorder, HasOneLeafEach};
 ghost use Rattle.pst_graph.specs.Over.{Over, IsParallelBlock, IsBranch, IsBranchBeside};
@@ -91,6 +93,16 @@ fn is_leaf_in_branch(nodes: &[Node], leaf: usize) -> bool
     true
 }
 
+/// The node that the action names, if there is one.
+fn node_of(scenario: &Scenario, a: u32) -> Option<u32>
+    ensures { (act : Act) → IsAct scenario.now a act → result ≡ act.node }
+{
+    match scenario.actions.as_slice().get(a as usize) {
+        Some(act) => act.node,
+        None => None,
+    }
+}
+
 /// Whether the action stands in a parallel block. One that doesn't has none that stands beside it.
 pub(crate) fn stands_in_parallel(scenario: &Scenario, a: u32) -> bool
     requires preorder { IsPreorder scenario.now.nodes }
@@ -98,7 +110,7 @@ pub(crate) fn stands_in_parallel(scenario: &Scenario, a: u32) -> bool
     ensures { (b : ℕ) → StandParallel scenario.now a b → IsTrue result }
 {
     let nodes = scenario.nodes.as_slice();
-    let Some(leaf) = leaf_of(nodes, a) else {
+    let Some(leaf) = leaf_of(nodes, node_of(scenario, a), a) else {
         return false;
     };
     is_leaf_in_branch(nodes, leaf)
@@ -111,10 +123,10 @@ pub(crate) fn stand_parallel(scenario: &Scenario, a: u32, b: u32) -> bool
     ensures { IsTrue result ↔ StandParallel scenario.now a b }
 {
     let nodes = scenario.nodes.as_slice();
-    let Some(leaf) = leaf_of(nodes, a) else {
+    let Some(leaf) = leaf_of(nodes, node_of(scenario, a), a) else {
         return false;
     };
-    let Some(other) = leaf_of(nodes, b) else {
+    let Some(other) = leaf_of(nodes, node_of(scenario, b), b) else {
         return false;
     };
     are_leaves_parallel(nodes, leaf, other)

@@ -150,6 +150,9 @@ fn find_contender_of(scenario: &Scenario, plan: &Plan, a: u32) -> Option<u32>
     requires a_in { a < length scenario.now.actions }
     ensures { MatchOption result ((b : ℕ) → IsParallelClash scenario.now a b → ⊥) (IsLeast (IsParallelClash scenario.now a)) }
 {
+    if !stands_in_parallel(scenario, a) {
+        return None;
+    }
     let rows = plan.conflict_rows();
     let mut at = a;
     'rest: while let Some(b) = next_in(rows, a, at) {

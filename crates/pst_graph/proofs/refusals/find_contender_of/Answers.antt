@@ -50,3 +50,6 @@ returns c =
     let size : p.conflict.size ≡ length s.actions = ap (λ (rows : Rows). rows.size) (sym c.conflict_rows-rows.ensures.is) ∙ c.conflict_rows-rows.ensures.size ∙ c.requires.entries.many in
     let none = subst (λ (rows : Rows). (b : ℕ) → c.rest.at < b → b < rows.size → Has rows c.args.a b → ⊥) c.conflict_rows-rows.ensures.is c.in_default.ensures in
     nowhere_in p.conflict c.args.a (IsParallelClash s c.args.a) (λ b. parallel_clash_has s p c.requires.linked c.requires.entries c.args.a b size) c.rest.at c.rest.invariant.behind c.rest.invariant.before none
+
+pub returns-then-not-stands_in_parallel : goal.returns-then-not-stands_in_parallel
+returns-then-not-stands_in_parallel c = λ b h. no_true (c.if-not-stands_in_parallel.ensures b h.parallel)
