@@ -31,7 +31,8 @@ use Rattle.pst_parse_expr.specs.Constraints.{Within, outermost_at, is_at, is_oth
 use Rattle.pst_parse_expr.proofs.Stops.{IsNo, Separates, separated, semicolon_closes, arrow_closes, right_parenthesis_closes, right_brace_closes, comma_closes}
 use Rattle.pst_parse_expr.proofs.ExprAgain.{expr_again}
 use Rattle.pst_parse_expr.proofs.Starts.{BeginsItem, begins_empty, begins_if, begins_unique, begins_foreach, begins_with_expr, starts_expr, item_starts}
-use Rattle.pst_parse_expr.proofs.ConstraintExplains.{spell_condition, IsProperCondition, counts_condition, spell_subscript, counts_subscript, IsAny, items_spelled, items_counted}
+use Rattle.pst_parse_expr.proofs.ConstraintExplains.{items_spelled, items_counted}
+use Rattle.pst_parse_expr.proofs.SharedLaws.{IsAny, spell_condition, IsProperCondition, counts_condition, spell_subscript, counts_subscript, same_text, bracketed, no_arrow, no_comma_at_brace, no_dot_at_bracket, brace_is_no_else, brace_ends, condition_again, next_expr_again, next_expr_starts, some_next_expr, dot_name_again, subscript_again}
 
 -- what may follow a set: behind an open `if` no `else`
 abbrev pub StopsSet : ConstraintTree → Option Token → Type 0
@@ -52,35 +53,7 @@ all_proper : (items : List ConstraintItemTree) → AreProperConstraintItem (item
 all_proper [] h = tt
 all_proper (item ∷ items) h = (h.0, all_proper items h.1)
 
--- ---- the same text and counts, otherwise put together
-
-same_text : {A : Type 0} (p q : Parser A) (ts us rest : List Token) (cs ds : List Count) → us ≡ ts → ds ≡ cs → Becomes p us ds q rest → Becomes p ts cs q rest
-same_text p q ts us rest cs ds e f h = subst (λ (u : List Token). Becomes p u cs q rest) e (subst (λ (u : List Count). Becomes p us u q rest) f h)
-
--- a bracket between two parts, and what follows
-bracketed : {A : Type 0} (a : List A) (x : A) (b rest : List A) → (a ++ x ∷ []) ++ (b ++ rest) ≡ (a ++ x ∷ b) ++ rest
-bracketed a x b rest = append_assoc a (x ∷ []) (b ++ rest) ∙ sym (append_assoc a (x ∷ b) rest)
-
-no_arrow : (p : Place) → next_is (is_mark kind.Arrow) (Some (mark kind.Semicolon p)) ≡ false
-unfolding is_mark
-no_arrow p = refl
-
-no_comma_at_brace : (p : Place) → is_at kind.Comma (Some (mark kind.RightBrace p)) ≡ false
-unfolding is_mark
-no_comma_at_brace p = refl
-
-no_dot_at_bracket : (p : Place) → is_at kind.Dot (Some (mark kind.LeftBracket p)) ≡ false
-unfolding is_mark
-no_dot_at_bracket p = refl
-
-brace_is_no_else : (p : Place) → IsNo kind.Else (Some (mark kind.RightBrace p))
-unfolding is_mark
-brace_is_no_else p = refl
-
-brace_ends : (p : Place) → is_other kind.RightBrace (Some (mark kind.RightBrace p)) ≡ false
-brace_ends p = ap (λ (b : Bool). if b then false else true) (mark_is_so kind.RightBrace p)
-
-some_item : (item : ConstraintItemTree) → 1 ≤ length (spell_constraint_item item)
+pub some_item : (item : ConstraintItemTree) → 1 ≤ length (spell_constraint_item item)
 some_item (ConstraintItemEmpty p) = omega arith
 some_item (ConstraintItemExpr e p) = omega (arith, length-append (spell_expr e) (mark kind.Semicolon p ∷ []))
 some_item (ConstraintItemImplies e p s) = omega (arith, length-append (spell_expr e) (mark kind.Arrow p ∷ spell_constraint s))
@@ -90,41 +63,6 @@ some_item (ConstraintItemUnique u l e es r s) = omega arith
 some_item (ConstraintItemForeach f l n ns b i r c s) = omega arith
 
 module _ (X : Within ExprTree) (S : Within ConstraintTree) (size : ℕ) (AX : (d : ℕ) (e : ExprTree) (rest : List Token) → IsProperExpr e → length (spell_expr e) ≤ size → Separates 0 (next rest) → Becomes (X d) (spell_expr e ++ rest) (counts_expr d 0 e) (Done e) rest) (AS : (d : ℕ) (s : ConstraintTree) (rest : List Token) → IsProperConstraint s → length (spell_constraint s) < size → StopsSet s (next rest) → Becomes (S d) (spell_constraint s ++ rest) (counts_constraint d s) (Done s) rest) where
-  condition_again : (d : ℕ) (g : ConditionTree) (rest : List Token) → IsProperCondition g → length (spell_condition g) ≤ size → Becomes (condition_by X d) (spell_condition g ++ rest) (counts_condition d g) (Done g) rest
-  condition_again d g rest proper short =
-      let c = counted d 0 in
-      let us = mark kind.RightParenthesis g.2 ∷ rest in
-      same_text (condition_by X d) (Done g) (spell_condition g ++ rest) (mark kind.LeftParenthesis g.0 ∷ (spell_expr g.1 ++ us)) rest (counts_condition d g) (counts_condition d g)
-      (ap (λ (u : List Token). mark kind.LeftParenthesis g.0 ∷ u) (sym (append_assoc (spell_expr g.1) (mark kind.RightParenthesis g.2 ∷ []) rest))) refl
-      (becomes_mark kind.LeftParenthesis c (condition_inner X d) g.0 (Done g) (spell_expr g.1 ++ us) rest (counts_expr d 0 g.1 ++ c ∷ [])
-      (becomes_both (X d) (condition_close d g.0) g.1 (Done g) (spell_expr g.1 ++ us) us rest (counts_expr d 0 g.1) (c ∷ []) (AX d g.1 us proper (omega (arith, short, length-append (spell_expr g.1) (mark kind.RightParenthesis g.2 ∷ []))) (right_parenthesis_closes g.2))
-      (becomes_mark kind.RightParenthesis c (λ r. Done (g.0, g.1, r)) g.2 (Done g) rest rest [] (stays (Done g) rest))))
-
-  next_expr_again : (d : ℕ) (n : NextExprTree) (rest : List Token) → IsProperNextExpr n → length (spell_next_expr n) ≤ size → Separates 0 (next rest) → Becomes (next_expr_by X d) (spell_next_expr n ++ rest) (counts_next_expr d n) (Done n) rest
-  next_expr_again d (MakeNextExpr comma e) rest proper short s =
-      becomes_mark kind.Comma (counted d 0) (next_expr_inner X d) comma (Done (MakeNextExpr comma e)) (spell_expr e ++ rest) rest (counts_expr d 0 e)
-      (becomes_followed (X d) (Done e) (λ x. Done (MakeNextExpr comma x)) (spell_expr e ++ rest) rest (counts_expr d 0 e) (AX d e rest proper (omega (arith, short)) s))
-
-  next_expr_starts : (n : NextExprTree) (rest : List Token) → IsProperNextExpr n → StartsPart (is_at kind.Comma) (Separates 0) (spell_next_expr n ++ rest)
-  next_expr_starts (MakeNextExpr comma e) rest proper = record { found = mark_is_so kind.Comma comma; good = comma_closes comma }
-
-  some_next_expr : (n : NextExprTree) → 1 ≤ length (spell_next_expr n)
-  some_next_expr (MakeNextExpr comma e) = omega arith
-
-  dot_name_again : (d : ℕ) (n : DotName) (rest : List Token) → Becomes (dot_name_by d) (spell_dot_name n ++ rest) (counts_dot_name d n) (Done n) rest
-  dot_name_again d n rest =
-      let c = counted d 0 in
-      becomes_mark kind.Dot c (dot_name_inner d) n.dot (Done n) (name_token n.name ∷ rest) rest (c ∷ [])
-      (becomes_name c (λ name. Done (record { dot = n.dot; name = name })) n.name (Done n) rest rest [] (stays (Done n) rest))
-
-  subscript_again : (d : ℕ) (s : SubscriptTree) (rest : List Token) → Becomes (subscript_by d) (spell_subscript s ++ rest) (counts_subscript d s) (Done s) rest
-  subscript_again d s rest =
-      let c = counted d 0 in
-      becomes_mark kind.LeftBracket c (subscript_name d) s.0 (Done s) _ rest (c ∷ c ∷ c ∷ [])
-      (becomes_name c (subscript_close d s.0) s.1 (Done s) _ rest (c ∷ c ∷ [])
-      (becomes_mark kind.RightBracket c (subscript_end d s.0 s.1) s.2 (Done s) _ rest (c ∷ [])
-      (becomes_mark kind.RightParenthesis c (λ close. Done (s.0, s.1, s.2, close)) s.3 (Done s) rest rest [] (stays (Done s) rest))))
-
   -- ---- one constraint
 
   abbrev Again : ℕ → ConstraintItemTree → List Token → Type 0
@@ -172,7 +110,7 @@ module _ (X : Within ExprTree) (S : Within ConstraintTree) (size : ℕ) (AX : (d
   if_becomes : (d : ℕ) (i : Place) (g : ConditionTree) (t : ConstraintTree) (r : Parser ConstraintItemTree) (us rest : List Token) (cs : List Count) → IsProperCondition g → IsProperConstraint t → length (spell_condition g) ≤ size → length (spell_constraint t) < size → StopsSet t (next us) → Becomes (behind_then S d i g t) us cs r rest → Becomes (if_by X S d) (mark kind.If i ∷ (spell_condition g ++ (spell_constraint t ++ us))) (counted d 0 ∷ (counts_condition d g ++ (counts_constraint d t ++ cs))) r rest
   if_becomes d i g t r us rest cs proper propert short shortt stops h =
       becomes_mark kind.If (counted d 0) (if_condition_by X S d) i r (spell_condition g ++ (spell_constraint t ++ us)) rest (counts_condition d g ++ (counts_constraint d t ++ cs))
-      (becomes_both (condition_by X d) (then_by S d i) g r (spell_condition g ++ (spell_constraint t ++ us)) (spell_constraint t ++ us) rest (counts_condition d g) (counts_constraint d t ++ cs) (condition_again d g (spell_constraint t ++ us) proper short)
+      (becomes_both (condition_by X d) (then_by S d i) g r (spell_condition g ++ (spell_constraint t ++ us)) (spell_constraint t ++ us) rest (counts_condition d g) (counts_constraint d t ++ cs) (condition_again X size AX d g (spell_constraint t ++ us) proper short)
       (becomes_both (S d) (behind_then S d i g) t r (spell_constraint t ++ us) us rest (counts_constraint d t) cs (AS d t us propert shortt stops) h))
 
   -- no `else` behind it
@@ -242,7 +180,7 @@ module _ (X : Within ExprTree) (S : Within ConstraintTree) (size : ℕ) (AX : (d
       (becomes_mark kind.LeftBrace c (unique_first X size (suc d) u) l (Done item) (spell_expr e ++ us) rest (counts_expr (suc d) 0 e ++ (ds ++ c ∷ c ∷ []))
       (becomes_both (X (suc d)) (unique_rest X size (suc d) u l) e (Done item) (spell_expr e ++ us) us rest (counts_expr (suc d) 0 e) (ds ++ c ∷ c ∷ []) (AX (suc d) e us proper (omega (arith, short, long)) (behind es))
       (becomes_both (next_exprs_by X size (suc d)) (unique_close (suc d) u l e) es (Done item) us vs rest ds (c ∷ c ∷ [])
-      (list_again spell_next_expr IsProperNextExpr (counts_next_expr (suc d)) (is_at kind.Comma) (next_expr_by X (suc d)) size (Separates 0) (next_expr_again (suc d)) next_expr_starts some_next_expr es size vs propers (omega (arith, short, long, longer)) (omega (arith, short, long, longer)) (no_comma_at_brace r) (right_brace_closes r))
+      (list_again spell_next_expr IsProperNextExpr (counts_next_expr (suc d)) (is_at kind.Comma) (next_expr_by X (suc d)) size (Separates 0) (next_expr_again X size AX (suc d)) next_expr_starts some_next_expr es size vs propers (omega (arith, short, long, longer)) (omega (arith, short, long, longer)) (no_comma_at_brace r) (right_brace_closes r))
       (becomes_mark kind.RightBrace c (unique_end (suc d) u l e es) r (Done item) (mark kind.Semicolon s ∷ rest) rest (c ∷ [])
       (becomes_mark kind.Semicolon c (λ x. Done (ConstraintItemUnique u l e es r x)) s (Done item) rest rest [] (stays (Done item) rest))))))))
     where
@@ -278,7 +216,7 @@ module _ (X : Within ExprTree) (S : Within ConstraintTree) (size : ℕ) (AX : (d
       any_names [] = tt
       any_names (x ∷ xs) = (tt, any_names xs)
 
-  item_again : (d : ℕ) (item : ConstraintItemTree) (rest : List Token) → IsProperConstraintItem item → length (spell_constraint_item item) ≤ size → (item_ends_open item ≡ true → IsNo kind.Else (next rest)) → Again d item rest
+  pub item_again : (d : ℕ) (item : ConstraintItemTree) (rest : List Token) → IsProperConstraintItem item → length (spell_constraint_item item) ≤ size → (item_ends_open item ≡ true → IsNo kind.Else (next rest)) → Again d item rest
   item_again d (ConstraintItemEmpty p) rest proper short stops =
       let c = counted (suc d) 0 in
       choices (suc d) true false false false (mark kind.Semicolon p ∷ rest) rest (c ∷ []) (Done (ConstraintItemEmpty p)) (begins_empty p)

@@ -27,27 +27,7 @@ use Rattle.pst_reading.proofs.Chains.{explains_mark, explains_name, explains_par
 use Rattle.pst_reading.proofs.Lists.{list_explains}
 use Rattle.pst_parse_expr.specs.Constraints.{Within, outermost_at, is_at, is_other, ConditionTree, condition_close, condition_inner, condition_by, next_expr_by, next_exprs_by, dot_name_by, dot_names_by, behind_expr, expr_end, implies_by, implied_by, expr_item_by, otherwise_by, maybe_else_by, behind_then, then_by, if_condition_by, if_by, unique_close, unique_by, unique_open, unique_first, unique_rest, SubscriptTree, subscript_by, foreach_by, foreach_open, foreach_first, foreach_rest, foreach_index, foreach_set, empty_by, item_by, item_row, items_by, block_close, block_items, block_by, one_by, set_by, constraint_at}
 use Rattle.pst_parse_expr.proofs.Answering.{explains}
-
--- ---- parts that have no rule of their own
-
-abbrev pub spell_condition : ConditionTree → List Token
-spell_condition c = mark kind.LeftParenthesis c.0 ∷ (spell_expr c.1 ++ mark kind.RightParenthesis c.2 ∷ [])
-
-abbrev pub IsProperCondition : ConditionTree → Type 0
-IsProperCondition c = IsProperExpr c.1
-
-abbrev pub counts_condition : ℕ → ConditionTree → List Count
-counts_condition d c = counted d 0 ∷ (counts_expr d 0 c.1 ++ counted d 0 ∷ [])
-
-abbrev pub spell_subscript : SubscriptTree → List Token
-spell_subscript s = mark kind.LeftBracket s.0 ∷ name_token s.1 ∷ mark kind.RightBracket s.2 ∷ mark kind.RightParenthesis s.3 ∷ []
-
-abbrev pub counts_subscript : ℕ → SubscriptTree → List Count
-counts_subscript d s = counted d 0 ∷ counted d 0 ∷ counted d 0 ∷ counted d 0 ∷ []
-
--- any tree will do
-abbrev pub IsAny : {A : Type 0} → A → Type 0
-IsAny a = Unit {0}
+use Rattle.pst_parse_expr.proofs.SharedLaws.{IsAny, spell_condition, IsProperCondition, counts_condition, spell_subscript, counts_subscript, condition_explains, next_expr_explains, dot_name_explains, subscript_explains}
 
 -- ---- rows of constraints are those of their lists
 
@@ -59,53 +39,11 @@ pub items_counted : (d : ℕ) (items : List ConstraintItemTree) → counts_const
 items_counted d [] = refl
 items_counted d (item ∷ items) = ap (λ (u : List Count). counts_constraint_item d item ++ u) (items_counted d items)
 
-items_proper : (items : List ConstraintItemTree) → AllByRecursion IsProperConstraintItem items → AreProperConstraintItem (item_row items)
+pub items_proper : (items : List ConstraintItemTree) → AllByRecursion IsProperConstraintItem items → AreProperConstraintItem (item_row items)
 items_proper [] h = tt
 items_proper (item ∷ items) h = (h.0, items_proper items h.1)
 
 module _ (X : Within ExprTree) (S : Within ConstraintTree) (turns : ℕ) (EX : (d : ℕ) → Explains (Means spell_expr IsProperExpr (counts_expr d 0)) (X d)) (ES : (d : ℕ) → Explains (Means spell_constraint IsProperConstraint (counts_constraint d)) (S d)) where
-  condition_explains : (d : ℕ) → Explains (Means spell_condition IsProperCondition (counts_condition d)) (condition_by X d)
-  condition_explains d =
-      let c = counted d 0 in
-      let M = Means spell_condition IsProperCondition (counts_condition d) in
-      explains_mark M kind.LeftParenthesis c (condition_inner X d) (λ l.
-      let M1 = Behind M (mark kind.LeftParenthesis l ∷ []) (c ∷ []) in
-      explains_part M1 spell_expr IsProperExpr (counts_expr d 0) (X d) (condition_close d l) (EX d) (λ e p.
-      let M2 = Behind M1 (spell_expr e) (counts_expr d 0 e) in
-      explains_mark M2 kind.RightParenthesis c (λ r. Done (l, e, r)) (λ r.
-      explains_done (Behind M2 (mark kind.RightParenthesis r ∷ []) (c ∷ [])) (l, e, r) (record { is = refl; proper = p; counted = refl }))))
-
-  next_expr_explains : (d : ℕ) → Explains (Means spell_next_expr IsProperNextExpr (counts_next_expr d)) (next_expr_by X d)
-  next_expr_explains d =
-      let c = counted d 0 in
-      let M = Means spell_next_expr IsProperNextExpr (counts_next_expr d) in
-      explains_mark M kind.Comma c _ (λ comma.
-      let M1 = Behind M (mark kind.Comma comma ∷ []) (c ∷ []) in
-      explains_part M1 spell_expr IsProperExpr (counts_expr d 0) (X d) _ (EX d) (λ e p.
-      explains_done (Behind M1 (spell_expr e) (counts_expr d 0 e)) (MakeNextExpr comma e) (record { is = rw append-nil refl; proper = p; counted = rw append-nil refl })))
-
-  dot_name_explains : (d : ℕ) → Explains (Means spell_dot_name IsAny (counts_dot_name d)) (dot_name_by d)
-  dot_name_explains d =
-      let c = counted d 0 in
-      let M = Means spell_dot_name IsAny (counts_dot_name d) in
-      explains_mark M kind.Dot c _ (λ dot.
-      let M1 = Behind M (mark kind.Dot dot ∷ []) (c ∷ []) in
-      explains_name M1 c _ (λ name.
-      explains_done (Behind M1 (name_token name ∷ []) (c ∷ [])) (record { dot = dot; name = name }) (record { is = refl; proper = tt; counted = refl })))
-
-  subscript_explains : (d : ℕ) → Explains (Means spell_subscript IsAny (counts_subscript d)) (subscript_by d)
-  subscript_explains d =
-      let c = counted d 0 in
-      let M = Means spell_subscript IsAny (counts_subscript d) in
-      explains_mark M kind.LeftBracket c _ (λ l.
-      let M1 = Behind M (mark kind.LeftBracket l ∷ []) (c ∷ []) in
-      explains_name M1 c _ (λ name.
-      let M2 = Behind M1 (name_token name ∷ []) (c ∷ []) in
-      explains_mark M2 kind.RightBracket c _ (λ r.
-      let M3 = Behind M2 (mark kind.RightBracket r ∷ []) (c ∷ []) in
-      explains_mark M3 kind.RightParenthesis c _ (λ close.
-      explains_done (Behind M3 (mark kind.RightParenthesis close ∷ []) (c ∷ [])) (l, name, r, close) (record { is = refl; proper = tt; counted = refl })))))
-
   -- ---- one constraint
 
   abbrev IsItem : ℕ → Meaning ConstraintItemTree
@@ -159,7 +97,7 @@ module _ (X : Within ExprTree) (S : Within ConstraintTree) (turns : ℕ) (EX : (
       let M = IsItem d in
       explains_mark M kind.If c (if_condition_by X S (suc d)) (λ i.
       let M1 = Behind M (mark kind.If i ∷ []) (c ∷ []) in
-      explains_part M1 spell_condition IsProperCondition (counts_condition (suc d)) (condition_by X (suc d)) (then_by S (suc d) i) (condition_explains (suc d)) (λ g p.
+      explains_part M1 spell_condition IsProperCondition (counts_condition (suc d)) (condition_by X (suc d)) (then_by S (suc d) i) (condition_explains X EX (suc d)) (λ g p.
       let M2 = Behind M1 (spell_condition g) (counts_condition (suc d) g) in
       explains_part M2 spell_constraint IsProperConstraint (counts_constraint (suc d)) (S (suc d)) (behind_then S (suc d) i g) (ES (suc d)) (λ t q ts.
       else_explains d i g t p q (constraint_ends_open t) refl ts)))
@@ -175,7 +113,7 @@ module _ (X : Within ExprTree) (S : Within ConstraintTree) (turns : ℕ) (EX : (
       explains_part M2 spell_expr IsProperExpr (counts_expr (suc d) 0) (X (suc d)) (unique_rest X turns (suc d) u l) (EX (suc d)) (λ first p.
       let M3 = Behind M2 (spell_expr first) (counts_expr (suc d) 0 first) in
       explains_part M3 (flat_map spell_next_expr) (AllByRecursion IsProperNextExpr) (flat_map (counts_next_expr (suc d))) (next_exprs_by X turns (suc d)) (unique_close (suc d) u l first)
-      (list_explains spell_next_expr IsProperNextExpr (counts_next_expr (suc d)) (is_at kind.Comma) (next_expr_by X (suc d)) (next_expr_explains (suc d)) turns) (λ rest q.
+      (list_explains spell_next_expr IsProperNextExpr (counts_next_expr (suc d)) (is_at kind.Comma) (next_expr_by X (suc d)) (next_expr_explains X EX (suc d)) turns) (λ rest q.
       let M4 = Behind M3 (flat_map spell_next_expr rest) (flat_map (counts_next_expr (suc d)) rest) in
       explains_mark M4 kind.RightBrace c _ (λ r.
       let M5 = Behind M4 (mark kind.RightBrace r ∷ []) (c ∷ []) in
@@ -200,7 +138,7 @@ module _ (X : Within ExprTree) (S : Within ConstraintTree) (turns : ℕ) (EX : (
       explains_part M5 spell_constraint IsProperConstraint (counts_constraint (suc d)) (S (suc d)) _ (ES (suc d)) (λ set r.
       explains_done (Behind M5 (spell_constraint set) (counts_constraint (suc d) set)) (ConstraintItemForeach f l first rest s.0 s.1 s.2 s.3 set) (record { is = rw append-nil refl; proper = r; counted = rw append-nil refl })))))))
 
-  item_explains : (d : ℕ) → Explains (IsItem d) (item_by X S turns (suc d))
+  pub item_explains : (d : ℕ) → Explains (IsItem d) (item_by X S turns (suc d))
   item_explains d ts =
       let M = IsItem d in
       explains_choice M (next_is (is_mark kind.Semicolon) (next ts)) (empty_by (suc d)) _ ts (λ e. empty_explains d ts)

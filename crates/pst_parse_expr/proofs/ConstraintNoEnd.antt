@@ -10,11 +10,11 @@ use Rattle.pst_ast.specs.ConstraintSpelling.{spell_constraint, spell_constraint_
 use Rattle.pst_reading.proofs.Whole.{NoEnd, both_free}
 use Rattle.pst_parse_expr.proofs.NoEnd.{expr_free}
 
-next_exprs_free : (es : List NextExprTree) → NoEnd (flat_map spell_next_expr es)
+pub next_exprs_free : (es : List NextExprTree) → NoEnd (flat_map spell_next_expr es)
 next_exprs_free [] = tt
 next_exprs_free (MakeNextExpr comma e ∷ es) = (λ f. cc, both_free (spell_expr e) _ (expr_free e) (next_exprs_free es))
 
-dot_names_free : (ns : List DotName) → NoEnd (flat_map spell_dot_name ns)
+pub dot_names_free : (ns : List DotName) → NoEnd (flat_map spell_dot_name ns)
 dot_names_free [] = tt
 dot_names_free (n ∷ ns) = (λ f. cc, (λ f. cc, dot_names_free ns))
 
@@ -23,7 +23,7 @@ mutual
   set_free (ConstraintOne item) = item_free item
   set_free (ConstraintBlock l items r) = (λ f. cc, both_free (spell_constraint_item_row items) _ (items_free items) (λ f. cc, tt))
 
-  item_free : (item : ConstraintItemTree) → NoEnd (spell_constraint_item item)
+  pub item_free : (item : ConstraintItemTree) → NoEnd (spell_constraint_item item)
   item_free (ConstraintItemEmpty p) = (λ f. cc, tt)
   item_free (ConstraintItemExpr e p) = both_free (spell_expr e) _ (expr_free e) (λ f. cc, tt)
   item_free (ConstraintItemImplies e p s) = both_free (spell_expr e) _ (expr_free e) (λ f. cc, set_free s)

@@ -23,3 +23,5 @@ pub mod ConstraintNoEnd
 pub mod TooDeep
 pub mod SharedRules
 pub mod ConstraintRules
+pub mod Takes
+pub mod SharedLaws

@@ -44,7 +44,7 @@ mutual
   path_free (PathItem a c b) = (λ e. cc, (λ e. cc, (λ e. cc, tt)))
   path_free (PathLongItem a c b d f) = (λ e. cc, (λ e. cc, (λ e. cc, (λ e. cc, (λ e. cc, tt)))))
 
-  part_free : (p : PartTree) → NoEnd (spell_part p)
+  pub part_free : (p : PartTree) → NoEnd (spell_part p)
   part_free (MakePart name index) = (λ e. cc, maybe_free index)
 
   next_free : (p : NextPartTree) → NoEnd (spell_next_part p)
@@ -53,7 +53,7 @@ mutual
   index_free : (i : IndexTree) → NoEnd (spell_index i)
   index_free (MakeIndex l e r) = (λ f. cc, both_free (spell_expr e) _ (expr_free e) (λ f. cc, tt))
 
-  ranges_free : (rs : RangesTree) → NoEnd (spell_ranges rs)
+  pub ranges_free : (rs : RangesTree) → NoEnd (spell_ranges rs)
   ranges_free (MakeRanges first rest) = both_free (spell_range first) _ (range_free first) (more_free rest)
 
   next_range_free : (r : NextRangeTree) → NoEnd (spell_next_range r)

@@ -44,7 +44,7 @@ module _ (X : Parsers ExprTree) (turns : ℕ) (E : (depth before : ℕ) → Expl
       (λ r f3 c3 h3. explains_done (Behind (Behind (Behind M f1 c1) f2 c2) f3 c3) (PrimaryGroup l e r)
       (record { is = rw (append-nil, h1.is, h2.is, h3.is) refl; proper = h2.proper; counted = rw (append-nil, h1.counted, h2.counted, h3.counted) refl }))))
 
-  maybe_index_explains : (d b : ℕ) → Explains (Means spell_maybe_index IsProperMaybeIndex (counts_maybe_index d b)) (maybe_index_by X d b)
+  pub maybe_index_explains : (d b : ℕ) → Explains (Means spell_maybe_index IsProperMaybeIndex (counts_maybe_index d b)) (maybe_index_by X d b)
   maybe_index_explains d b ts =
       let M = Means spell_maybe_index IsProperMaybeIndex (counts_maybe_index d b) in
       explains_choice M (next_is (is_mark kind.LeftBracket) (next ts)) (followed_by (index_by X d b) (λ index. Done (SomeIndex index))) (Done NoIndex) ts

@@ -41,7 +41,7 @@ module _ (X : Parsers ExprTree) (size : ℕ) (A : (d b : ℕ) (e : ExprTree) (re
       (becomes_both (X (suc d) b) _ e _ _ (mark kind.RightParenthesis r ∷ rest) rest (counts_expr (suc d) b e) (c' ∷ []) (A (suc d) b e (mark kind.RightParenthesis r ∷ rest) proper short (separated 0 (Some (mark kind.RightParenthesis r)) (right_parenthesis_closes r) e proper 0 (omega arith) (omega arith)))
       (becomes_both (mark_by kind.RightParenthesis c') (λ q. Done (PrimaryGroup l e q)) r _ _ rest rest (c' ∷ []) [] (mark_becomes kind.RightParenthesis c' r rest) (stays (Done (PrimaryGroup l e r)) rest)))
 
-  maybe_index_again : (d b : ℕ) (i : MaybeIndex) (rest : List Token) → IsProperMaybeIndex i → length (spell_maybe_index i) ≤ size → StopsIndex i (next rest) → Becomes (maybe_index_by X d b) (spell_maybe_index i ++ rest) (counts_maybe_index d b i) (Done i) rest
+  pub maybe_index_again : (d b : ℕ) (i : MaybeIndex) (rest : List Token) → IsProperMaybeIndex i → length (spell_maybe_index i) ≤ size → StopsIndex i (next rest) → Becomes (maybe_index_by X d b) (spell_maybe_index i ++ rest) (counts_maybe_index d b i) (Done i) rest
   maybe_index_again d b NoIndex rest proper short s = choice_becomes kind.LeftBracket (followed_by (index_by X d b) (λ index. Done (SomeIndex index))) (Done NoIndex) (Done NoIndex) rest rest [] false s (stays (Done NoIndex) rest)
   maybe_index_again d b (SomeIndex (MakeIndex l e r)) rest proper short s =
       let assoc = append_assoc (spell_expr e) (mark kind.RightBracket r ∷ []) rest in

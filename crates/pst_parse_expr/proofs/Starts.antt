@@ -110,6 +110,13 @@ no_right_brace : (place : Place) → begins_expr (Some (mark kind.RightBrace pla
 unfolding begins_expr is_mark is_number is_name prefix_of is_bare
 no_right_brace place = refl
 
+no_right_parenthesis : (place : Place) → begins_expr (Some (mark kind.RightParenthesis place)) ≡ false
+unfolding begins_expr is_mark is_number is_name prefix_of is_bare
+no_right_parenthesis place = refl
+
+pub no_parenthesis_begins : (n : Option Token) → begins_expr n ≡ true → IsNo kind.RightParenthesis n
+no_parenthesis_begins n e = apart kind.RightParenthesis no_right_parenthesis n e
+
 -- ---- constraints
 
 -- which constraint the next token begins

@@ -166,7 +166,7 @@ in_separates place =
     record { no_bracket = p.0; no_dot = p.1; no_colons = p.2; loose = λ l le. (no_operator_in l place, no_in_above l (Some (mark kind.In place)) le) }
 
 -- a mark that closes a part, or stands between parts, separates all
-closes : (k : Kind) (place : Place) → operator_of_kind k ≡ None → is_mark kind.In (mark k place) ≡ false → is_mark kind.LeftBracket (mark k place) ≡ false → is_mark kind.Dot (mark k place) ≡ false → is_mark kind.ColonColon (mark k place) ≡ false → Separates 0 (Some (mark k place))
+pub closes : (k : Kind) (place : Place) → operator_of_kind k ≡ None → is_mark kind.In (mark k place) ≡ false → is_mark kind.LeftBracket (mark k place) ≡ false → is_mark kind.Dot (mark k place) ≡ false → is_mark kind.ColonColon (mark k place) ≡ false → Separates 0 (Some (mark k place))
 unfolding operator_of is_bare
 closes k place none no_in no_bracket no_dot no_colons = record { no_bracket = no_bracket; no_dot = no_dot; no_colons = no_colons; loose = λ l le. (rw none refl, not_in (mark k place) l no_in) }
 
@@ -201,3 +201,7 @@ arrow_closes place = closes kind.Arrow place refl refl refl refl refl
 pub right_brace_closes : (place : Place) → Separates 0 (Some (mark kind.RightBrace place))
 unfolding is_mark
 right_brace_closes place = closes kind.RightBrace place refl refl refl refl refl
+
+pub colon_closes : (place : Place) → Separates 0 (Some (mark kind.Colon place))
+unfolding is_mark
+colon_closes place = closes kind.Colon place refl refl refl refl refl

@@ -27,7 +27,7 @@ pub struct Subscript {
     right_parenthesis: Place,
 }
 
-// Constraints in braces, or one alone.
+/// Constraints in braces, or one alone.
 #[cycle(constraint)]
 pub fn set(
     alloc: Global,

@@ -349,7 +349,7 @@ fn next_part(
 
 // The index behind a name, where there is one.
 #[cycle(expression)]
-fn index(
+pub fn index(
     alloc: Global,
     tokens: &[Token],
     at: usize,

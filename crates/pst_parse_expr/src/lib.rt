@@ -1,15 +1,17 @@
 //! Parses expressions and constraints.
 #![tactic(auto)]
 
-mod constraint;
-mod expression;
+pub mod constraint;
+pub mod expression;
 pub mod laws;
 mod operators;
 mod parse;
-mod shared;
+pub mod shared;
 #[cfg(test)]
 mod test_constraints;
 #[cfg(test)]
 mod tests;
 
+pub use constraint::set;
 pub use parse::{parse_constraint, parse_expr};
+pub use shared::{Condition, dot_names, next_exprs, outermost, read_condition};

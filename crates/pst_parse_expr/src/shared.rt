@@ -41,7 +41,7 @@ fn begins_expr(tokens: &[Token], at: usize) -> bool
         || is_name(tokens, at)
 }
 
-// An expression that stands in no other one.
+/// An expression that stands in no other one.
 pub fn outermost(
     alloc: Global,
     tokens: &[Token],
@@ -62,7 +62,7 @@ pub fn outermost(
     Err(SyntaxFault::At { at })
 }
 
-// An expression in brackets.
+/// An expression in brackets.
 pub fn read_condition(
     alloc: Global,
     tokens: &[Token],
@@ -100,7 +100,7 @@ fn next_expr(
     Ok((NextExpr { comma, expr }, after))
 }
 
-// Expressions behind commas.
+/// Expressions behind commas.
 pub fn next_exprs(
     alloc: Global,
     tokens: &[Token],
@@ -132,7 +132,7 @@ fn dot_name(tokens: &[Token], at: usize, depth: u32) -> Result<(DotName, usize),
     Ok((DotName { dot, name }, at + 2))
 }
 
-// Names behind dots.
+/// Names behind dots.
 pub fn dot_names(
     alloc: Global,
     tokens: &[Token],

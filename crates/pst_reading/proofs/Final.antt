@@ -1,4 +1,4 @@
--- From the laws of a rule's parsers to what the proper trees of the rule spell.
+-- From the laws of a rule's parsers to what the proper trees of the rule spell; what the parsers take counts so towards the limits.
 use Rattle.std.proofs.Common.{◌≡◌, ℕ, zero, suc, ◌+◌, ◌-◌, ◌<◌, ◌≤◌, List, [], ◌∷◌, ◌++◌, length, take, drop, Bool, true, false, Some, None, Option, ◌⊎◌, inl, inr, refl, sym, ap, subst, ◌∙◌, arith, append_assoc, append-nil, length-append}
 use Rattle.std.proofs.lemmas.List.{nil_from_length, append_cancel_right, take-append-le, take-append-drop}
 use Rattle.std.proofs.Math.Seq.{take-append_seam}
@@ -17,24 +17,24 @@ use Rattle.pst_reading.proofs.Explaining.{Meaning, Means, Begins, Explains, Expl
 use Rattle.pst_reading.proofs.States.{State, state, Rests, rests_took, rests_refused}
 use Rattle.pst_reading.proofs.Counted.{rest_of, all_counted, over_inside, over_front, over_more, none_front}
 
-module _ (rule : Rule) (depth : ℕ) (F : ℕ → Parser (TreeOf rule)) (E : (n : ℕ) → Explains (Means (spell_of rule) (IsProperOf rule) (counts_of rule depth)) (F n)) (Stops : TreeOf rule → Option Token → Type 0) (again : (n : ℕ) (tree : TreeOf rule) (rest : List Token) → IsProperOf rule tree → length (spell_of rule tree) < n → Stops tree (next rest) → Becomes (F n) (spell_of rule tree ++ rest) (counts_of rule depth tree) (Done tree) rest) (ends : (tree : TreeOf rule) → IsProperOf rule tree → Stops tree None) (decide : (tree : TreeOf rule) (t : Token) → IsProperOf rule tree → Stops tree (Some t) ⊎ IsViable rule (spell_of rule tree ++ t ∷ [])) where
+module _ (rule : Rule) (counts : TreeOf rule → List Count) (F : ℕ → Parser (TreeOf rule)) (E : (n : ℕ) → Explains (Means (spell_of rule) (IsProperOf rule) counts) (F n)) (Stops : TreeOf rule → Option Token → Type 0) (again : (n : ℕ) (tree : TreeOf rule) (rest : List Token) → IsProperOf rule tree → length (spell_of rule tree) < n → Stops tree (next rest) → Becomes (F n) (spell_of rule tree ++ rest) (counts tree) (Done tree) rest) (ends : (tree : TreeOf rule) → IsProperOf rule tree → Stops tree None) (decide : (tree : TreeOf rule) (t : Token) → IsProperOf rule tree → Stops tree (Some t) ⊎ IsViable rule (spell_of rule tree ++ t ∷ [])) where
   abbrev M : Meaning (TreeOf rule)
-  M = Means (spell_of rule) (IsProperOf rule) (counts_of rule depth)
+  M = Means (spell_of rule) (IsProperOf rule) (counts)
 
   -- the text of a proper tree is read as it
-  whole_read : (n : ℕ) (tree : TreeOf rule) → IsProperOf rule tree → length (spell_of rule tree) < n → (read (F n) (spell_of rule tree) ≡ Took tree []) × (counts_taken (F n) (spell_of rule tree) ≡ counts_of rule depth tree)
+  whole_read : (n : ℕ) (tree : TreeOf rule) → IsProperOf rule tree → length (spell_of rule tree) < n → (read (F n) (spell_of rule tree) ≡ Took tree []) × (counts_taken (F n) (spell_of rule tree) ≡ counts tree)
   whole_read n tree proper short =
       let h = again n tree [] proper short (ends tree proper) in
       let e = append-nil (spell_of rule tree) in
-      (subst (λ (u : List Token). read (F n) u ≡ Took tree []) e h.outcome, subst (λ (u : List Token). counts_taken (F n) u ≡ counts_of rule depth tree) e (h.taken ∙ append-nil (counts_of rule depth tree)))
+      (subst (λ (u : List Token). read (F n) u ≡ Took tree []) e h.outcome, subst (λ (u : List Token). counts_taken (F n) u ≡ counts tree) e (h.taken ∙ append-nil (counts tree)))
 
   value_of : Outcome (TreeOf rule) → TreeOf rule → TreeOf rule
   value_of (Took a rest) b = a
   value_of _ b = b
 
-  pub one_tree : AtMostOneTree rule
+  pub one_tree_by : AtMostOneTree rule
   unfolding value_of
-  one_tree a b p q e =
+  one_tree_by a b p q e =
       let n = suc (length (spell_of rule a)) in
       let x = whole_read n a p (omega arith) in
       let y = whole_read n b q (omega (arith, ap length e)) in
@@ -104,15 +104,15 @@ module _ (rule : Rule) (depth : ℕ) (F : ℕ → Parser (TreeOf rule)) (E : (n 
         go (inr v) = refused_longest h (subst (λ (u : List Token). IsViable rule (u ++ t ∷ [])) e v)
 
     -- in every tree that goes on behind the front the front keeps the limits
-    pub front_keeps : ((n : ℕ) → length ts < n → (read (F n) ts ≡ Refused (t ∷ rest)) × (first_over (counts_taken (F n) ts) ≡ None)) → (tree : TreeOf rule) (more : List Token) → IsProperOf rule tree → spell_of rule tree ≡ front ++ more → first_over (take (length front) (counts_of rule depth tree)) ≡ None
+    pub front_keeps : ((n : ℕ) → length ts < n → (read (F n) ts ≡ Refused (t ∷ rest)) × (first_over (counts_taken (F n) ts) ≡ None)) → (tree : TreeOf rule) (more : List Token) → IsProperOf rule tree → spell_of rule tree ≡ front ++ more → first_over (take (length front) (counts tree)) ≡ None
     front_keeps h tree more proper e =
         let n = suc (length ts + length (spell_of rule tree)) in
         let o = h n (omega arith) in
         let s = front_taken n front (t ∷ rest) (omega (arith, ap (λ (x : Outcome (TreeOf rule)). length (rest_of x)) o.0)) in
         let w = whole_read n tree proper (omega arith) in
-        let counts : counts_of rule depth tree ≡ s.counts ++ counts_taken s.parser more = sym w.1 ∙ ap (counts_taken (F n)) e ∙ (s.reaches more).taken in
+        let all_counts : counts tree ≡ s.counts ++ counts_taken s.parser more = sym w.1 ∙ ap (counts_taken (F n)) e ∙ (s.reaches more).taken in
         let kept : first_over s.counts ≡ None = none_front s.counts (counts_taken s.parser (t ∷ rest)) (ap first_over (sym (s.reaches (t ∷ rest)).taken) ∙ o.1) in
-        let front_counts : take (length front) (counts_of rule depth tree) ≡ s.counts = ap (take (length front)) counts ∙ ap (λ (k : ℕ). take k (s.counts ++ counts_taken s.parser more)) (sym s.as_long) ∙ take-append_seam s.counts (counts_taken s.parser more) in
+        let front_counts : take (length front) (counts tree) ≡ s.counts = ap (take (length front)) all_counts ∙ ap (λ (k : ℕ). take k (s.counts ++ counts_taken s.parser more)) (sym s.as_long) ∙ take-append_seam s.counts (counts_taken s.parser more) in
         ap first_over front_counts ∙ kept
 
     -- the front begins a tree where it was all taken
@@ -145,7 +145,7 @@ module _ (rule : Rule) (depth : ℕ) (F : ℕ → Parser (TreeOf rule)) (E : (n 
           let whole : v.0 ≡ (front ++ t ∷ []) ++ drop k v.0 = sym (take-append-drop k v.0) ∙ ap (λ (u : List Token). u ++ drop k v.0) begins in
           (v.1.0, drop k v.0 ++ v.1.1, v.1.2, v.1.3 ∙ ap (λ (u : List Token). u ++ v.1.1) whole ∙ append_assoc (front ++ t ∷ []) (drop k v.0) v.1.1)
 
-      pub deep_first : (tree : TreeOf rule) (more : List Token) → IsProperOf rule tree → spell_of rule tree ≡ (front ++ t ∷ []) ++ more → first_over (counts_of rule depth tree) ≡ Some (length front)
+      pub deep_first : (tree : TreeOf rule) (more : List Token) → IsProperOf rule tree → spell_of rule tree ≡ (front ++ t ∷ []) ++ more → first_over (counts tree) ≡ Some (length front)
       deep_first tree more proper e =
           let n = suc (length ts + length (spell_of rule tree)) in
           let o = h n (omega arith) in
@@ -153,6 +153,10 @@ module _ (rule : Rule) (depth : ℕ) (F : ℕ → Parser (TreeOf rule)) (E : (n 
           let here : counts_taken (F n) ts ≡ counts_taken (F n) ((front ++ t ∷ []) ++ rest) = ap (counts_taken (F n)) with_t in
           let s = state (F n) (front ++ t ∷ []) rest (omega (arith, lt, ap length here, length-append front (t ∷ []))) in
           let w = whole_read n tree proper (omega arith) in
-          let counts : counts_of rule depth tree ≡ s.counts ++ counts_taken s.parser more = sym w.1 ∙ ap (counts_taken (F n)) e ∙ (s.reaches more).taken in
+          let all_counts : counts tree ≡ s.counts ++ counts_taken s.parser more = sym w.1 ∙ ap (counts_taken (F n)) e ∙ (s.reaches more).taken in
           let first_front : first_over s.counts ≡ Some (length front) = over_front s.counts (counts_taken s.parser rest) (length front) (omega (arith, s.as_long, length-append front (t ∷ []))) (ap first_over (sym (s.reaches rest).taken ∙ sym here) ∙ o) in
-          ap first_over counts ∙ over_more s.counts (counts_taken s.parser more) (length front) first_front
+          ap first_over all_counts ∙ over_more s.counts (counts_taken s.parser more) (length front) first_front
+
+-- where it counts as the grammar says
+pub one_tree : (rule : Rule) (depth : ℕ) (F : ℕ → Parser (TreeOf rule)) (E : (n : ℕ) → Explains (Means (spell_of rule) (IsProperOf rule) (counts_of rule depth)) (F n)) (Stops : TreeOf rule → Option Token → Type 0) (again : (n : ℕ) (tree : TreeOf rule) (rest : List Token) → IsProperOf rule tree → length (spell_of rule tree) < n → Stops tree (next rest) → Becomes (F n) (spell_of rule tree ++ rest) (counts_of rule depth tree) (Done tree) rest) (ends : (tree : TreeOf rule) → IsProperOf rule tree → Stops tree None) (decide : (tree : TreeOf rule) (t : Token) → IsProperOf rule tree → Stops tree (Some t) ⊎ IsViable rule (spell_of rule tree ++ t ∷ [])) → AtMostOneTree rule
+one_tree rule depth F E Stops again ends decide = one_tree_by rule (counts_of rule depth) F E Stops again ends decide

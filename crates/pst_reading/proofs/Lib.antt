@@ -13,3 +13,7 @@ pub mod Whole
 pub mod Reaching
 pub mod Lists
 pub mod Chains
+pub mod Peeking
+pub mod Rereading
+pub mod Accounts
+pub mod Optional

@@ -1,6 +1,7 @@
 -- What a rule's parser gives within the limits is what its proper trees spell.
-use Rattle.std.proofs.Common.{◌≡◌, ◌≢◌, ℕ, zero, suc, ◌+◌, ◌-◌, ◌<◌, ◌≤◌, List, [], ◌∷◌, ◌++◌, length, take, drop, Bool, true, false, Some, None, Option, ◌⊎◌, inl, inr, refl, sym, ap, subst, ◌∙◌, arith, append_assoc, append-nil, length-append, length-drop, Ok, Err}
+use Rattle.std.proofs.Common.{map, if◌then◌else◌, ◌≡◌, ◌≢◌, ℕ, zero, suc, ◌+◌, ◌-◌, ◌<◌, ◌≤◌, List, [], ◌∷◌, ◌++◌, length, take, drop, Bool, true, false, Some, None, Option, ◌⊎◌, inl, inr, refl, sym, ap, subst, ◌∙◌, arith, append_assoc, append-nil, length-append, length-drop, Ok, Err}
 use Rattle.std.specs.List.{AllByRecursion}
+use Rattle.std.specs.Option.{option_map}
 use Rattle.std.specs.Prelude.{slice_range}
 use Rattle.std.proofs.lemmas.List.{append_cancel_right}
 use Rattle.std.proofs.lemmas.List.Folds.{drop_split}
@@ -56,7 +57,41 @@ drop_more zero (x ∷ xs) t rest f = cc
 drop_more (suc n) [] t rest f = absurd cc
 drop_more (suc n) (x ∷ xs) t rest f = drop_more n xs t rest f
 
-module _ (rule : Rule) (depth : ℕ) (F : ℕ → Parser (TreeOf rule)) (E : (n : ℕ) → Explains (Means (spell_of rule) (IsProperOf rule) (counts_of rule depth)) (F n)) (Stops : TreeOf rule → Option Token → Type 0) (again : (n : ℕ) (tree : TreeOf rule) (rest : List Token) → IsProperOf rule tree → length (spell_of rule tree) < n → Stops tree (next rest) → Becomes (F n) (spell_of rule tree ++ rest) (counts_of rule depth tree) (Done tree) rest) (ends : (tree : TreeOf rule) → IsProperOf rule tree → Stops tree None) (decide : (tree : TreeOf rule) (t : Token) → IsProperOf rule tree → Stops tree (Some t) ⊎ IsViable rule (spell_of rule tree ++ t ∷ [])) (free : (tree : TreeOf rule) → NoEnd (spell_of rule tree)) (tokens : List Token) (start : ℕ) (e : IsEnded tokens) (lt : start < length tokens) where
+-- ---- counts that break the limits at the same tokens
+
+pub over_same : (cs ds : List Count) → map is_over cs ≡ map is_over ds → first_over cs ≡ first_over ds
+over_same [] [] e = refl
+over_same [] (d ∷ ds) e = absurd cc
+over_same (c ∷ cs) [] e = absurd cc
+over_same (c ∷ cs) (d ∷ ds) e = go (is_over c) (is_over d) (head_same e) (over_same cs ds (tail_same e))
+  where
+    head_same : is_over c ∷ map is_over cs ≡ is_over d ∷ map is_over ds → is_over c ≡ is_over d
+    head_same f = cc
+
+    tail_same : is_over c ∷ map is_over cs ≡ is_over d ∷ map is_over ds → map is_over cs ≡ map is_over ds
+    tail_same f = cc
+
+    go : (a b : Bool) → a ≡ b → first_over cs ≡ first_over ds → (if a then Some 0 else option_map suc (first_over cs)) ≡ (if b then Some 0 else option_map suc (first_over ds))
+    go a b f g = rw (f, g) refl
+
+pub over_take : (k : ℕ) (cs ds : List Count) → map is_over cs ≡ map is_over ds → map is_over (take k cs) ≡ map is_over (take k ds)
+over_take zero cs ds e = refl
+over_take (suc k) [] [] e = refl
+over_take (suc k) [] (d ∷ ds) e = absurd cc
+over_take (suc k) (c ∷ cs) [] e = absurd cc
+over_take (suc k) (c ∷ cs) (d ∷ ds) e = go (is_over c) (is_over d) (map is_over (take k cs)) (map is_over (take k ds)) (head_same e) (over_take k cs ds (tail_same e))
+  where
+    head_same : is_over c ∷ map is_over cs ≡ is_over d ∷ map is_over ds → is_over c ≡ is_over d
+    head_same f = cc
+
+    tail_same : is_over c ∷ map is_over cs ≡ is_over d ∷ map is_over ds → map is_over cs ≡ map is_over ds
+    tail_same f = cc
+
+    go : (a b : Bool) (x y : List Bool) → a ≡ b → x ≡ y → a ∷ x ≡ b ∷ y
+    go a b x y f g = cc
+
+-- what is taken counts so towards the limits that these break at the same tokens as the grammar's counts
+module _ (rule : Rule) (depth : ℕ) (counts : TreeOf rule → List Count) (same : (tree : TreeOf rule) → map is_over (counts tree) ≡ map is_over (counts_of rule depth tree)) (F : ℕ → Parser (TreeOf rule)) (E : (n : ℕ) → Explains (Means (spell_of rule) (IsProperOf rule) counts) (F n)) (Stops : TreeOf rule → Option Token → Type 0) (again : (n : ℕ) (tree : TreeOf rule) (rest : List Token) → IsProperOf rule tree → length (spell_of rule tree) < n → Stops tree (next rest) → Becomes (F n) (spell_of rule tree ++ rest) (counts tree) (Done tree) rest) (ends : (tree : TreeOf rule) → IsProperOf rule tree → Stops tree None) (decide : (tree : TreeOf rule) (t : Token) → IsProperOf rule tree → Stops tree (Some t) ⊎ IsViable rule (spell_of rule tree ++ t ∷ [])) (free : (tree : TreeOf rule) → NoEnd (spell_of rule tree)) (tokens : List Token) (start : ℕ) (e : IsEnded tokens) (lt : start < length tokens) where
   abbrev ts0 : List Token
   ts0 = drop start tokens
 
@@ -83,11 +118,11 @@ module _ (rule : Rule) (depth : ℕ) (F : ℕ → Parser (TreeOf rule)) (E : (n 
   kept_at : (n : ℕ) (o : Outcome (TreeOf rule)) → run is_over (F n) ts0 ≡ o → Kept (F n) ts0 o
   kept_at n o h = subst (Kept (F n) ts0) h (limits_kept (F n) ts0)
 
-  pub read_answer : (a : TreeOf rule) (end : ℕ) → start ≤ end → end ≤ length tokens → ((n : ℕ) → length ts0 < n → run is_over (F n) ts0 ≡ Took a (drop end tokens)) → IsRead rule tokens start depth a end
-  read_answer a end le inside h =
+  pub read_answer_by : (a : TreeOf rule) (end : ℕ) → start ≤ end → end ≤ length tokens → ((n : ℕ) → length ts0 < n → run is_over (F n) ts0 ≡ Took a (drop end tokens)) → IsRead rule tokens start depth a end
+  read_answer_by a end le inside h =
       let n0 = suc (length ts0) in
       let k0 = kept_at n0 (Took a (drop end tokens)) (h n0 (omega arith)) in
-      let x = subst (Explained (Means (spell_of rule) (IsProperOf rule) (counts_of rule depth)) ts0 (counts_taken (F n0) ts0)) k0.0 (E n0 ts0) in
+      let x = subst (Explained (Means (spell_of rule) (IsProperOf rule) counts) ts0 (counts_taken (F n0) ts0)) k0.0 (E n0 ts0) in
       let front_is : x.front ≡ slice_range tokens start end = append_cancel_right x.front (slice_range tokens start end) (drop end tokens) (sym x.parts ∙ sliced end le) in
       let l = something_left tokens start e lt x.front (drop end tokens) [] x.parts (subst NoEnd (sym x.spelled.is ∙ sym (append-nil x.front)) (free a)) in
       let here = at_token end l.0 l.1 le l.2 in
@@ -96,15 +131,15 @@ module _ (rule : Rule) (depth : ℕ) (F : ℕ → Parser (TreeOf rule)) (E : (n 
         inside = is_inside end l.0 l.1 l.2;
         proper = x.spelled.proper;
         spelled = sym x.spelled.is ∙ front_is;
-        within = ap first_over (sym x.spelled.counted) ∙ k0.1;
-        longest = λ v. taken_longest rule depth F E Stops again ends decide (slice_range tokens start end) l.0 l.1 a (λ n more. subst (λ (u : List Token). read (F n) u ≡ Took a (l.0 ∷ l.1)) here ((kept_at n (Took a (drop end tokens)) (h n (omega (arith, more, ap length here)))).0 ∙ ap (Took a) l.2)) (subst (IsViable rule) (through_is end l.0 l.1 le l.2) v);
+        within = sym (over_same (counts a) (counts_of rule depth a) (same a)) ∙ ap first_over (sym x.spelled.counted) ∙ k0.1;
+        longest = λ v. taken_longest rule counts F E Stops again ends decide (slice_range tokens start end) l.0 l.1 a (λ n more. subst (λ (u : List Token). read (F n) u ≡ Took a (l.0 ∷ l.1)) here ((kept_at n (Took a (drop end tokens)) (h n (omega (arith, more, ap length here)))).0 ∙ ap (Took a) l.2)) (subst (IsViable rule) (through_is end l.0 l.1 le l.2) v);
       }
 
-  pub stopped_answer : (k : ℕ) → start ≤ k → k ≤ length tokens → ((n : ℕ) → length ts0 < n → run is_over (F n) ts0 ≡ Refused (drop k tokens)) → IsStopped rule tokens start depth k
-  stopped_answer k le inside h =
+  pub stopped_answer_by : (k : ℕ) → start ≤ k → k ≤ length tokens → ((n : ℕ) → length ts0 < n → run is_over (F n) ts0 ≡ Refused (drop k tokens)) → IsStopped rule tokens start depth k
+  stopped_answer_by k le inside h =
       let n0 = suc (length ts0) in
       let k0 = kept_at n0 (Refused (drop k tokens)) (h n0 (omega arith)) in
-      let x = subst (Explained (Means (spell_of rule) (IsProperOf rule) (counts_of rule depth)) ts0 (counts_taken (F n0) ts0)) k0.0 (E n0 ts0) in
+      let x = subst (Explained (Means (spell_of rule) (IsProperOf rule) counts) ts0 (counts_taken (F n0) ts0)) k0.0 (E n0 ts0) in
       let l = something_left tokens start e lt x.front (drop k tokens) x.begins.more x.parts (subst NoEnd (sym x.begins.spelled.is ∙ x.begins.is) (free x.begins.value)) in
       let front = slice_range tokens start k in
       let here = at_token k l.0 l.1 le l.2 in
@@ -112,14 +147,14 @@ module _ (rule : Rule) (depth : ℕ) (F : ℕ → Parser (TreeOf rule)) (E : (n 
       record {
         ordered = le;
         inside = is_inside k l.0 l.1 l.2;
-        before = front_begins rule depth F E Stops again ends decide front l.0 l.1 (suc (length (front ++ l.0 ∷ l.1))) (refuses (suc (length (front ++ l.0 ∷ l.1))) (omega arith)).0;
-        here = λ v. refused_longest rule depth F E Stops again ends decide front l.0 l.1 (λ n more. (refuses n more).0) (subst (IsViable rule) (through_is k l.0 l.1 le l.2) v);
-        unfinished = unfinished rule depth F E Stops again ends decide front l.0 l.1 (λ n more. (refuses n more).0);
-        within = λ tree more proper is. subst (λ (i : ℕ). first_over (take i (counts_of rule depth tree)) ≡ None) (slice_length k le inside) (front_keeps rule depth F E Stops again ends decide front l.0 l.1 refuses tree more proper is);
+        before = front_begins rule counts F E Stops again ends decide front l.0 l.1 (suc (length (front ++ l.0 ∷ l.1))) (refuses (suc (length (front ++ l.0 ∷ l.1))) (omega arith)).0;
+        here = λ v. refused_longest rule counts F E Stops again ends decide front l.0 l.1 (λ n more. (refuses n more).0) (subst (IsViable rule) (through_is k l.0 l.1 le l.2) v);
+        unfinished = unfinished rule counts F E Stops again ends decide front l.0 l.1 (λ n more. (refuses n more).0);
+        within = λ tree more proper is. sym (over_same (take (k - start) (counts tree)) (take (k - start) (counts_of rule depth tree)) (over_take (k - start) (counts tree) (counts_of rule depth tree) (same tree))) ∙ subst (λ (i : ℕ). first_over (take i (counts tree)) ≡ None) (slice_length k le inside) (front_keeps rule counts F E Stops again ends decide front l.0 l.1 refuses tree more proper is);
       }
 
-  pub deep_answer : (k : ℕ) → start ≤ k → k ≤ length tokens → ((n : ℕ) → length ts0 < n → run is_over (F n) ts0 ≡ TooDeep (drop k tokens)) → IsTooDeep rule tokens start depth k
-  deep_answer k le inside h =
+  pub deep_answer_by : (k : ℕ) → start ≤ k → k ≤ length tokens → ((n : ℕ) → length ts0 < n → run is_over (F n) ts0 ≡ TooDeep (drop k tokens)) → IsTooDeep rule tokens start depth k
+  deep_answer_by k le inside h =
       let n0 = suc (length ts0) in
       let front = slice_range tokens start k in
       let broken : (n : ℕ) → length ts0 < n → (first_over (counts_taken (F n) ts0) ≡ Some (length front)) × (1 ≤ length (drop k tokens)) = λ n more. (let b = kept_at n (TooDeep (drop k tokens)) (h n more) in let at : b.index ≡ length front = omega (arith, ap length b.there, length-drop b.index ts0, length-drop k tokens, length-drop start tokens, b.inside, slice_length k le inside, le, inside) in (b.first ∙ ap Some at, omega (arith, ap length b.there, length-drop b.index ts0, b.inside))) in
@@ -129,6 +164,17 @@ module _ (rule : Rule) (depth : ℕ) (F : ℕ → Parser (TreeOf rule)) (E : (n 
       record {
         ordered = le;
         inside = is_inside k l.0 l.1 l.2;
-        here = subst (IsViable rule) (sym (through_is k l.0 l.1 le l.2)) (deep_here rule depth F E Stops again ends decide front l.0 l.1 breaks);
-        first = λ tree more proper is. deep_first rule depth F E Stops again ends decide front l.0 l.1 breaks tree more proper (is ∙ ap (λ (u : List Token). u ++ more) (through_is k l.0 l.1 le l.2)) ∙ ap Some (slice_length k le inside);
+        here = subst (IsViable rule) (sym (through_is k l.0 l.1 le l.2)) (deep_here rule counts F E Stops again ends decide front l.0 l.1 breaks);
+        first = λ tree more proper is. sym (over_same (counts tree) (counts_of rule depth tree) (same tree)) ∙ deep_first rule counts F E Stops again ends decide front l.0 l.1 breaks tree more proper (is ∙ ap (λ (u : List Token). u ++ more) (through_is k l.0 l.1 le l.2)) ∙ ap Some (slice_length k le inside);
       }
+
+-- where what is taken counts as the grammar says
+module _ (rule : Rule) (depth : ℕ) (F : ℕ → Parser (TreeOf rule)) (E : (n : ℕ) → Explains (Means (spell_of rule) (IsProperOf rule) (counts_of rule depth)) (F n)) (Stops : TreeOf rule → Option Token → Type 0) (again : (n : ℕ) (tree : TreeOf rule) (rest : List Token) → IsProperOf rule tree → length (spell_of rule tree) < n → Stops tree (next rest) → Becomes (F n) (spell_of rule tree ++ rest) (counts_of rule depth tree) (Done tree) rest) (ends : (tree : TreeOf rule) → IsProperOf rule tree → Stops tree None) (decide : (tree : TreeOf rule) (t : Token) → IsProperOf rule tree → Stops tree (Some t) ⊎ IsViable rule (spell_of rule tree ++ t ∷ [])) (free : (tree : TreeOf rule) → NoEnd (spell_of rule tree)) (tokens : List Token) (start : ℕ) (e : IsEnded tokens) (lt : start < length tokens) where
+  pub read_answer : (a : TreeOf rule) (end : ℕ) → start ≤ end → end ≤ length tokens → ((n : ℕ) → length (drop start tokens) < n → run is_over (F n) (drop start tokens) ≡ Took a (drop end tokens)) → IsRead rule tokens start depth a end
+  read_answer = read_answer_by rule depth (counts_of rule depth) (λ tree. refl) F E Stops again ends decide free tokens start e lt
+
+  pub stopped_answer : (k : ℕ) → start ≤ k → k ≤ length tokens → ((n : ℕ) → length (drop start tokens) < n → run is_over (F n) (drop start tokens) ≡ Refused (drop k tokens)) → IsStopped rule tokens start depth k
+  stopped_answer = stopped_answer_by rule depth (counts_of rule depth) (λ tree. refl) F E Stops again ends decide free tokens start e lt
+
+  pub deep_answer : (k : ℕ) → start ≤ k → k ≤ length tokens → ((n : ℕ) → length (drop start tokens) < n → run is_over (F n) (drop start tokens) ≡ TooDeep (drop k tokens)) → IsTooDeep rule tokens start depth k
+  deep_answer = deep_answer_by rule depth (counts_of rule depth) (λ tree. refl) F E Stops again ends decide free tokens start e lt

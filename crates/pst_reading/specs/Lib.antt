@@ -4,3 +4,5 @@ pub mod Gives
 pub mod Ended
 pub mod Lists
 pub mod Reads
+pub mod Peeking
+pub mod Options

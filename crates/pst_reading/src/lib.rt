@@ -4,5 +4,6 @@
 mod steps;
 
 pub use steps::{
-    boxed, expect, expect_name, is, is_name, is_number, is_over, kind_number, push, token_at,
+    boxed, expect, expect_name, is, is_name, is_number, is_over, kind_number, name_then, push,
+    token_at,
 };

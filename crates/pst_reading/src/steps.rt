@@ -7,6 +7,7 @@ ghost use Rattle.pst_ast.specs.declared.fault.SyntaxFault.TheVariants.{NoMemory}
 ghost use Rattle.pst_reading.specs.Kinds.{number_of, is_mark, is_name, is_number, next_is};
 ghost use Rattle.pst_reading.specs.Parser.{next, mark_by, name_by};
 ghost use Rattle.pst_reading.specs.Gives.{Expects};
+ghost use Rattle.pst_reading.specs.Peeking;
 
 use pst_ast::{Name, SyntaxFault};
 use pst_base::Place;
@@ -81,6 +82,14 @@ pub fn is_number(tokens: &[Token], at: usize) -> bool
         Some(token) => kind_number(token.kind) == kind_number(Kind::Number) && token.name.0 == 0,
         None => false,
     }
+}
+
+/// Whether a name stands at a place, and then this mark or reserved word.
+pub fn name_then(tokens: &[Token], at: usize, wanted: Kind) -> bool
+    requires inside { at ≤ length tokens.now }
+    ensures { result ≡ Peeking.name_then wanted (drop at tokens.now) }
+{
+    is_name(tokens, at) && is(tokens, at + 1, wanted)
 }
 
 /// The place of a mark or reserved word, which has to be there, within the limits.

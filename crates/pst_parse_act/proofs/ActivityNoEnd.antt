@@ -1,0 +1,124 @@
+-- No activity has the token `End` in it.
+use Rattle.std.proofs.Common.{List, [], ◌∷◌, ◌++◌, Option, Some, None}
+use Rattle.std.specs.List.{flat_map}
+use Rattle.pst_token.specs.declared.kind.Kind.TheVariants as kind
+use Rattle.pst_ast.specs.declared.shared.NextName.{NextName}
+use Rattle.pst_ast.specs.declared.shared.LabelNode.{LabelNode}
+use Rattle.pst_ast.specs.declared.shared.TypeName.{TypeName}
+use Rattle.pst_ast.specs.declared.shared.ScopedName.{ScopedName}
+use Rattle.pst_ast.specs.declared.activity.NextEnd.{NextEnd}
+use Rattle.pst_ast.specs.declared.activity.TogetherWord.{TogetherWord}
+use Rattle.pst_ast.specs.declared.activity.TogetherWord.TheVariants as the_together_word
+use Rattle.pst_base.specs.declared.position.Place.{Place}
+use Rattle.pst_ast.specs.Marks.{mark, spell_option}
+use Rattle.pst_ast.specs.ExpressionTree.{RangesTree, MakeRanges, RangeTree, RangeSingle, RangeBetween, MakeNextRange, NextRangeRow, NoNextRangeRow, MoreNextRangeRow}
+use Rattle.pst_ast.specs.ExpressionSpelling.{spell_expr, spell_ranges, spell_range, spell_next_range_row}
+use Rattle.pst_ast.specs.SharedTree.{NamesTree, MakeNames}
+use Rattle.pst_ast.specs.SharedSpelling.{spell_label, spell_names, spell_next_name, spell_scoped_name, spell_type_name}
+use Rattle.pst_ast.specs.ActivityTree.{ActivityTree, MakeActivity, StatementTree, StatementEmpty, StatementLabeled, StatementPlain, CoreTree, CoreDo, CoreHandle, CoreSequence, CoreTogether, CoreSelect, CoreRepeat, CoreIf, CoreIfElse, CoreMatch, CoreBind, BranchTree, MakeBranch, ArmTree, MakeArm, GuardTree, GuardCondition, GuardWeight, WeightTree, MakeWeight, ArmLabelTree, ArmLabelRanges, ArmLabelDefault, JoinTree, JoinBranch, JoinNothing, JoinSelect, WithTree, WithNothing, WithSet, BindTree, MakeBind, OtherEndsTree, OtherEndsOne, OtherEndsSeveral, StatementRow, NoStatementRow, MoreStatementRow, BranchRow, NoBranchRow, MoreBranchRow, ArmRow, NoArmRow, MoreArmRow}
+use Rattle.pst_ast.specs.ActivitySpelling.{spell_activity, spell_statement, spell_core, spell_branch, spell_arm, spell_statement_row, spell_branch_row, spell_arm_row, spell_with, spell_join, spell_next_end, spell_other_ends, spell_bind, spell_weight, spell_guard, spell_arm_label}
+use Rattle.pst_reading.proofs.Whole.{NoEnd, both_free}
+use Rattle.pst_parse_expr.proofs.NoEnd.{expr_free}
+use Rattle.pst_parse_expr.proofs.ConstraintNoEnd.{set_free}
+
+next_names_free : (ns : List NextName) → NoEnd (flat_map spell_next_name ns)
+next_names_free [] = tt
+next_names_free (n ∷ ns) = (λ f. cc, (λ f. cc, next_names_free ns))
+
+next_ends_free : (es : List NextEnd) → NoEnd (flat_map spell_next_end es)
+next_ends_free [] = tt
+next_ends_free (e ∷ es) = (λ f. cc, (λ f. cc, (λ f. cc, (λ f. cc, next_ends_free es))))
+
+scoped_free : (o : Option ScopedName) → NoEnd (spell_option spell_scoped_name o)
+scoped_free None = tt
+scoped_free (Some n) = (λ f. cc, (λ f. cc, tt))
+
+label_free : (o : Option LabelNode) → NoEnd (spell_option spell_label o)
+label_free None = tt
+label_free (Some n) = (λ f. cc, (λ f. cc, tt))
+
+with_free : (w : WithTree) → NoEnd (spell_with w)
+with_free (WithNothing p) = (λ f. cc, tt)
+with_free (WithSet p s) = (λ f. cc, set_free s)
+
+join_free : (o : Option JoinTree) → NoEnd (spell_option spell_join o)
+join_free None = tt
+join_free (Some (JoinBranch w l (MakeNames n ns) r)) = (λ f. cc, (λ f. cc, (λ f. cc, both_free (flat_map spell_next_name ns) _ (next_names_free ns) (λ f. cc, tt))))
+join_free (Some (JoinNothing p)) = (λ f. cc, tt)
+join_free (Some (JoinSelect w l e r)) = (λ f. cc, (λ f. cc, both_free (spell_expr e) _ (expr_free e) (λ f. cc, tt)))
+
+others_free : (o : OtherEndsTree) → NoEnd (spell_other_ends o)
+others_free (OtherEndsOne e) = (λ f. cc, (λ f. cc, (λ f. cc, tt)))
+others_free (OtherEndsSeveral l e es r) = (λ f. cc, (λ f. cc, (λ f. cc, (λ f. cc, both_free (flat_map spell_next_end es) _ (next_ends_free es) (λ f. cc, tt)))))
+
+bind_free : (b : BindTree) → NoEnd (spell_bind b)
+bind_free (MakeBind b e o s) = (λ f. cc, (λ f. cc, (λ f. cc, (λ f. cc, both_free (spell_other_ends o) _ (others_free o) (λ f. cc, tt)))))
+
+weight_free : (w : WeightTree) → NoEnd (spell_weight w)
+weight_free (MakeWeight l e r) = (λ f. cc, both_free (spell_expr e) _ (expr_free e) (λ f. cc, tt))
+
+maybe_weight_free : (o : Option WeightTree) → NoEnd (spell_option spell_weight o)
+maybe_weight_free None = tt
+maybe_weight_free (Some w) = weight_free w
+
+guard_free : (o : Option GuardTree) → NoEnd (spell_option spell_guard o)
+guard_free None = tt
+guard_free (Some (GuardCondition l e r w c)) = (λ f. cc, both_free (spell_expr e) _ (expr_free e) (λ f. cc, both_free (spell_option spell_weight w) _ (maybe_weight_free w) (λ f. cc, tt)))
+guard_free (Some (GuardWeight w c)) = both_free (spell_weight w) _ (weight_free w) (λ f. cc, tt)
+
+range_free : (r : RangeTree) → NoEnd (spell_range r)
+range_free (RangeSingle e) = expr_free e
+range_free (RangeBetween l p h) = both_free (spell_expr l) _ (expr_free l) (λ f. cc, expr_free h)
+
+next_ranges_free : (r : NextRangeRow) → NoEnd (spell_next_range_row r)
+next_ranges_free NoNextRangeRow = tt
+next_ranges_free (MoreNextRangeRow (MakeNextRange c r) rs) = (λ f. cc, both_free (spell_range r) _ (range_free r) (next_ranges_free rs))
+
+arm_label_free : (a : ArmLabelTree) → NoEnd (spell_arm_label a)
+arm_label_free (ArmLabelRanges l (MakeRanges r rs) z) = (λ f. cc, both_free (spell_ranges (MakeRanges r rs)) _ (both_free (spell_range r) _ (range_free r) (next_ranges_free rs)) (λ f. cc, tt))
+arm_label_free (ArmLabelDefault p) = (λ f. cc, tt)
+
+mutual
+  statement_free : (s : StatementTree) → NoEnd (spell_statement s)
+  statement_free (StatementEmpty p) = (λ f. cc, tt)
+  statement_free (StatementLabeled l c) = (λ f. cc, (λ f. cc, core_free c))
+  statement_free (StatementPlain c) = core_free c
+
+  core_free : (c : CoreTree) → NoEnd (spell_core c)
+  core_free (CoreDo p n w) = (λ f. cc, (λ f. cc, both_free (spell_option spell_scoped_name n.second) _ (scoped_free n.second) (with_free w)))
+  core_free (CoreHandle n w) = (λ f. cc, with_free w)
+  core_free (CoreSequence None l s r) = (λ f. cc, both_free (spell_statement_row s) _ (statements_free s) (λ f. cc, tt))
+  core_free (CoreSequence (Some w) l s r) = (λ f. cc, (λ f. cc, both_free (spell_statement_row s) _ (statements_free s) (λ f. cc, tt)))
+  core_free (CoreTogether the_together_word.Parallel p j l s r) = (λ f. cc, both_free (spell_option spell_join j) _ (join_free j) (λ f. cc, both_free (spell_statement_row s) _ (statements_free s) (λ f. cc, tt)))
+  core_free (CoreTogether the_together_word.Schedule p j l s r) = (λ f. cc, both_free (spell_option spell_join j) _ (join_free j) (λ f. cc, both_free (spell_statement_row s) _ (statements_free s) (λ f. cc, tt)))
+  core_free (CoreSelect p l b bs r) = (λ f. cc, (λ f. cc, both_free (spell_branch b) _ (branch_free b) (both_free (spell_branch_row bs) _ (branches_free bs) (λ f. cc, tt))))
+  core_free (CoreRepeat p l i e r s) = (λ f. cc, (λ f. cc, both_free (spell_option spell_label i) _ (label_free i) (both_free (spell_expr e) _ (expr_free e) (λ f. cc, statement_free s))))
+  core_free (CoreIf i l e r t) = (λ f. cc, (λ f. cc, both_free (spell_expr e) _ (expr_free e) (λ f. cc, statement_free t)))
+  core_free (CoreIfElse i l e r t x o) = (λ f. cc, (λ f. cc, both_free (spell_expr e) _ (expr_free e) (λ f. cc, both_free (spell_statement t) _ (statement_free t) (λ f. cc, statement_free o))))
+  core_free (CoreMatch p l e r b a arms z) = (λ f. cc, (λ f. cc, both_free (spell_expr e) _ (expr_free e) (λ f. cc, (λ f. cc, both_free (spell_arm a) _ (arm_free a) (both_free (spell_arm_row arms) _ (arms_free arms) (λ f. cc, tt))))))
+  core_free (CoreBind b) = bind_free b
+
+  branch_free : (b : BranchTree) → NoEnd (spell_branch b)
+  branch_free (MakeBranch g s) = both_free (spell_option spell_guard g) _ (guard_free g) (statement_free s)
+
+  arm_free : (a : ArmTree) → NoEnd (spell_arm a)
+  arm_free (MakeArm l c s) = both_free (spell_arm_label l) _ (arm_label_free l) (λ f. cc, statement_free s)
+
+  statements_free : (r : StatementRow) → NoEnd (spell_statement_row r)
+  statements_free NoStatementRow = tt
+  statements_free (MoreStatementRow s r) = both_free (spell_statement s) (spell_statement_row r) (statement_free s) (statements_free r)
+
+  branches_free : (r : BranchRow) → NoEnd (spell_branch_row r)
+  branches_free NoBranchRow = tt
+  branches_free (MoreBranchRow b r) = both_free (spell_branch b) (spell_branch_row r) (branch_free b) (branches_free r)
+
+  arms_free : (r : ArmRow) → NoEnd (spell_arm_row r)
+  arms_free NoArmRow = tt
+  arms_free (MoreArmRow a r) = both_free (spell_arm a) (spell_arm_row r) (arm_free a) (arms_free r)
+
+all_free : (ss : List StatementTree) → NoEnd (flat_map spell_statement ss)
+all_free [] = tt
+all_free (s ∷ ss) = both_free (spell_statement s) (flat_map spell_statement ss) (statement_free s) (all_free ss)
+
+pub activity_free : (a : ActivityTree) → NoEnd (spell_activity a)
+activity_free (MakeActivity a l ss r) = (λ f. cc, (λ f. cc, both_free (flat_map spell_statement ss) _ (all_free ss) (λ f. cc, tt)))

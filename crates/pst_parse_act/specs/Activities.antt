@@ -1,0 +1,482 @@
+-- Activities, parsed from left to right: depth derivations that count are open at the tokens of a part itself.
+use Rattle.std.specs.Prelude.{ℕ, zero, suc, if◌then◌else◌, Bool, true, false, ◌||◌, List, [], ◌∷◌, Option, Some, None}
+use Rattle.pst_base.specs.declared.position.Place.{Place}
+use Rattle.pst_token.specs.declared.kind.Kind.TheVariants as kind
+use Rattle.pst_token.specs.declared.token.Token.{Token}
+use Rattle.pst_ast.specs.declared.leaf.Name.{Name}
+use Rattle.pst_ast.specs.declared.shared.LabelNode.{LabelNode}
+use Rattle.pst_ast.specs.declared.shared.NextName.{NextName}
+use Rattle.pst_ast.specs.declared.shared.ScopedName.{ScopedName}
+use Rattle.pst_ast.specs.declared.shared.TypeName.{TypeName}
+use Rattle.pst_ast.specs.declared.activity.EndNode.{EndNode}
+use Rattle.pst_ast.specs.declared.activity.NextEnd.{NextEnd}
+use Rattle.pst_ast.specs.declared.activity.TogetherWord.{TogetherWord}
+use Rattle.pst_ast.specs.declared.activity.TogetherWord.TheVariants as the_together_word
+use Rattle.pst_ast.specs.Marks.{together_word_kind}
+use Rattle.pst_ast.specs.Limits.{Count, counted}
+use Rattle.pst_ast.specs.ExpressionTree.{ExprTree, ExprUnary, UnaryPrimary, PrimaryPath, PathTree, PathDotted, PartTree, MakePart, NoNextPartRow, NoIndex, SomeIndex, RangesTree, MakeRanges, RangeTree, RangeSingle, RangeBetween, NextRangeTree, MakeNextRange, NextRangeRow, NoNextRangeRow, MoreNextRangeRow}
+use Rattle.pst_ast.specs.SharedTree.{NamesTree, MakeNames}
+use Rattle.pst_ast.specs.ConstraintTree.{ConstraintTree}
+use Rattle.pst_ast.specs.ActivityTree.{ActivityTree, MakeActivity, StatementTree, StatementEmpty, StatementLabeled, StatementPlain, CoreTree, CoreDo, CoreHandle, CoreSequence, CoreTogether, CoreSelect, CoreRepeat, CoreIf, CoreIfElse, CoreMatch, CoreBind, BranchTree, MakeBranch, ArmTree, MakeArm, GuardTree, GuardCondition, GuardWeight, WeightTree, MakeWeight, ArmLabelTree, ArmLabelRanges, ArmLabelDefault, JoinTree, JoinBranch, JoinNothing, JoinSelect, WithTree, WithNothing, WithSet, BindTree, MakeBind, OtherEndsTree, OtherEndsOne, OtherEndsSeveral, StatementRow, NoStatementRow, MoreStatementRow, BranchRow, NoBranchRow, MoreBranchRow, ArmRow, NoArmRow, MoreArmRow}
+use Rattle.pst_ast.specs.ActivityProper.{statement_ends_open}
+use Rattle.pst_reading.specs.Kinds.{is_mark, is_name, next_is}
+use Rattle.pst_reading.specs.Parser.{Parser, Done, Spent, Look, ◌>>=◌, followed_by, mark_by, name_by, if_mark}
+use Rattle.pst_reading.specs.Lists.{list_by}
+use Rattle.pst_reading.specs.Options.{option_by, row_by}
+use Rattle.pst_parse_expr.specs.Constraints.{Within, is_at, is_other, outermost_at, constraint_at}
+
+-- ---- names
+
+-- "::" NAME
+abbrev pub scoped_name_by : Within ScopedName
+scoped_name_by depth = do
+  colons ← mark_by kind.ColonColon (counted depth 0)
+  name ← name_by (counted depth 0)
+  Done (record { colons = colons; name = name })
+
+-- tname = NAME [ "::" NAME ]
+abbrev pub type_name_by : Within TypeName
+type_name_by depth = do
+  first ← name_by (counted depth 0)
+  second ← option_by (is_at kind.ColonColon) (scoped_name_by depth)
+  Done (record { first = first; second = second })
+
+-- "," NAME
+abbrev pub next_name_by : Within NextName
+next_name_by depth = do
+  comma ← mark_by kind.Comma (counted depth 0)
+  name ← name_by (counted depth 0)
+  Done (record { comma = comma; name = name })
+
+-- NAME { "," NAME }
+abbrev pub names_by : ℕ → Within NamesTree
+names_by turns depth = do
+  first ← name_by (counted depth 0)
+  rest ← list_by (is_at kind.Comma) (next_name_by depth) turns
+  Done (MakeNames first rest)
+
+-- ---- bind
+
+-- end = NAME "." NAME
+abbrev pub end_by : Within EndNode
+end_by depth = do
+  handle ← name_by (counted depth 0)
+  dot ← mark_by kind.Dot (counted depth 0)
+  name ← name_by (counted depth 0)
+  Done (record { handle = handle; dot = dot; name = name })
+
+-- "," end
+abbrev pub next_end_by : Within NextEnd
+next_end_by depth = do
+  comma ← mark_by kind.Comma (counted depth 0)
+  end ← end_by depth
+  Done (record { comma = comma; end = end })
+
+abbrev pub one_end_by : Within OtherEndsTree
+one_end_by depth = do
+  end ← end_by depth
+  Done (OtherEndsOne end)
+
+-- "{" end { "," end } "}"
+abbrev pub several_ends_by : ℕ → Within OtherEndsTree
+several_ends_by turns depth = do
+  left_brace ← mark_by kind.LeftBrace (counted depth 0)
+  first ← end_by depth
+  rest ← list_by (is_at kind.Comma) (next_end_by depth) turns
+  right_brace ← mark_by kind.RightBrace (counted depth 0)
+  Done (OtherEndsSeveral left_brace first rest right_brace)
+
+abbrev pub other_ends_by : ℕ → Within OtherEndsTree
+other_ends_by turns depth = if_mark kind.LeftBrace (several_ends_by turns depth) (one_end_by depth)
+
+-- "bind" end ( end | "{" end { "," end } "}" ) ";"
+abbrev pub bind_by : ℕ → Within BindTree
+bind_by turns depth = do
+  bind_place ← mark_by kind.Bind (counted depth 0)
+  first ← end_by depth
+  others ← other_ends_by turns depth
+  semicolon ← mark_by kind.Semicolon (counted depth 0)
+  Done (MakeBind bind_place first others semicolon)
+
+-- ---- join forms
+
+-- "join_branch" "(" NAME { "," NAME } ")"
+abbrev pub branch_join_by : ℕ → Within JoinTree
+branch_join_by turns depth = do
+  join_branch ← mark_by kind.JoinBranch (counted depth 0)
+  left_parenthesis ← mark_by kind.LeftParenthesis (counted depth 0)
+  names ← names_by turns depth
+  right_parenthesis ← mark_by kind.RightParenthesis (counted depth 0)
+  Done (JoinBranch join_branch left_parenthesis names right_parenthesis)
+
+-- "join_none"
+abbrev pub nothing_join_by : Within JoinTree
+nothing_join_by depth = do
+  place ← mark_by kind.JoinNone (counted depth 0)
+  Done (JoinNothing place)
+
+-- "join_select" "(" expr ")"
+abbrev pub select_join_by : Within ExprTree → Within JoinTree
+select_join_by expr depth = do
+  join_select ← mark_by kind.JoinSelect (counted depth 0)
+  left_parenthesis ← mark_by kind.LeftParenthesis (counted depth 0)
+  count ← expr depth
+  right_parenthesis ← mark_by kind.RightParenthesis (counted depth 0)
+  Done (JoinSelect join_select left_parenthesis count right_parenthesis)
+
+abbrev pub join_by : Within ExprTree → ℕ → Within JoinTree
+join_by expr turns depth = if_mark kind.JoinBranch (branch_join_by turns depth) (if_mark kind.JoinNone (nothing_join_by depth) (select_join_by expr depth))
+
+unfoldable pub begins_join : Option Token → Bool
+begins_join next = next_is (is_mark kind.JoinBranch) next || (next_is (is_mark kind.JoinNone) next || next_is (is_mark kind.JoinSelect) next)
+
+-- ---- what stands before the statement of a branch
+
+-- "[" expr "]"
+abbrev pub weight_by : Within ExprTree → Within WeightTree
+weight_by expr depth = do
+  left_bracket ← mark_by kind.LeftBracket (counted depth 0)
+  weight ← expr depth
+  right_bracket ← mark_by kind.RightBracket (counted depth 0)
+  Done (MakeWeight left_bracket weight right_bracket)
+
+-- "(" expr ")" [ "[" expr "]" ] ":"
+abbrev pub condition_guard_by : Within ExprTree → Within GuardTree
+condition_guard_by expr depth = do
+  left_parenthesis ← mark_by kind.LeftParenthesis (counted depth 0)
+  condition ← expr depth
+  right_parenthesis ← mark_by kind.RightParenthesis (counted depth 0)
+  weight ← option_by (is_at kind.LeftBracket) (weight_by expr depth)
+  colon ← mark_by kind.Colon (counted depth 0)
+  Done (GuardCondition left_parenthesis condition right_parenthesis weight colon)
+
+-- "[" expr "]" ":"
+abbrev pub weight_guard_by : Within ExprTree → Within GuardTree
+weight_guard_by expr depth = do
+  weight ← weight_by expr depth
+  colon ← mark_by kind.Colon (counted depth 0)
+  Done (GuardWeight weight colon)
+
+abbrev pub guard_by : Within ExprTree → Within GuardTree
+guard_by expr depth = if_mark kind.LeftParenthesis (condition_guard_by expr depth) (weight_guard_by expr depth)
+
+unfoldable pub begins_guard : Option Token → Bool
+begins_guard next = next_is (is_mark kind.LeftParenthesis) next || next_is (is_mark kind.LeftBracket) next
+
+-- ---- what stands before the statement of an arm; each end of a range is an outermost expression of its own
+
+abbrev pub between_by : Within ExprTree → ℕ → ExprTree → Parser RangeTree
+between_by expr depth low = do
+  dots ← mark_by kind.DotDot (counted depth 0)
+  high ← expr depth
+  Done (RangeBetween low dots high)
+
+-- range = expr [ ".." expr ]
+abbrev pub range_by : Within ExprTree → Within RangeTree
+range_by expr depth = do
+  low ← expr depth
+  if_mark kind.DotDot (between_by expr depth low) (Done (RangeSingle low))
+
+-- "," range
+abbrev pub next_range_by : Within ExprTree → Within NextRangeTree
+next_range_by expr depth = do
+  comma ← mark_by kind.Comma (counted depth 0)
+  range ← range_by expr depth
+  Done (MakeNextRange comma range)
+
+abbrev pub range_row : List NextRangeTree → NextRangeRow
+range_row [] = NoNextRangeRow
+range_row (range ∷ ranges) = MoreNextRangeRow range (range_row ranges)
+
+-- { "," range }
+abbrev pub next_ranges_by : Within ExprTree → ℕ → Within NextRangeRow
+next_ranges_by expr turns depth = row_by range_row (list_by (is_at kind.Comma) (next_range_by expr depth) turns)
+
+-- ranges = range { "," range }
+abbrev pub ranges_by : Within ExprTree → ℕ → Within RangesTree
+ranges_by expr turns depth = do
+  first ← range_by expr depth
+  rest ← next_ranges_by expr turns depth
+  Done (MakeRanges first rest)
+
+-- "[" ranges "]"
+abbrev pub ranges_label_by : Within ExprTree → ℕ → Within ArmLabelTree
+ranges_label_by expr turns depth = do
+  left_bracket ← mark_by kind.LeftBracket (counted depth 0)
+  ranges ← ranges_by expr turns depth
+  right_bracket ← mark_by kind.RightBracket (counted depth 0)
+  Done (ArmLabelRanges left_bracket ranges right_bracket)
+
+-- "default"
+abbrev pub default_label_by : Within ArmLabelTree
+default_label_by depth = do
+  place ← mark_by kind.Default (counted depth 0)
+  Done (ArmLabelDefault place)
+
+abbrev pub arm_label_by : Within ExprTree → ℕ → Within ArmLabelTree
+arm_label_by expr turns depth = if_mark kind.LeftBracket (ranges_label_by expr turns depth) (default_label_by depth)
+
+-- ---- traversals
+
+-- "with" set
+abbrev pub with_set_by : Within ConstraintTree → Within WithTree
+with_set_by set depth = do
+  with_place ← mark_by kind.With (counted depth 0)
+  constraints ← set depth
+  Done (WithSet with_place constraints)
+
+-- ";"
+abbrev pub with_nothing_by : Within WithTree
+with_nothing_by depth = do
+  place ← mark_by kind.Semicolon (counted depth 0)
+  Done (WithNothing place)
+
+-- with = ";" | "with" set
+abbrev pub with_by : Within ConstraintTree → Within WithTree
+with_by set depth = if_mark kind.With (with_set_by set depth) (with_nothing_by depth)
+
+-- "do" tname with
+abbrev pub do_by : Within ConstraintTree → Within CoreTree
+do_by set depth = do
+  do_place ← mark_by kind.Do (counted depth 0)
+  name ← type_name_by depth
+  with_part ← with_by set depth
+  Done (CoreDo do_place name with_part)
+
+-- NAME with
+abbrev pub handle_by : Within ConstraintTree → Within CoreTree
+handle_by set depth = do
+  name ← name_by (counted depth 0)
+  with_part ← with_by set depth
+  Done (CoreHandle name with_part)
+
+-- ---- blocks
+
+abbrev pub statement_row : List StatementTree → StatementRow
+statement_row [] = NoStatementRow
+statement_row (statement ∷ statements) = MoreStatementRow statement (statement_row statements)
+
+-- { stmt }, up to a brace that closes
+abbrev pub statements_by : Within StatementTree → ℕ → Within StatementRow
+statements_by statement turns depth = row_by statement_row (list_by (is_other kind.RightBrace) (statement depth) turns)
+
+abbrev pub sequence_word_by : Within Place
+sequence_word_by depth = mark_by kind.Sequence (counted depth 0)
+
+-- ["sequence"] "{" { stmt } "}"
+abbrev pub sequence_by : Within StatementTree → ℕ → Within CoreTree
+sequence_by statement turns depth = do
+  word ← option_by (is_at kind.Sequence) (sequence_word_by depth)
+  left_brace ← mark_by kind.LeftBrace (counted depth 0)
+  statements ← statements_by statement turns depth
+  right_brace ← mark_by kind.RightBrace (counted depth 0)
+  Done (CoreSequence word left_brace statements right_brace)
+
+-- ("parallel"|"schedule") [ join ] "{" { stmt } "}"
+abbrev pub together_by : Within ExprTree → Within StatementTree → ℕ → TogetherWord → Within CoreTree
+together_by expr statement turns word depth = do
+  place ← mark_by (together_word_kind word) (counted depth 0)
+  join ← option_by begins_join (join_by expr turns depth)
+  left_brace ← mark_by kind.LeftBrace (counted depth 0)
+  statements ← statements_by statement turns depth
+  right_brace ← mark_by kind.RightBrace (counted depth 0)
+  Done (CoreTogether word place join left_brace statements right_brace)
+
+-- ---- select
+
+-- branch = [ ( "(" expr ")" [ "[" expr "]" ] | "[" expr "]" ) ":" ] stmt
+abbrev pub branch_by : Within ExprTree → Within StatementTree → Within BranchTree
+branch_by expr statement depth = do
+  guard ← option_by begins_guard (guard_by expr depth)
+  chosen ← statement depth
+  Done (MakeBranch guard chosen)
+
+abbrev pub branch_row : List BranchTree → BranchRow
+branch_row [] = NoBranchRow
+branch_row (branch ∷ branches) = MoreBranchRow branch (branch_row branches)
+
+-- { branch }, up to a brace that closes
+abbrev pub branches_by : Within ExprTree → Within StatementTree → ℕ → Within BranchRow
+branches_by expr statement turns depth = row_by branch_row (list_by (is_other kind.RightBrace) (branch_by expr statement depth) turns)
+
+-- "select" "{" branch { branch } "}"
+abbrev pub select_by : Within ExprTree → Within StatementTree → ℕ → Within CoreTree
+select_by expr statement turns depth = do
+  select_place ← mark_by kind.Select (counted depth 0)
+  left_brace ← mark_by kind.LeftBrace (counted depth 0)
+  first ← branch_by expr statement depth
+  rest ← branches_by expr statement turns depth
+  right_brace ← mark_by kind.RightBrace (counted depth 0)
+  Done (CoreSelect select_place left_brace first rest right_brace)
+
+-- ---- repeat
+
+-- the name of a part without an index
+abbrev pub part_alone : PartTree → Option Name
+part_alone (MakePart name NoIndex) = Some name
+part_alone (MakePart name (SomeIndex index)) = None
+
+-- a path that is a name and nothing more
+abbrev pub path_alone : PathTree → Option Name
+path_alone (PathDotted part NoNextPartRow) = part_alone part
+path_alone _ = None
+
+-- an expression that is a name and nothing more
+abbrev pub name_alone : ExprTree → Option Name
+name_alone (ExprUnary (UnaryPrimary (PrimaryPath path))) = path_alone path
+name_alone _ = None
+
+-- the index's name, where the expression is a name and a colon comes next
+abbrev pub index_of : Bool → ExprTree → Option Name
+index_of true head = name_alone head
+index_of false head = None
+
+-- the index that stands before the count, where one does, and the count
+abbrev pub CounterTree : Type 0
+CounterTree = Option LabelNode × ExprTree
+
+abbrev pub counter_behind : Within ExprTree → ℕ → ExprTree → Option Name → Parser CounterTree
+counter_behind expr depth head None = Done (None, head)
+counter_behind expr depth head (Some name) = do
+  colon ← mark_by kind.Colon (counted depth 0)
+  count ← expr depth
+  Done (Some (record { name = name; colon = colon }), count)
+
+-- [ NAME ":" ] expr; the name is read as an expression
+abbrev pub counter_by : Within ExprTree → Within CounterTree
+counter_by expr depth = do
+  head ← expr depth
+  Look (λ next. counter_behind expr depth head (index_of (is_at kind.Colon next) head))
+
+-- "repeat" "(" [ NAME ":" ] expr ")" stmt
+abbrev pub repeated_by : Within ExprTree → Within StatementTree → Within CoreTree
+repeated_by expr statement depth = do
+  repeat_place ← mark_by kind.Repeat (counted depth 0)
+  left_parenthesis ← mark_by kind.LeftParenthesis (counted depth 0)
+  counter ← counter_by expr depth
+  right_parenthesis ← mark_by kind.RightParenthesis (counted depth 0)
+  repeated ← statement depth
+  Done (CoreRepeat repeat_place left_parenthesis counter.0 counter.1 right_parenthesis repeated)
+
+-- ---- if
+
+abbrev pub else_by : Within StatementTree → ℕ → Place → Place → ExprTree → Place → StatementTree → Parser CoreTree
+else_by statement depth if_place left_parenthesis condition right_parenthesis then_part = do
+  else_place ← mark_by kind.Else (counted depth 0)
+  otherwise ← statement depth
+  Done (CoreIfElse if_place left_parenthesis condition right_parenthesis then_part else_place otherwise)
+
+-- a statement that ends with an open `if` has taken every `else` behind it
+abbrev pub maybe_else_by : Within StatementTree → ℕ → Place → Place → ExprTree → Place → StatementTree → Bool → Parser CoreTree
+maybe_else_by statement depth if_place left condition right then_part true = Done (CoreIf if_place left condition right then_part)
+maybe_else_by statement depth if_place left condition right then_part false = if_mark kind.Else (else_by statement depth if_place left condition right then_part) (Done (CoreIf if_place left condition right then_part))
+
+-- "if" "(" expr ")" stmt [ "else" stmt ]
+abbrev pub if_by : Within ExprTree → Within StatementTree → Within CoreTree
+if_by expr statement depth = do
+  if_place ← mark_by kind.If (counted depth 0)
+  left_parenthesis ← mark_by kind.LeftParenthesis (counted depth 0)
+  condition ← expr depth
+  right_parenthesis ← mark_by kind.RightParenthesis (counted depth 0)
+  then_part ← statement depth
+  maybe_else_by statement depth if_place left_parenthesis condition right_parenthesis then_part (statement_ends_open then_part)
+
+-- ---- match
+
+-- arm = ( "[" ranges "]" | "default" ) ":" stmt
+abbrev pub arm_by : Within ExprTree → Within StatementTree → ℕ → Within ArmTree
+arm_by expr statement turns depth = do
+  label ← arm_label_by expr turns depth
+  colon ← mark_by kind.Colon (counted depth 0)
+  chosen ← statement depth
+  Done (MakeArm label colon chosen)
+
+abbrev pub arm_row : List ArmTree → ArmRow
+arm_row [] = NoArmRow
+arm_row (arm ∷ arms) = MoreArmRow arm (arm_row arms)
+
+-- { arm }, up to a brace that closes
+abbrev pub arms_by : Within ExprTree → Within StatementTree → ℕ → Within ArmRow
+arms_by expr statement turns depth = row_by arm_row (list_by (is_other kind.RightBrace) (arm_by expr statement turns depth) turns)
+
+-- "match" "(" expr ")" "{" arm { arm } "}"
+abbrev pub match_by : Within ExprTree → Within StatementTree → ℕ → Within CoreTree
+match_by expr statement turns depth = do
+  match_place ← mark_by kind.Match (counted depth 0)
+  left_parenthesis ← mark_by kind.LeftParenthesis (counted depth 0)
+  matched ← expr depth
+  right_parenthesis ← mark_by kind.RightParenthesis (counted depth 0)
+  left_brace ← mark_by kind.LeftBrace (counted depth 0)
+  first ← arm_by expr statement turns depth
+  rest ← arms_by expr statement turns depth
+  right_brace ← mark_by kind.RightBrace (counted depth 0)
+  Done (CoreMatch match_place left_parenthesis matched right_parenthesis left_brace first rest right_brace)
+
+-- ---- core, stmt
+
+abbrev pub bound_by : ℕ → Within CoreTree
+bound_by turns depth = do
+  bind ← bind_by turns depth
+  Done (CoreBind bind)
+
+abbrev pub core_by : Within ExprTree → Within ConstraintTree → Within StatementTree → ℕ → Within CoreTree
+core_by expr set statement turns depth = if_mark kind.Do (do_by set depth) (
+    if_mark kind.LeftBrace (sequence_by statement turns depth) (
+    if_mark kind.Sequence (sequence_by statement turns depth) (
+    if_mark kind.Parallel (together_by expr statement turns the_together_word.Parallel depth) (
+    if_mark kind.Schedule (together_by expr statement turns the_together_word.Schedule depth) (
+    if_mark kind.Select (select_by expr statement turns depth) (
+    if_mark kind.Repeat (repeated_by expr statement depth) (
+    if_mark kind.If (if_by expr statement depth) (
+    if_mark kind.Match (match_by expr statement turns depth) (
+    if_mark kind.Bind (bound_by turns depth)
+    (handle_by set depth))))))))))
+
+abbrev pub empty_by : Within StatementTree
+empty_by depth = do
+  place ← mark_by kind.Semicolon (counted depth 0)
+  Done (StatementEmpty place)
+
+abbrev pub labeled_by : Within ExprTree → Within ConstraintTree → Within StatementTree → ℕ → ℕ → Name → Parser StatementTree
+labeled_by expr set statement turns depth name = do
+  colon ← mark_by kind.Colon (counted depth 0)
+  core ← core_by expr set statement turns depth
+  Done (StatementLabeled (record { name = name; colon = colon }) core)
+
+abbrev pub traversed_by : Within ConstraintTree → ℕ → Name → Parser StatementTree
+traversed_by set depth name = do
+  with_part ← with_by set depth
+  Done (StatementPlain (CoreHandle name with_part))
+
+-- a name is a label where a colon comes next, and else a handle
+abbrev pub named_by : Within ExprTree → Within ConstraintTree → Within StatementTree → ℕ → Within StatementTree
+named_by expr set statement turns depth = do
+  name ← name_by (counted depth 0)
+  if_mark kind.Colon (labeled_by expr set statement turns depth name) (traversed_by set depth name)
+
+abbrev pub plain_by : Within ExprTree → Within ConstraintTree → Within StatementTree → ℕ → Within StatementTree
+plain_by expr set statement turns depth = do
+  core ← core_by expr set statement turns depth
+  Done (StatementPlain core)
+
+-- stmt = ";" | [ NAME ":" ] core
+abbrev pub statement_by : Within ExprTree → Within ConstraintTree → Within StatementTree → ℕ → Within StatementTree
+statement_by expr set statement turns depth = if_mark kind.Semicolon (empty_by depth) (
+    Look (λ next. if next_is is_name next then named_by expr set statement turns depth else plain_by expr set statement turns depth))
+
+-- each statement is a derivation that counts; statements within one another, and turns of each loop, are fewer than size
+unfoldable pub statement_at : ℕ → Within StatementTree
+statement_at zero depth = Spent
+statement_at (suc size) depth = statement_by (outermost_at (suc size)) (constraint_at (suc size)) (statement_at size) size (suc depth)
+
+-- activity = "activity" "{" { stmt } "}"
+abbrev pub activity_by : Within StatementTree → ℕ → Within ActivityTree
+activity_by statement turns depth = do
+  activity_place ← mark_by kind.Activity (counted depth 0)
+  left_brace ← mark_by kind.LeftBrace (counted depth 0)
+  statements ← list_by (is_other kind.RightBrace) (statement depth) turns
+  right_brace ← mark_by kind.RightBrace (counted depth 0)
+  Done (MakeActivity activity_place left_brace statements right_brace)
+
+abbrev pub activity_at : ℕ → Within ActivityTree
+activity_at size depth = activity_by (statement_at size) size depth

@@ -1,0 +1,467 @@
+//! Statements of activities. A parser stands at a place, and `depth` derivations that count are open
+//! at the tokens of its part; it answers the part and the place behind it. Behind a part that ends
+//! with an `if` without `else` no `else` stands.
+ghost use Rattle.std.specs.Prelude.{◌≡◌, ◌≤◌, ◌-◌, length};
+ghost use Rattle.pst_ast.specs.ActivityView.{view_statement, view_core, view_branch, view_arm};
+ghost use Rattle.pst_ast.specs.ActivityProper.{statement_ends_open, core_ends_open};
+ghost use Rattle.pst_ast.specs.Marks.{together_word_kind};
+ghost use Rattle.pst_reading.specs.Reads.{Reads, ReadsOpen};
+ghost use Rattle.pst_parse_act.specs.ActivityFamilies.{sequence_word_family, maybe_sequence_word_family, sequence_family, together_family, branch_family, branches_family, select_family, repeated_family, if_family, arm_family, arms_family, match_family, core_family, empty_family, named_family, plain_family, statement_family, statements_family, view_statements, view_branches, view_arms};
+
+use crate::labels::{arm_label, maybe_guard, read_counter};
+use crate::parts::maybe_join;
+use crate::traversal::{bound_core, do_core, handle_core, with_part};
+use pst_ast::{ArmNode, BranchNode, CoreNode, LabelNode, StatementNode, SyntaxFault, TogetherWord};
+use pst_base::Place;
+use pst_parse_expr::shared::outermost;
+use pst_reading::{boxed, expect, expect_name, is, is_name, push};
+use pst_token::{Kind, Token};
+use std::alloc::Global;
+
+// The word `sequence`.
+fn sequence_word(tokens: &[Token], at: usize, depth: u32) -> Result<(Place, usize), SyntaxFault>
+    requires inside { at ≤ length tokens.now }
+    ensures { Reads (λ place. place) (sequence_word_family depth) tokens.now at at 1 result }
+{
+    let place = expect(tokens, at, Kind::Sequence, depth, 0)?;
+    Ok((place, at + 1))
+}
+
+// The word `sequence`, where it stands.
+fn maybe_sequence_word(
+    tokens: &[Token],
+    at: usize,
+    depth: u32,
+) -> Result<(Option<Place>, usize), SyntaxFault>
+    requires inside { at ≤ length tokens.now }
+    ensures { Reads (λ place. place) (maybe_sequence_word_family depth) tokens.now at at 0 result }
+{
+    if !is(tokens, at, Kind::Sequence) {
+        return Ok((None, at));
+    }
+    let (word, after) = sequence_word(tokens, at, depth)?;
+    Ok((Some(word), after))
+}
+
+// Statements one after another.
+#[cycle(activity)]
+fn sequence_core(
+    alloc: Global,
+    tokens: &[Token],
+    at: usize,
+    depth: u32,
+) -> Result<(CoreNode, usize), SyntaxFault>
+    requires inside { at ≤ length tokens.now }
+    requires nesting { depth ≤ 65 }
+    ensures { ReadsOpen view_core core_ends_open (sequence_family depth) tokens.now at at result }
+{
+    let (sequence, behind) = maybe_sequence_word(tokens, at, depth)?;
+    let left_brace = expect(tokens, behind, Kind::LeftBrace, depth, 0)?;
+    let (statements, after) = statements(alloc, tokens, behind + 1, depth)?;
+    let right_brace = expect(tokens, after, Kind::RightBrace, depth, 0)?;
+    let core = CoreNode::Sequence {
+        sequence,
+        left_brace,
+        statements,
+        right_brace,
+    };
+    Ok((core, after + 1))
+}
+
+// The reserved word of a block whose statements run side by side or in any order.
+fn word_kind(word: TogetherWord) -> Kind
+    ensures { result ≡ together_word_kind word }
+{
+    match word {
+        TogetherWord::Parallel => Kind::Parallel,
+        TogetherWord::Schedule => Kind::Schedule,
+    }
+}
+
+// Statements side by side, or in any order.
+#[cycle(activity)]
+fn together_core(
+    alloc: Global,
+    tokens: &[Token],
+    at: usize,
+    depth: u32,
+    word: TogetherWord,
+) -> Result<(CoreNode, usize), SyntaxFault>
+    requires inside { at ≤ length tokens.now }
+    requires nesting { depth ≤ 65 }
+    ensures { ReadsOpen view_core core_ends_open (together_family word depth) tokens.now at at result }
+{
+    let kind = word_kind(word);
+    let place = expect(tokens, at, kind, depth, 0)?;
+    let (join, behind) = maybe_join(alloc, tokens, at + 1, depth)?;
+    let left_brace = expect(tokens, behind, Kind::LeftBrace, depth, 0)?;
+    let (statements, after) = statements(alloc, tokens, behind + 1, depth)?;
+    let right_brace = expect(tokens, after, Kind::RightBrace, depth, 0)?;
+    let core = CoreNode::Together {
+        word,
+        place,
+        join,
+        left_brace,
+        statements,
+        right_brace,
+    };
+    Ok((core, after + 1))
+}
+
+// A branch of `select`.
+#[cycle(activity)]
+fn branch(
+    alloc: Global,
+    tokens: &[Token],
+    at: usize,
+    depth: u32,
+) -> Result<(BranchNode, usize), SyntaxFault>
+    requires inside { at ≤ length tokens.now }
+    requires nesting { depth ≤ 64 }
+    requires behind { 1 ≤ at }
+    ensures { Reads view_branch (branch_family depth) tokens.now (at - 1) at 1 result }
+{
+    let (guard, behind) = maybe_guard(alloc, tokens, at, depth)?;
+    let (statement, after) = statement(alloc, tokens, behind, depth + 1)?;
+    Ok((BranchNode { guard, statement }, after))
+}
+
+// Branches up to a brace that closes.
+#[cycle(activity)]
+fn branches(
+    alloc: Global,
+    tokens: &[Token],
+    at: usize,
+    depth: u32,
+) -> Result<(Vec<BranchNode>, usize), SyntaxFault>
+    requires inside { at ≤ length tokens.now }
+    requires nesting { depth ≤ 64 }
+    requires behind { 1 ≤ at }
+    ensures { Reads view_branches (branches_family depth) tokens.now (at - 1) at 0 result }
+{
+    let mut all = Vec::new(alloc);
+    let mut place = at;
+    'all: while !is(tokens, place, Kind::RightBrace) {
+        let (branch, after) = branch(alloc, tokens, place, depth)?;
+        push(&mut all, branch)?;
+        place = after;
+    }
+    Ok((all, place))
+}
+
+// One of several branches.
+#[cycle(activity)]
+fn select_core(
+    alloc: Global,
+    tokens: &[Token],
+    at: usize,
+    depth: u32,
+) -> Result<(CoreNode, usize), SyntaxFault>
+    requires inside { at ≤ length tokens.now }
+    requires nesting { depth ≤ 65 }
+    ensures { ReadsOpen view_core core_ends_open (select_family depth) tokens.now at at result }
+{
+    let select = expect(tokens, at, Kind::Select, depth, 0)?;
+    let left_brace = expect(tokens, at + 1, Kind::LeftBrace, depth, 0)?;
+    let (first, behind) = branch(alloc, tokens, at + 2, depth)?;
+    let (rest, after) = branches(alloc, tokens, behind, depth)?;
+    let right_brace = expect(tokens, after, Kind::RightBrace, depth, 0)?;
+    let core = CoreNode::Select {
+        select,
+        left_brace,
+        first: boxed(alloc, first)?,
+        rest,
+        right_brace,
+    };
+    Ok((core, after + 1))
+}
+
+// A statement that is repeated.
+#[cycle(activity)]
+fn repeat_core(
+    alloc: Global,
+    tokens: &[Token],
+    at: usize,
+    depth: u32,
+) -> Result<(CoreNode, usize), SyntaxFault>
+    requires inside { at ≤ length tokens.now }
+    requires nesting { depth ≤ 65 }
+    ensures { ReadsOpen view_core core_ends_open (repeated_family depth) tokens.now at at result }
+{
+    let repeat = expect(tokens, at, Kind::Repeat, depth, 0)?;
+    let left_parenthesis = expect(tokens, at + 1, Kind::LeftParenthesis, depth, 0)?;
+    let (counter, behind) = read_counter(alloc, tokens, at + 2, depth)?;
+    let right_parenthesis = expect(tokens, behind, Kind::RightParenthesis, depth, 0)?;
+    let (repeated, after) = statement(alloc, tokens, behind + 1, depth + 1)?;
+    let core = CoreNode::Repeat {
+        repeat,
+        left_parenthesis,
+        index: counter.index,
+        count: counter.count,
+        right_parenthesis,
+        statement: boxed(alloc, repeated)?,
+    };
+    Ok((core, after))
+}
+
+// A condition with its statement, and another behind `else`.
+#[cycle(activity)]
+fn if_core(
+    alloc: Global,
+    tokens: &[Token],
+    at: usize,
+    depth: u32,
+) -> Result<(CoreNode, usize), SyntaxFault>
+    requires inside { at ≤ length tokens.now }
+    requires nesting { depth ≤ 65 }
+    ensures { ReadsOpen view_core core_ends_open (if_family depth) tokens.now at at result }
+{
+    let if_ = expect(tokens, at, Kind::If, depth, 0)?;
+    let left_parenthesis = expect(tokens, at + 1, Kind::LeftParenthesis, depth, 0)?;
+    let (condition, behind) = outermost(alloc, tokens, at + 2, depth)?;
+    let right_parenthesis = expect(tokens, behind, Kind::RightParenthesis, depth, 0)?;
+    let (holds, after) = statement(alloc, tokens, behind + 1, depth + 1)?;
+    let then = boxed(alloc, holds)?;
+    if !is(tokens, after, Kind::Else) {
+        let only = CoreNode::If {
+            if_,
+            left_parenthesis,
+            condition,
+            right_parenthesis,
+            then,
+        };
+        return Ok((only, after));
+    }
+    let else_ = expect(tokens, after, Kind::Else, depth, 0)?;
+    let (other, end) = statement(alloc, tokens, after + 1, depth + 1)?;
+    let otherwise = boxed(alloc, other)?;
+    let both = CoreNode::IfElse {
+        if_,
+        left_parenthesis,
+        condition,
+        right_parenthesis,
+        then,
+        else_,
+        otherwise,
+    };
+    Ok((both, end))
+}
+
+// An arm of `match`.
+#[cycle(activity)]
+fn arm(
+    alloc: Global,
+    tokens: &[Token],
+    at: usize,
+    depth: u32,
+) -> Result<(ArmNode, usize), SyntaxFault>
+    requires inside { at ≤ length tokens.now }
+    requires nesting { depth ≤ 64 }
+    ensures { Reads view_arm (arm_family depth) tokens.now at at 1 result }
+{
+    let (label, behind) = arm_label(alloc, tokens, at, depth)?;
+    let colon = expect(tokens, behind, Kind::Colon, depth, 0)?;
+    let (statement, after) = statement(alloc, tokens, behind + 1, depth + 1)?;
+    let arm = ArmNode {
+        label,
+        colon,
+        statement,
+    };
+    Ok((arm, after))
+}
+
+// Arms up to a brace that closes.
+#[cycle(activity)]
+fn arms(
+    alloc: Global,
+    tokens: &[Token],
+    at: usize,
+    depth: u32,
+) -> Result<(Vec<ArmNode>, usize), SyntaxFault>
+    requires inside { at ≤ length tokens.now }
+    requires nesting { depth ≤ 64 }
+    requires behind { 1 ≤ at }
+    ensures { Reads view_arms (arms_family depth) tokens.now (at - 1) at 0 result }
+{
+    let mut all = Vec::new(alloc);
+    let mut place = at;
+    'all: while !is(tokens, place, Kind::RightBrace) {
+        let (arm, after) = arm(alloc, tokens, place, depth)?;
+        push(&mut all, arm)?;
+        place = after;
+    }
+    Ok((all, place))
+}
+
+// The arm that a value is in.
+#[cycle(activity)]
+fn match_core(
+    alloc: Global,
+    tokens: &[Token],
+    at: usize,
+    depth: u32,
+) -> Result<(CoreNode, usize), SyntaxFault>
+    requires inside { at ≤ length tokens.now }
+    requires nesting { depth ≤ 65 }
+    ensures { ReadsOpen view_core core_ends_open (match_family depth) tokens.now at at result }
+{
+    let match_ = expect(tokens, at, Kind::Match, depth, 0)?;
+    let left_parenthesis = expect(tokens, at + 1, Kind::LeftParenthesis, depth, 0)?;
+    let (expr, behind) = outermost(alloc, tokens, at + 2, depth)?;
+    let right_parenthesis = expect(tokens, behind, Kind::RightParenthesis, depth, 0)?;
+    let left_brace = expect(tokens, behind + 1, Kind::LeftBrace, depth, 0)?;
+    let (first, after) = arm(alloc, tokens, behind + 2, depth)?;
+    let (rest, end) = arms(alloc, tokens, after, depth)?;
+    let right_brace = expect(tokens, end, Kind::RightBrace, depth, 0)?;
+    let core = CoreNode::Match {
+        match_,
+        left_parenthesis,
+        expr,
+        right_parenthesis,
+        left_brace,
+        first: boxed(alloc, first)?,
+        rest,
+        right_brace,
+    };
+    Ok((core, end + 1))
+}
+
+// A statement without its label.
+#[cycle(activity)]
+fn unlabeled(
+    alloc: Global,
+    tokens: &[Token],
+    at: usize,
+    depth: u32,
+) -> Result<(CoreNode, usize), SyntaxFault>
+    requires inside { at ≤ length tokens.now }
+    requires nesting { depth ≤ 65 }
+    ensures { ReadsOpen view_core core_ends_open (core_family depth) tokens.now at at result }
+{
+    if is(tokens, at, Kind::Do) {
+        return do_core(alloc, tokens, at, depth);
+    }
+    if is(tokens, at, Kind::LeftBrace) {
+        return sequence_core(alloc, tokens, at, depth);
+    }
+    if is(tokens, at, Kind::Sequence) {
+        return sequence_core(alloc, tokens, at, depth);
+    }
+    if is(tokens, at, Kind::Parallel) {
+        return together_core(alloc, tokens, at, depth, TogetherWord::Parallel);
+    }
+    if is(tokens, at, Kind::Schedule) {
+        return together_core(alloc, tokens, at, depth, TogetherWord::Schedule);
+    }
+    if is(tokens, at, Kind::Select) {
+        return select_core(alloc, tokens, at, depth);
+    }
+    if is(tokens, at, Kind::Repeat) {
+        return repeat_core(alloc, tokens, at, depth);
+    }
+    if is(tokens, at, Kind::If) {
+        return if_core(alloc, tokens, at, depth);
+    }
+    if is(tokens, at, Kind::Match) {
+        return match_core(alloc, tokens, at, depth);
+    }
+    if is(tokens, at, Kind::Bind) {
+        return bound_core(alloc, tokens, at, depth);
+    }
+    handle_core(alloc, tokens, at, depth)
+}
+
+// A statement that does nothing.
+fn empty(tokens: &[Token], at: usize, depth: u32) -> Result<(StatementNode, usize), SyntaxFault>
+    requires inside { at ≤ length tokens.now }
+    ensures { ReadsOpen view_statement statement_ends_open (empty_family depth) tokens.now at at result }
+{
+    let semicolon = expect(tokens, at, Kind::Semicolon, depth, 0)?;
+    Ok((StatementNode::Empty(semicolon), at + 1))
+}
+
+// A statement that begins with a name: a label where a colon comes next, and else a handle.
+#[cycle(activity)]
+fn named(
+    alloc: Global,
+    tokens: &[Token],
+    at: usize,
+    depth: u32,
+) -> Result<(StatementNode, usize), SyntaxFault>
+    requires inside { at ≤ length tokens.now }
+    requires nesting { depth ≤ 65 }
+    ensures { ReadsOpen view_statement statement_ends_open (named_family depth) tokens.now at at result }
+{
+    let name = expect_name(tokens, at, depth, 0)?;
+    if !is(tokens, at + 1, Kind::Colon) {
+        let (with, behind) = with_part(alloc, tokens, at + 1, depth)?;
+        return Ok((
+            StatementNode::Plain(CoreNode::Handle { name, with }),
+            behind,
+        ));
+    }
+    let colon = expect(tokens, at + 1, Kind::Colon, depth, 0)?;
+    let (core, after) = unlabeled(alloc, tokens, at + 2, depth)?;
+    let label = LabelNode { name, colon };
+    Ok((StatementNode::Labeled { label, core }, after))
+}
+
+// A statement that begins otherwise.
+#[cycle(activity)]
+fn plain(
+    alloc: Global,
+    tokens: &[Token],
+    at: usize,
+    depth: u32,
+) -> Result<(StatementNode, usize), SyntaxFault>
+    requires inside { at ≤ length tokens.now }
+    requires nesting { depth ≤ 65 }
+    ensures { ReadsOpen view_statement statement_ends_open (plain_family depth) tokens.now at at result }
+{
+    let (core, after) = unlabeled(alloc, tokens, at, depth)?;
+    Ok((StatementNode::Plain(core), after))
+}
+
+// One statement.
+#[cycle(activity)]
+fn statement(
+    alloc: Global,
+    tokens: &[Token],
+    at: usize,
+    depth: u32,
+) -> Result<(StatementNode, usize), SyntaxFault>
+    requires inside { at ≤ length tokens.now }
+    requires nesting { depth ≤ 65 }
+    ensures { ReadsOpen view_statement statement_ends_open (statement_family depth) tokens.now at at result }
+{
+    if is(tokens, at, Kind::Semicolon) {
+        return empty(tokens, at, depth);
+    }
+    if is_name(tokens, at) {
+        return named(alloc, tokens, at, depth);
+    }
+    plain(alloc, tokens, at, depth)
+}
+
+// Statements up to a brace that closes.
+#[cycle(activity)]
+pub fn statements(
+    alloc: Global,
+    tokens: &[Token],
+    at: usize,
+    depth: u32,
+) -> Result<(Vec<StatementNode>, usize), SyntaxFault>
+    requires inside { at ≤ length tokens.now }
+    requires nesting { depth ≤ 64 }
+    requires behind { 1 ≤ at }
+    ensures { Reads view_statements (statements_family depth) tokens.now (at - 1) at 0 result }
+{
+    let mut all = Vec::new(alloc);
+    let mut place = at;
+    'all: while !is(tokens, place, Kind::RightBrace) {
+        let (statement, after) = statement(alloc, tokens, place, depth + 1)?;
+        push(&mut all, statement)?;
+        place = after;
+    }
+    Ok((all, place))
+}

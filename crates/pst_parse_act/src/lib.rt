@@ -1,0 +1,13 @@
+//! Parses activities.
+#![tactic(auto)]
+
+mod activity;
+mod labels;
+pub mod laws;
+mod parse;
+mod parts;
+#[cfg(test)]
+mod tests;
+mod traversal;
+
+pub use parse::{parse_activity, read_activity};

@@ -1,0 +1,11 @@
+pub mod Choices
+pub mod Types
+pub mod Members
+pub mod Enums
+pub mod Pools
+pub mod Objects
+pub mod Actions
+pub mod Components
+pub mod Families
+pub mod Inner
+pub mod Laws

@@ -1,0 +1,4 @@
+pub mod ItemsLoop
+pub mod UnitLaws
+pub mod OneEnd
+pub mod UnitAnswers
