@@ -1,4 +1,5 @@
 use Rattle.std.proofs.Common.{sym, subst}
+use Rattle.std.proofs.lemmas.Result.{IfOk-weaker}
 use Rattle.pst_scen.specs.Plan.{Entries}
 use Rattle.pst_scen.specs.Plans.{AreEntriesOf}
 use Rattle.pst_graph.proofs.Numbered.{are_numbered}
@@ -10,5 +11,8 @@ of_rows_in-requires-clause-numbered c = let groups = c.in_ok-groups.ensures in a
 pub returns : goal.returns
 returns c =
     let groups = c.in_ok-groups.ensures in
-    subst (λ (p : Entries). AreEntriesOf c.args.scenario.now p) (sym c.of_rows_in.ensures)
+    IfOk-weaker c.of_rows_in.result _ _ (
+    λ plan is.
+    subst (λ (p : Entries). AreEntriesOf c.args.scenario.now p) (sym is)
     (record { many = groups.0; group = groups.1; must = c.in_ok-must.ensures.2; conflict = c.in_ok-conflict.ensures.2 })
+    ) c.of_rows_in.ensures
