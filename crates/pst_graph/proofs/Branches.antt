@@ -1,10 +1,9 @@
 -- Branches of a block stand behind it.
-use Rattle.std.proofs.Common.{◌≡◌, ◌⊎◌, inl, inr, ◌<◌, ◌≤◌, ◌+◌, ◌∷◌, [], ℕ, zero, suc, List, Bool, true, false, Option, Some, None, length, get_or, take, slice_get, refl, sym, subst, ap, ◌∙◌, arith}
-use Rattle.std.specs.Prelude.{count_by}
+use Rattle.std.proofs.Common.{◌≡◌, ◌≤◌, ◌+◌, ◌∷◌, [], ℕ, zero, suc, List, Bool, true, false, Option, Some, None, length, get_or, refl, sym, ap, ◌∙◌, arith}
 use Rattle.std.proofs.lemmas.Bool.{eqb-true}
 use Rattle.std.proofs.lemmas.List.Sums.{count_by_more_no}
 use Rattle.pst_scen.specs.declared.tree.Node.{Node}
-use Rattle.pst_scen.specs.Tree.{IsChild, is_parent, branch_of}
+use Rattle.pst_scen.specs.Tree.{is_parent, branch_of}
 use Rattle.pst_scen.specs.Laws.{IsPreorder}
 use Rattle.pst_graph.proofs.Climbs.{child_read, parent_less}
 

@@ -1,5 +1,5 @@
 -- What the checks of a scenario come to. Only tests use them.
-use Rattle.std.proofs.Common.{◌≡◌, ◌≢◌, ◌⊎◌, inl, inr, ⊎_elim, ◌<◌, ◌≤◌, ◌+◌, ◌-◌, ◌++◌, ◌∷◌, [], ℕ, zero, suc, List, Option, length, get_or, take, drop, map, Some, None, slice_get, append_assoc, refl, sym, subst, ap, ◌∙◌, arith}
+use Rattle.std.proofs.Common.{◌≡◌, ◌⊎◌, inl, inr, ⊎_elim, ◌<◌, ◌≤◌, ◌+◌, ◌-◌, ◌++◌, ◌∷◌, [], ℕ, zero, suc, List, Option, length, get_or, take, drop, map, Some, None, slice_get, refl, sym, subst, ap, ◌∙◌, arith}
 use Rattle.std.specs.Prelude.{flat_map, replicate}
 use Rattle.std.specs.List.{enumerate_from, range_with_len}
 use Rattle.std.proofs.lemmas.Bool.{cases_lt}
@@ -24,7 +24,6 @@ use Rattle.pst_scen.specs.Scenarios.{AreInPreorder, HasLeavesFirst}
 use Rattle.pst_order.specs.Facts.{IsLinked}
 use Rattle.pst_graph.specs.Checked.{IsNextNode, HasNode, IsNextLeaf, AreLeavesTo, AreLeavesIn, AreInferred, IsStateLink, IsReferenceLinked, AreActsLinked, HasNoRivals}
 use Rattle.pst_graph.proofs.Climbs.{same_some}
-use Rattle.pst_graph.proofs.Grouped.{same_or_not}
 
 -- LOOPS
 

@@ -1,5 +1,5 @@
 -- Closure by one middle after another.
-use Rattle.std.proofs.Common.{◌≡◌, ◌↔◌, ◌⊎◌, inl, inr, ⊎_elim, ◌<◌, ◌≤◌, ◌+◌, ◌/◌, ◌++◌, ℕ, List, length, take, refl, sym, ap, subst, ◌∙◌, arith}
+use Rattle.std.proofs.Common.{◌≡◌, ⊎_elim, ◌<◌, ◌≤◌, ◌+◌, ◌/◌, ◌++◌, ℕ, List, length, take, refl, ap, subst, ◌∙◌, arith}
 use Rattle.std.proofs.Math.Seq.{take-append_seam}
 use Rattle.pst_scen.specs.Rows.{row_words}
 use Rattle.pst_graph.specs.Chains.{IsChain, Once, Chained}

@@ -1,5 +1,4 @@
 -- Refusals rule out that there is no reason.
-use Rattle.std.proofs.Common.{ℕ}
 use Rattle.pst_scen.specs.declared.scenario.Scenario.{Scenario}
 use Rattle.pst_scen.specs.Refusals.{IsUnrefused}
 use Rattle.pst_graph.specs.declared.planning.PlanEnd.{PlanEnd}

@@ -1,12 +1,10 @@
 -- The lowest bit of a word, and the bits of a row from one on.
-use Rattle.std.proofs.Common.{◌≡◌, ◌↔◌, ◌⊎◌, inl, inr, ⊎_elim, ◌<◌, ◌≤◌, ◌+◌, ◌*◌, ◌/◌, ◌%◌, ◌^◌, ◌-◌, ℕ, List, length, get_or, refl, sym, ap, subst, ◌∙◌, arith}
+use Rattle.std.proofs.Common.{◌≡◌, ◌↔◌, ⊎_elim, ◌<◌, ◌≤◌, ◌+◌, ◌*◌, ◌/◌, ◌%◌, ◌^◌, ◌-◌, ℕ, List, get_or, sym, ap, subst, ◌∙◌, arith}
 use Rattle.std.specs.Prelude.{IsBitSet, Option, None, Some, MatchOption}
 use Rattle.std.specs.Int.{bit_at, trailing_zeros, w64}
 use Rattle.std.proofs.lemmas.Bool.{cases_lt}
 use Rattle.std.proofs.lemmas.Nat.{shr-shr}
 use Rattle.std.proofs.lemmas.Nat.Bits.{bit_at_above, bit_at-trailing_zeros}
-use Rattle.pst_scen.specs.declared.rows.Rows.{Rows}
-use Rattle.pst_scen.specs.Rows.{row_words, Has}
 use Rattle.pst_graph.specs.Bits.{HasBit}
 use Rattle.pst_graph.specs.Next.{IsNextOf, IsLowest}
 use Rattle.pst_graph.proofs.Joins.{set_is_one}

@@ -1,5 +1,5 @@
 -- What pairs that are refused have to do with the order, the groups and the conflicts.
-use Rattle.std.proofs.Common.{◌≡◌, ◌≢◌, ◌↔◌, ◌⊎◌, inl, inr, ⊎_elim, ◌<◌, ◌≤◌, ◌+◌, ℕ, length, get_or, refl, sym, subst, arith}
+use Rattle.std.proofs.Common.{◌≡◌, ◌≢◌, ◌↔◌, ◌⊎◌, inl, inr, ⊎_elim, ◌<◌, ◌≤◌, ℕ, length, get_or, refl, sym, subst, arith}
 use Rattle.std.proofs.lemmas.Option.{slice_get_within}
 use Rattle.pst_scen.specs.declared.act.Flow.{Flow}
 use Rattle.pst_scen.specs.declared.act.Link.{Link}
@@ -9,11 +9,11 @@ use Rattle.pst_scen.specs.Order.{Together, Must}
 use Rattle.pst_scen.specs.Conflicts.{Clash, Resource, FirstWrites, SecondWrites, Conflict, Uses}
 use Rattle.pst_scen.specs.Rows.{Has}
 use Rattle.pst_scen.specs.Plan.{Entries}
-use Rattle.pst_scen.specs.Plans.{ClashesAlone, Contend, StandParallel, AreEntriesOf}
-use Rattle.pst_scen.specs.Refusals.{IsOnCycle, GroupClashes, Two, One, IsParallelOrdered, IsParallelClash}
+use Rattle.pst_scen.specs.Plans.{ClashesAlone, StandParallel, AreEntriesOf}
+use Rattle.pst_scen.specs.Refusals.{GroupClashes, Two, One, IsParallelClash}
 use Rattle.pst_order.specs.Facts.{IsLinked}
 use Rattle.pst_graph.proofs.Acted.{contend_clash}
-use Rattle.pst_graph.proofs.Grouped.{same_group, inside}
+use Rattle.pst_graph.proofs.Grouped.{same_group}
 
 refers_in : (s : Scenario) (a pool : ℕ) (flow : Flow) (to : Link) → Refers s a flow pool to → a < length s.actions
 refers_in s a pool flow to r = slice_get_within s.actions a r.act r.is_act

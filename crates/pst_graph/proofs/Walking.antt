@@ -1,5 +1,5 @@
 -- A walk along pairs, step by step.
-use Rattle.std.proofs.Common.{◌≡◌, ◌≢◌, ◌↔◌, ◌⊎◌, inl, inr, ⊎_elim, ◌<◌, ◌≤◌, ◌+◌, ◌*◌, ◌/◌, ◌%◌, ◌^◌, ◌-◌, min, ℕ, List, length, get_or, refl, sym, ap, subst, ◌∙◌, arith}
+use Rattle.std.proofs.Common.{◌≡◌, ◌↔◌, ◌⊎◌, inl, inr, ⊎_elim, ◌<◌, ◌≤◌, ◌+◌, ◌/◌, ◌^◌, ◌-◌, min, ℕ, List, length, get_or, refl, sym, ap, subst, ◌∙◌, arith}
 use Rattle.std.specs.Prelude.{IsBitSet, bit_and}
 use Rattle.std.specs.Int.{bit_at, bit_not, w64}
 use Rattle.std.specs.List.{sum_by}
@@ -14,7 +14,6 @@ use Rattle.pst_graph.specs.Bits.{HasBit, IsJoined, IsClosure}
 use Rattle.pst_graph.specs.Chains.{IsChain, Once, Chained}
 use Rattle.pst_graph.specs.Walks.{IsTakenOver, IsCovered, IsFinished, IsWalked, IsOpenPair, weight}
 use Rattle.pst_graph.proofs.Closes.{word_in}
-use Rattle.pst_graph.proofs.Grouped.{same_or_not}
 use Rattle.pst_graph.specs.Next.{IsNextOf}
 use Rattle.pst_graph.proofs.Joins.{set_is_one, joined_keeps, joined_adds, joined_only}
 

@@ -1,6 +1,6 @@
 -- What the checks of a scenario find. Only tests use them.
-use Rattle.std.specs.Prelude.{◌≡◌, ◌≢◌, ◌⊎◌, ◌≤◌, ◌<◌, ◌+◌, ℕ, suc, List, [], ◌∷◌, Option, Some, None, length, map, take, flat_map, slice_get}
-use Rattle.std.specs.List.{enumerate_from, range_with_len}
+use Rattle.std.specs.Prelude.{◌≡◌, ◌≢◌, ◌⊎◌, ◌≤◌, ◌<◌, ◌+◌, ℕ, suc, List, Option, Some, None, length, map, take, slice_get}
+use Rattle.std.specs.List.{range_with_len}
 use Rattle.pst_scen.specs.declared.tree.Node.{Node}
 use Rattle.pst_scen.specs.declared.tree.Fill.{Fill}
 use Rattle.pst_scen.specs.declared.tree.Fill.TheVariants.{Leaf}
@@ -12,7 +12,7 @@ use Rattle.pst_scen.specs.declared.act.Link.TheVariants as link
 use Rattle.pst_scen.specs.declared.scenario.Scenario.{Scenario}
 use Rattle.pst_scen.specs.Tree.{StandsUnder}
 use Rattle.pst_scen.specs.Flows.{IsAct}
-use Rattle.pst_scen.specs.Scenarios.{leaf_of, leaves_of}
+use Rattle.pst_scen.specs.Scenarios.{leaves_of}
 use Rattle.pst_order.specs.Facts.{IsOutput}
 
 abbrev pub IsParentEarlier : ℕ → Option ℕ → Type 0

@@ -54,7 +54,7 @@ fn entries_of(alloc: Global, scenario: &Scenario) -> Result<Plan, NoMemory>
     let groups = groups_of(alloc, scenario, count)?;
     let must = must_rows(alloc, scenario, &groups, count)?;
     let conflict = conflict_rows(alloc, scenario, count)?;
-    Ok(Plan::of_rows(groups, must, conflict))
+    Plan::of_rows_in(alloc, groups, must, conflict)
 }
 
 /// The first reason why the scenario has no plan.

@@ -35,6 +35,11 @@ widest_among groups (group ∷ more) = max (member_count groups group) (widest_a
 abbrev pub widest : List ℕ → ℕ
 widest groups = widest_among groups groups
 
+-- a table of as many counts as are asked for: how often each number stands in the list
+pub record AreCounts (groups : List ℕ) (size : ℕ) (counts : List ℕ) : Type 0 where
+  pub many : length counts ≡ size
+  pub each : (group : ℕ) → group < size → get_or counts group 0 ≡ member_count groups group
+
 -- both squares are of the actions that have a group
 pub record AreSized (groups : List ℕ) (must conflict : Rows) : Type 0 where
   pub must_size : must.size ≡ length groups

@@ -1,5 +1,5 @@
 -- What a scenario is: nodes in preorder, actions, links and first objects that belong together.
-use Rattle.std.specs.Prelude.{◌≡◌, ◌↔◌, ℕ, suc, ◌+◌, ◌<◌, ◌^◌, List, [], ◌∷◌, ◌++◌, ◌⊎◌, map, length, AllPairs, Contains, Option, Some, None, slice_get, flat_map, replicate}
+use Rattle.std.specs.Prelude.{◌≡◌, ◌↔◌, ℕ, suc, ◌<◌, ◌^◌, List, [], ◌∷◌, ◌++◌, ◌⊎◌, map, length, AllPairs, Contains, Option, Some, None, slice_get, flat_map, replicate}
 use Rattle.std.specs.List.{enumerate_from, range_with_len}
 use Rattle.std.specs.Option.{option_and_then}
 use Rattle.pst_scen.specs.declared.tree.Node.{Node}
@@ -11,7 +11,6 @@ use Rattle.pst_scen.specs.declared.act.Flow.{Flow}
 use Rattle.pst_scen.specs.declared.act.Flow.TheVariants.{BufferIn, BufferOut, StreamIn, StreamOut, StateIn, StateOut}
 use Rattle.pst_scen.specs.declared.act.Link.{Link}
 use Rattle.pst_scen.specs.declared.act.Link.TheVariants as link
-use Rattle.pst_scen.specs.declared.scenario.First.{First}
 use Rattle.pst_scen.specs.declared.scenario.Scenario.{Scenario}
 use Rattle.pst_scen.specs.Tree.{StandsUnder}
 use Rattle.pst_scen.specs.Conflicts.{Uses}

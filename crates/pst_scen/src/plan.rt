@@ -1,9 +1,11 @@
 //! Plans: the groups and the order of a scenario's actions, and their conflicts.
-ghost use Rattle.std.specs.Prelude.{◌≡◌, ◌≤◌, ◌<◌, ◌↔◌, ℕ, length, get_or, IsTrue};
+ghost use Rattle.std.specs.Prelude.{◌≡◌, ◌≤◌, ◌<◌, ◌↔◌, ◌^◌, ◌+◌, ◌≢◌, ℕ, length, get_or, IsTrue, IfOk};
 ghost use Rattle.pst_scen.specs.Rows.{IsSquare, Has};
-ghost use Rattle.pst_scen.specs.Plan.{AreNumbered, AreSized, member_count, widest};
+ghost use Rattle.pst_scen.specs.Plan.{AreNumbered, AreSized, AreCounts, member_count, widest};
 
 use crate::rows::Rows;
+use pst_base::NoMemory;
+use std::alloc::Global;
 use std::marker::Model;
 
 /// The groups of a scenario's actions, which action must end before which starts, and which can't
@@ -56,6 +58,56 @@ fn width_of(groups: &[u32]) -> usize
     width
 }
 
+/// Adds one to the group's count.
+fn count_one(counts: &mut Vec<u32>, group: u32)
+    requires group_in { group < length counts.old.items }
+    requires room { get_or counts.old.items group 0 + 1 < 2 ^ 32 }
+    ensures long { length counts.new.items ≡ length counts.old.items }
+    ensures here { get_or counts.new.items group 0 ≡ get_or counts.old.items group 0 + 1 }
+    ensures others { (m : ℕ) → m ≢ group → get_or counts.new.items m 0 ≡ get_or counts.old.items m 0 }
+{
+    counts[group as usize] += 1;
+}
+
+/// The number of members of each group, by the group's number.
+fn count_members(alloc: Global, groups: &[u32]) -> Result<Vec<u32>, NoMemory>
+    requires numbered { AreNumbered groups.now }
+    requires few { length groups.now < 2 ^ 32 }
+    ensures { IfOk result (λ counts. AreCounts groups.now (length groups.now) counts.items) }
+{
+    let mut counts = vec![in alloc; 0u32; groups.len()]?;
+    for group in groups {
+        count_one(&mut counts, *group);
+    }
+    Ok(counts)
+}
+
+/// The number of members of a group of the table.
+fn counted(groups: &[u32], counts: &[u32], group: u32) -> u32
+    requires counts { AreCounts groups.now (length groups.now) counts.now }
+    requires group_in { group < length groups.now }
+    ensures { result ≡ member_count groups.now group }
+{
+    counts[group as usize]
+}
+
+/// The number of members of the widest group, counted in one pass over the groups.
+fn counted_width(alloc: Global, groups: &[u32]) -> Result<u32, NoMemory>
+    requires numbered { AreNumbered groups.now }
+    requires few { length groups.now < 2 ^ 32 }
+    ensures { IfOk result (λ width. width ≡ widest groups.now) }
+{
+    let counts = count_members(alloc, groups)?;
+    let mut width = 0;
+    for group in groups {
+        let count = counted(groups, &counts, *group);
+        if width < count {
+            width = count;
+        }
+    }
+    Ok(width)
+}
+
 impl Plan {
     /// The plan with these groups and squares. A group's number is its least member. The widest
     /// group is counted here, in time that grows with the square of the number of actions.
@@ -71,6 +123,27 @@ impl Plan {
             conflict,
             width,
         }
+    }
+
+    /// The same plan, whose widest group is counted in time that grows with the number of actions,
+    /// by a table of as many counts.
+    pub fn of_rows_in(
+        alloc: Global,
+        groups: Vec<u32>,
+        must: Rows,
+        conflict: Rows,
+    ) -> Result<Plan, NoMemory>
+        requires numbered { AreNumbered groups.items }
+        requires sized { AreSized groups.items must conflict }
+        ensures { IfOk result (λ plan. plan ≡ record { groups = groups.items; must = must; conflict = conflict }) }
+    {
+        let width = counted_width(alloc, &groups)?;
+        Ok(Plan {
+            groups,
+            must,
+            conflict,
+            width,
+        })
     }
 
     /// The number of actions. The number of each group is its least member.

@@ -1,4 +1,4 @@
-use Rattle.std.proofs.Common.{◌≤◌, ◌+◌, sym, arith}
+use Rattle.std.proofs.Common.{◌+◌, sym, arith}
 use Rattle.pst_graph.proofs.Branches.{none_early}
 use Rattle.pst_graph.proofs.before.branch_number.Goals as goal
 

@@ -1,6 +1,6 @@
-use Rattle.std.proofs.Common.{◌<◌, ℕ, refl, sym, subst, arith}
+use Rattle.std.proofs.Common.{ℕ, refl, subst, arith}
 use Rattle.pst_scen.specs.Tree.{IsNearestSequence, branch_of}
-use Rattle.pst_graph.specs.Over.{LeavesOut, IsFree}
+use Rattle.pst_graph.specs.Over.{LeavesOut}
 use Rattle.pst_graph.proofs.Bits.{no_true}
 use Rattle.pst_graph.proofs.Climbs.{one_parent, child_read, parent_less}
 use Rattle.pst_graph.proofs.before.is_free.Goals as goal

@@ -1,4 +1,4 @@
-use Rattle.std.proofs.Common.{◌≡◌, ◌<◌, ◌≤◌, ◌+◌, ℕ, slice_get, Some, None, length}
+use Rattle.std.proofs.Common.{◌≡◌, ◌<◌, ℕ, slice_get, Some}
 use Rattle.pst_scen.specs.declared.act.Filled.{Filled}
 use Rattle.pst_graph.specs.Checked.{IsReferenceLinked}
 use Rattle.pst_graph.proofs.built.are_references_linked.Given as goal

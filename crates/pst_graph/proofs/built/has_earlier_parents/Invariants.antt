@@ -1,4 +1,4 @@
-use Rattle.std.proofs.Common.{◌≡◌, ◌<◌, ◌≤◌, ◌+◌, ℕ, slice_get, Some, None, length}
+use Rattle.std.proofs.Common.{◌≡◌, ◌<◌, ℕ, slice_get, Some}
 use Rattle.pst_scen.specs.declared.tree.Node.{Node}
 use Rattle.pst_graph.specs.Checked.{IsParentEarlier}
 use Rattle.pst_graph.proofs.built.has_earlier_parents.Given as goal

@@ -1,4 +1,4 @@
-use Rattle.std.proofs.Common.{◌≡◌, ◌<◌, ◌≤◌, ◌+◌, ℕ, slice_get, Some, None, length}
+use Rattle.std.proofs.Common.{◌≡◌, ◌<◌, ℕ, slice_get, Some}
 use Rattle.pst_scen.specs.declared.act.Act.{Act}
 use Rattle.pst_graph.specs.Checked.{HaveNoRivals}
 use Rattle.pst_graph.proofs.built.has_no_rivals.Given as goal

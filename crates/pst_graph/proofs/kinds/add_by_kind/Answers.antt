@@ -1,4 +1,4 @@
-use Rattle.std.proofs.Common.{◌<◌, ℕ, length, get_or, refl, arith}
+use Rattle.std.proofs.Common.{◌<◌, get_or, refl, arith}
 use Rattle.std.proofs.lemmas.Option.{slice_get-get_or, slice_get_within}
 use Rattle.pst_graph.proofs.UsesApart.{blank, copied_apart, apart_at}
 use Rattle.pst_graph.proofs.kinds.add_by_kind.Goals as goal

@@ -1,9 +1,5 @@
-use Rattle.std.proofs.Common.{◌≡◌, ◌<◌, ◌↔◌, ℕ, length, sym, subst, ◌∙◌}
 use Rattle.std.proofs.lemmas.Result.{IfOk-weaker}
 use Rattle.pst_scen.specs.declared.rows.Rows.{Rows}
-use Rattle.pst_scen.specs.Order.{Must}
-use Rattle.pst_scen.specs.Rows.{IsSquare, Has}
-use Rattle.pst_graph.specs.Chains.{IsChain}
 use Rattle.pst_graph.proofs.Chains.{must_square}
 use Rattle.pst_graph.proofs.must.must_rows.Goals as goal
 

@@ -1,4 +1,3 @@
-use Rattle.std.proofs.Common.{◌<◌, ◌^◌, arith}
 use Rattle.pst_graph.proofs.Nexts.{shifted_has}
 use Rattle.pst_graph.proofs.next.from_bit.Goals as goal
 

@@ -1,4 +1,4 @@
-use Rattle.std.proofs.Common.{◌+◌, ◌*◌, ◌/◌, ◌%◌, ◌<◌, ◌↔◌, ℕ, List, get_or, subst, sym}
+use Rattle.std.proofs.Common.{◌+◌, ◌*◌, ◌/◌, ◌%◌, ◌<◌, ◌↔◌, ℕ, List, get_or, subst}
 use Rattle.std.specs.Prelude.{IsBitSet}
 use Rattle.pst_scen.specs.Rows.{row_words}
 use Rattle.pst_graph.proofs.Nexts.{rest_has}

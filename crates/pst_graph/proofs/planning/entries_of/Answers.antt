@@ -1,14 +1,18 @@
 use Rattle.std.proofs.Common.{sym, subst}
+use Rattle.std.proofs.lemmas.Result.{IfOk-weaker}
 use Rattle.pst_scen.specs.Plan.{Entries}
 use Rattle.pst_scen.specs.Plans.{AreEntriesOf}
 use Rattle.pst_graph.proofs.Numbered.{are_numbered}
 use Rattle.pst_graph.proofs.planning.entries_of.Goals as goal
 
-pub of_rows-requires-clause-numbered : goal.of_rows-requires-clause-numbered
-of_rows-requires-clause-numbered c = let groups = c.in_ok-groups.ensures in are_numbered c.args.scenario.now c.in_ok-groups.groups.items groups.0 groups.1
+pub of_rows_in-requires-clause-numbered : goal.of_rows_in-requires-clause-numbered
+of_rows_in-requires-clause-numbered c = let groups = c.in_ok-groups.ensures in are_numbered c.args.scenario.now c.in_ok-groups.groups.items groups.0 groups.1
 
 pub returns : goal.returns
 returns c =
     let groups = c.in_ok-groups.ensures in
-    subst (λ (p : Entries). AreEntriesOf c.args.scenario.now p) (sym c.of_rows.ensures)
+    IfOk-weaker c.of_rows_in.result _ _ (
+    λ plan is.
+    subst (λ (p : Entries). AreEntriesOf c.args.scenario.now p) (sym is)
     (record { many = groups.0; group = groups.1; must = c.in_ok-must.ensures.2; conflict = c.in_ok-conflict.ensures.2 })
+    ) c.of_rows_in.ensures

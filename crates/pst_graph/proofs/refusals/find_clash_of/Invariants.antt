@@ -1,4 +1,4 @@
-use Rattle.std.proofs.Common.{◌<◌, ◌≤◌, ◌-◌, length}
+use Rattle.std.proofs.Common.{◌≤◌, ◌-◌, length}
 use Rattle.pst_scen.specs.Refusals.{GroupClashes}
 use Rattle.pst_graph.proofs.Least.{HoldsNowhereTo}
 use Rattle.pst_graph.proofs.refusals.find_clash_of.Given as goal

@@ -1,4 +1,4 @@
-use Rattle.std.proofs.Common.{◌≤◌, ℕ, arith}
+use Rattle.std.proofs.Common.{◌≤◌, arith}
 use Rattle.pst_graph.specs.Walks.{IsOpenPair}
 use Rattle.pst_graph.proofs.Nexts.{next_found, next_word}
 use Rattle.pst_graph.proofs.walk.next_open.Goals as goal

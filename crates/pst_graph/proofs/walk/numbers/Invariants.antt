@@ -1,4 +1,3 @@
-use Rattle.std.proofs.Common.{◌≡◌, length}
 use Rattle.pst_graph.specs.Walks.{AllBelow}
 use Rattle.pst_graph.proofs.walk.numbers.Given as goal
 

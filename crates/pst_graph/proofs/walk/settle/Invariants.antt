@@ -1,4 +1,4 @@
-use Rattle.std.proofs.Common.{◌≤◌, ◌<◌, ◌-◌, ℕ}
+use Rattle.std.proofs.Common.{◌<◌, ◌-◌, ℕ}
 use Rattle.pst_graph.specs.Bits.{HasBit}
 use Rattle.pst_graph.specs.Walks.{IsWalked}
 use Rattle.pst_graph.proofs.walk.settle.Given as goal

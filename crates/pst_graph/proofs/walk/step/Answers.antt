@@ -1,9 +1,7 @@
-use Rattle.std.proofs.Common.{◌≡◌, ◌≤◌, ◌<◌, ◌+◌, length, refl, sym, subst, ap, ◌∙◌, arith}
-use Rattle.std.specs.List.{sum_by}
+use Rattle.std.proofs.Common.{◌<◌, length, refl, ap, ◌∙◌, arith}
 use Rattle.std.proofs.Math.ListN.{set}
-use Rattle.std.proofs.lemmas.List.{length_push, length-set}
+use Rattle.std.proofs.lemmas.List.{length_push}
 use Rattle.pst_graph.specs.declared.walk.Stage.TheVariants.{Open}
-use Rattle.pst_graph.specs.Walks.{weight}
 use Rattle.pst_graph.proofs.Walking.{less_left, two_less_left}
 use Rattle.pst_graph.proofs.walk.step.Goals as goal
 

@@ -1,4 +1,4 @@
-use Rattle.std.proofs.Common.{◌≡◌, ◌*◌, ℕ, List, length, refl, sym, subst, ap, ◌∙◌, arith}
+use Rattle.std.proofs.Common.{◌≡◌, ℕ, List, length, refl, sym, subst, ap, ◌∙◌}
 use Rattle.pst_scen.specs.Rows.{row_words}
 use Rattle.pst_graph.specs.Bits.{IsClosure}
 use Rattle.pst_graph.proofs.Closes.{written}
