@@ -16,3 +16,5 @@ mod Steps
 mod Joining
 mod OneAnswer
 mod Pieces
+mod Numbered
+mod OwnTables

@@ -8,6 +8,7 @@ use Rattle.pst_base.specs.declared.position.Place.{Place}
 use Rattle.pst_token.specs.declared.kind.Kind.{Kind}
 use Rattle.pst_token.specs.declared.kind.Kind.TheVariants as kind
 use Rattle.pst_token.specs.declared.token.Token.{Token}
+use Rattle.pst_token.specs.Spelling.{spelling_of}
 use Rattle.pst_token.specs.Lexemes.{Lexeme, fixed, name, number, is_word_byte, is_word}
 use Rattle.pst_token.specs.Parts.{Part, blank, comment, lexeme, IsNarrow}
 use Rattle.pst_token.specs.Tokens.{IsTokenOf, AreTokensOf, lexemes_of, token_of}
@@ -144,6 +145,16 @@ name_bytes text is_last len begins =
     run_all : (run : List ℕ) → is_run run ≡ true → list_all is_word_byte run ≡ true
     run_all [] h = refl
     run_all (b ∷ run) h = h
+
+-- a reserved word or a mark is no name
+pub fixed_is_no_name : (text : List ℕ) (is_last : Bool) (len : ℕ) (k : Kind) → Begins text is_last len (lexeme (fixed k)) → k ≢ kind.Name
+fixed_is_no_name text is_last len k begins same =
+    let fits = next_fits (text ++ []) (lexeme (fixed k)) (begins.found [] (nothing is_last)) in
+    fits.stands.spells (ap spelling_of same)
+  where
+    nothing : (b : Bool) → MayFollow b []
+    nothing true = refl
+    nothing false = tt
 
 -- a value that fits reads back as it is
 pub number_value : (value : ℤ) (n : ℕ) → value ≡ pos n → n < 2 ^ 63 → to_z w64 (of_z w64 value) ≡ pos n

@@ -2,3 +2,4 @@ pub mod Fault
 pub mod Lexing
 pub mod Finding
 pub mod Scanning
+pub mod Numbering

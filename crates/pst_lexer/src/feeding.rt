@@ -4,6 +4,7 @@ ghost use Rattle.pst_token.specs.Tokens.{AreTokens};
 ghost use Rattle.pst_lexer.specs.declared.fault.LexFault.{LexFault};
 ghost use Rattle.pst_lexer.specs.Fault.{HasFault, AlwaysHasFault};
 ghost use Rattle.pst_lexer.specs.Lexing.{HasItsTexts, OnlyAdds};
+ghost use Rattle.pst_lexer.specs.Numbering.{StayNumbered};
 
 use crate::LexFault;
 use crate::scan::Scanner;
@@ -72,6 +73,7 @@ impl Lexer {
         ensures few { length self.new.tokens ≤ self.new.room }
         ensures names { OnlyAdds names.old names.new }
         ensures growth { length names.new + length self.old.tokens ≤ length names.old + length self.new.tokens + 1 }
+        ensures numbered { OnOk result (StayNumbered self.old.tokens (length names.old) self.new.tokens (length names.new)) }
     {
         if let Some(fault) = self.fault {
             return Err(fault);
@@ -96,6 +98,7 @@ impl Lexer {
         ensures again { IfSome self.fault (λ f. result ≡ Err f) }
         ensures names { OnlyAdds names.old names.new }
         ensures growth { length names.new + length self.tokens ≤ length names.old + self.room + 1 }
+        ensures numbered { IfOk result (λ tokens. StayNumbered self.tokens (length names.old) tokens.items (length names.new)) }
     {
         if let Some(fault) = self.fault {
             return Err(fault);

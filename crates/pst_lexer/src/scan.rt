@@ -6,6 +6,7 @@ ghost use Rattle.pst_token.specs.Lexemes.{is_word_byte};
 ghost use Rattle.pst_token.specs.Tokens.{AreTokens, token_of};
 ghost use Rattle.pst_lexer.specs.Fault.{HasFault};
 ghost use Rattle.pst_lexer.specs.Lexing.{OnlyAdds, IsTaken};
+ghost use Rattle.pst_lexer.specs.Numbering.{StayNumbered};
 ghost use Rattle.pst_lexer.specs.Scanning.{rest_of, IsScanning, IsSmall, Keeps, Stays, Passes, Adds, IsRefused, HasName, IsCertain};
 
 use crate::LexFault;
@@ -69,6 +70,7 @@ impl Scanner {
         ensures taken { IsTaken self.old.taken.items piece.now self.new.taken.items result }
         ensures names { OnlyAdds names.old names.new }
         ensures growth { length names.new + length self.old.tokens.items ≤ length names.old + length self.new.tokens.items + 1 }
+        ensures numbered { OnOk result (StayNumbered self.old.tokens.items (length names.old) self.new.tokens.items (length names.new)) }
         ensures fault { IfErr result (λ f. f ≢ LexFault.NoMemory → IsCertain false self.new f) }
     {
         self.taken.extend_from_slice(piece)?;
@@ -84,6 +86,7 @@ impl Scanner {
         ensures fault { IfErr result (λ f. f ≢ LexFault.NoMemory → HasFault self.file self.room self.taken.items f) }
         ensures names { OnlyAdds names.old names.new }
         ensures growth { length names.new + length self.tokens.items ≤ length names.old + self.room + 1 }
+        ensures numbered { IfOk result (λ tokens. StayNumbered self.tokens.items (length names.old) tokens.items (length names.new)) }
     {
         let mut scanner = self;
         scanner.scan(true, names)?;
@@ -100,6 +103,7 @@ impl Scanner {
         ensures scanning { IsScanning is_last names.new self.new }
         ensures names { OnlyAdds names.old names.new }
         ensures growth { length names.new + length self.old.tokens.items ≤ length names.old + length self.new.tokens.items + 1 }
+        ensures numbered { OnOk result (StayNumbered self.old.tokens.items (length names.old) self.new.tokens.items (length names.new)) }
         ensures fault { IfErr result (λ f. f ≢ LexFault.NoMemory → IsCertain is_last self.new f) }
         ensures done { OnOk result (is_last ≡ true → self.new.start ≡ length self.new.taken.items) }
     {
@@ -122,6 +126,7 @@ impl Scanner {
         ensures names { OnlyAdds names.old names.new }
         ensures few { OnOk result (length names.new + length self.old.tokens.items ≤ length names.old + length self.new.tokens.items) }
         ensures growth { length names.new + length self.old.tokens.items ≤ length names.old + length self.new.tokens.items + 1 }
+        ensures numbered { OnOk result (StayNumbered self.old.tokens.items (length names.old) self.new.tokens.items (length names.new)) }
         ensures fault { IfErr result (λ f. f ≢ LexFault.NoMemory → IsCertain is_last self.new f) }
         ensures further { IfOk result (λ further. MatchBool further (self.old.start < self.new.start) (is_last ≡ false)) }
     {
@@ -155,6 +160,7 @@ impl Scanner {
         ensures fault { IfErr result (IsRefused self.old) }
         ensures names { OnlyAdds names.old names.new }
         ensures one { length names.new ≤ length names.old + 1 }
+        ensures numbered { OnOk result (StayNumbered self.old.tokens.items (length names.old) self.new.tokens.items (length names.new)) }
     {
         if self.is_full() {
             return Err(LexFault::Many);

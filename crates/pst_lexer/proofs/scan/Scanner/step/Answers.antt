@@ -6,7 +6,8 @@ use Rattle.pst_token.specs.Parts.{Part, lexeme}
 use Rattle.pst_token.specs.Tokens.{token_of}
 use Rattle.pst_lexer.specs.Finding.{Begins, BeginsNone, IsGap}
 use Rattle.pst_lexer.proofs.Settling.{bad_here, wide_here}
-use Rattle.pst_lexer.proofs.Steps.{gap_scans, add_scans, name_scans, refused_certain, column_fits, name_bytes, number_value}
+use Rattle.pst_lexer.proofs.Numbered.{stay_added}
+use Rattle.pst_lexer.proofs.Steps.{gap_scans, add_scans, name_scans, refused_certain, fixed_is_no_name, column_fits, name_bytes, number_value}
 use Rattle.pst_lexer.proofs.scan.Scanner.step.Goals as goal
 
 pub pass-requires-clause-column : goal.pass-requires-clause-column
@@ -76,3 +77,12 @@ pub returns-in-Name-clause-fault : goal.returns-in-Name-clause-fault
 returns-in-Name-clause-fault c =
     refused_certain c.args.is_last c.args.names.now c.args.self.now c.add_name.new.self c.in-Name.len (name (take c.in-Name.len (drop c.args.self.now.start c.args.self.now.taken.items))) c.add_name.result c.requires.scanning
     (subst (λ rest. Begins rest c.args.is_last c.in-Name.len (lexeme (name (take c.in-Name.len rest)))) c.rest.ensures c.in-Name.ensures) tt c.add_name.ensures.err c.add_name.ensures.fault
+
+pub returns-in-Fixed-clause-numbered : goal.returns-in-Fixed-clause-numbered
+returns-in-Fixed-clause-numbered c =
+    stay_added c.add.result c.args.self.now c.add.new.self c.args.names.now c.in-Fixed.kind 0 c.in-Fixed.len _
+    (fixed_is_no_name c.rest.result.now c.args.is_last c.in-Fixed.len c.in-Fixed.kind c.in-Fixed.ensures) c.add.ensures.ok
+
+pub returns-in-Number-clause-numbered : goal.returns-in-Number-clause-numbered
+returns-in-Number-clause-numbered c =
+    stay_added c.add-in-Number.result c.args.self.now c.add-in-Number.new.self c.args.names.now kind.Number 0 c.in-Number.len _ (λ same. cc) c.add-in-Number.ensures.ok
