@@ -13,7 +13,7 @@ use Rattle.pst_parse_body.proofs.BodyNoEnd.{body_free}
 use Rattle.pst_parse_decl.proofs.Answering.{one_item, item_answers}
 use Rattle.pst_parse_decl.proofs.ComponentsAgain.{item_rereads, component_begins, enum_begins, function_begins}
 use Rattle.pst_parse_decl.proofs.ComponentsExplain.{item_explains}
-use Rattle.pst_parse_decl.proofs.Inner.{inner_activity_explains, inner_body_explains, inner_activity_rereads, inner_body_rereads}
+use Rattle.pst_parse_decl.proofs.InnerParts.{inner_activity_explains, inner_body_explains, inner_activity_rereads, inner_body_rereads}
 use Rattle.pst_parse_decl.proofs.NoEnd.{item_free}
 use Rattle.pst_parse_decl.proofs.ObjectsAgain.{object_begins, some_token, IsThere}
 use Rattle.pst_parse_decl.proofs.Taken.{taken_item}

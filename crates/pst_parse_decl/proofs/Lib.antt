@@ -23,5 +23,6 @@ pub mod Maybe
 pub mod Views
 pub mod Contents
 pub mod Unique
-pub mod Inner
+pub mod InnerParts
 pub mod Items
+pub mod Endings

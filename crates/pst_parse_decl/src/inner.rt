@@ -12,7 +12,7 @@ use pst_token::Token;
 use std::alloc::Global;
 
 /// An activity.
-#[tactic(auto, using(crate::proofs::Inner::activity_reads))]
+#[tactic(auto, using(crate::proofs::InnerParts::activity_reads))]
 pub fn activity(
     alloc: Global,
     tokens: &[Token],
@@ -26,7 +26,7 @@ pub fn activity(
 }
 
 /// A body.
-#[tactic(auto, using(crate::proofs::Inner::body_reads))]
+#[tactic(auto, using(crate::proofs::InnerParts::body_reads))]
 pub fn body(
     alloc: Global,
     tokens: &[Token],

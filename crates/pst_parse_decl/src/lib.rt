@@ -11,6 +11,8 @@ pub mod objects;
 mod parse;
 pub mod pools;
 #[cfg(test)]
+mod test_items;
+#[cfg(test)]
 mod tests;
 pub mod types;
 

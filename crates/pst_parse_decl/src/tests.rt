@@ -1,4 +1,5 @@
-ghost use Rattle.std.specs.Prelude.{◌≤◌};
+ghost use Rattle.std.specs.Prelude.{◌≡◌, ◌≤◌, IfOk};
+ghost use Rattle.pst_reading.specs.Ended.{IsEnded};
 
 use crate::enums::{enum_, function};
 use crate::members::{claim, field, members, reference};
@@ -10,7 +11,9 @@ use pst_token::{Kind, Token};
 use std::alloc::Global;
 use std::test::*;
 
-fn token(kind: Kind) -> Token {
+pub fn token(kind: Kind) -> Token
+    ensures { result.kind ≡ kind }
+{
     Token {
         kind,
         name: NameId(0),
@@ -24,7 +27,10 @@ fn token(kind: Kind) -> Token {
 }
 
 // Tokens of these kinds, and `End`.
-fn tokens_of(alloc: Global, kinds: &[Kind]) -> Result<Vec<Token>, NoMemory> {
+#[tactic(auto, using(crate::proofs::Endings::ended_push))]
+pub fn tokens_of(alloc: Global, kinds: &[Kind]) -> Result<Vec<Token>, NoMemory>
+    ensures { IfOk result (λ tokens. IsEnded tokens.items) }
+{
     let mut tokens = Vec::new(alloc);
     for kind in kinds {
         tokens.push(token(*kind))?;

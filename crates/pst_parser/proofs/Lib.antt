@@ -2,3 +2,4 @@ pub mod ItemsLoop
 pub mod UnitLaws
 pub mod OneEnd
 pub mod UnitAnswers
+pub mod Endings

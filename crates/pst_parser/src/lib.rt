@@ -2,6 +2,8 @@
 #![tactic(auto)]
 
 pub mod laws;
+#[cfg(test)]
+mod tests;
 mod units;
 
 pub use units::parse_unit;
