@@ -11,6 +11,8 @@ use Rattle.pst_token.specs.Tokens.{AreTokens, AreTokensOf, lexemes_after}
 use Rattle.pst_lexer.specs.declared.fault.LexFault.{LexFault}
 use Rattle.pst_lexer.specs.declared.fault.LexFault.TheVariants as fault
 use Rattle.pst_lexer.specs.Fault.{HasFault, HasTokens, AlwaysHasFault, token_count}
+use Rattle.pst_base.specs.Names.{AreDifferent}
+use Rattle.pst_lexer.specs.Numbering.{AreNumbered, StayNumbered, AreOwnTokens}
 use Rattle.pst_lexer.specs.Lexing.{Lexing, HasItsTexts}
 use Rattle.pstim.specs.Outcome.{most_bytes, most_tokens}
 use Rattle.pstim.specs.Feeding.{HasMet, IsFed, IsFedWhole}
@@ -48,6 +50,7 @@ fed_none names lexing none new texts = record {
   short = let same = ap (λ (l : Lexing). length l.taken) new in omega (arith, same);
   texts = texts;
   few = let same = ap (λ (l : Lexing). length l.tokens) new in omega (arith, same);
+  numbered = λ unfaulted. subst (λ (ts : List Token). AreNumbered 0 ts (length names)) (sym (ap (λ (l : Lexing). l.tokens) new)) (ap length none);
   grown = let same = ap length none in omega (arith, same);
 }
 
@@ -151,6 +154,13 @@ pub on_ok_from : {T E : Type 0} (P Q : Type 0) (r : Result T E) → (P → Q) �
 on_ok_from P Q (Ok t) f h = f h
 on_ok_from P Q (Err e) f h = tt
 
+-- names stay numbered as long as there is no fault
+numbered_more : {T : Type 0} (r : Result T LexFault) (before after : Option LexFault) (old new : List Token) (n m : ℕ)
+    → OnOk r (StayNumbered old n new m) → IfErr r (λ f. after ≡ Some f) → IfSome before (λ f. r ≡ Err f)
+    → (before ≡ None → AreNumbered 0 old n) → after ≡ None → AreNumbered 0 new m
+numbered_more (Ok t) before after old new n m stay faulted again so_far none = stay 0 (so_far (unfaulted before (Ok t) t refl again))
+numbered_more (Err f) before after old new n m stay faulted again so_far none = let both : Some f ≡ None = sym faulted ∙ none in absurd (cc)
+
 -- one more piece was fed
 pub fed_more : (names added : List (List ℕ)) (text piece : List ℕ) (old new : Lexing) (r : Result (Unit {0}) LexFault)
     → 1 ≤ length piece → r ≢ Err fault.NoMemory
@@ -162,8 +172,9 @@ pub fed_more : (names added : List (List ℕ)) (text piece : List ℕ) (old new 
     → IfSome old.fault (λ f. (r ≡ Err f) × (new ≡ old) × (added ≡ names))
     → HasItsTexts added new → length new.tokens ≤ new.room
     → length added + length old.tokens ≤ length names + length new.tokens + 1
+    → OnOk r (StayNumbered old.tokens (length names) new.tokens (length added))
     → IsFed names text old → IsFed added (text ++ piece) new
-fed_more names added text piece old new r some other file room ok taken err certain again texts few growth fed =
+fed_more names added text piece old new r some other file room ok taken err certain again texts few growth numbered fed =
     let longer = length-append text piece in
     let grown = fed.grown in
     record {
@@ -176,6 +187,7 @@ fed_more names added text piece old new r some other file room ok taken err cert
       short = by_taken taken;
       texts = texts;
       few = subst (λ n. length new.tokens ≤ n) (room ∙ fed.room) few;
+      numbered = numbered_more r old.fault new.fault old.tokens new.tokens (length names) (length added) numbered err (only old.fault again) fed.numbered;
       grown = omega (arith, longer, grown, growth, some);
     }
   where
@@ -191,8 +203,9 @@ fed_more names added text piece old new r some other file room ok taken err cert
 pub lexed : {T : Type 0} (names added : List (List ℕ)) (text : List ℕ) (lexing : Lexing) (tokens : List Token) (r : Result T LexFault) (t : T)
     → r ≡ Ok t → IfSome lexing.fault (λ f. r ≡ Err f)
     → AreTokens lexing.file added lexing.taken tokens → length tokens ≤ lexing.room + 1
-    → IsFed names text lexing → (length tokens ≤ most_tokens + 1) × AreTokens 0 added text tokens × HasTokens most_tokens text
-lexed names added text lexing tokens r t is again are few fed =
+    → AreDifferent added → StayNumbered lexing.tokens (length names) tokens (length added)
+    → IsFed names text lexing → (length tokens ≤ most_tokens + 1) × AreOwnTokens 0 text added tokens × HasTokens most_tokens text
+lexed names added text lexing tokens r t is again are few different stay fed =
     let none = unfaulted lexing.fault r t is again in
     let taken : lexing.taken ≡ text = subst (HasMet 0 most_tokens text lexing.taken) none fed.met in
     let now : AreTokens 0 added text tokens = subst (λ bytes. AreTokens 0 added bytes tokens) taken (subst (λ file. AreTokens file added lexing.taken tokens) fed.file are) in

@@ -1,5 +1,4 @@
-mod Shapes
-mod Grammar
+mod Sources
 mod Lines
 mod Fed
 mod Turns

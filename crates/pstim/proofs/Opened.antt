@@ -52,7 +52,7 @@ is_too_large files file rest is_open long = λ f told.
 pub found_open : (files : Option Files) (before now : ℕ) (file : List ℕ) (rest : Option (List ℕ)) (names fed : List (List ℕ)) (lexing : Lexing) (found : Loaded)
     → IsOpen files file rest → now ≡ before → (whole : IsFedWhole rest fed lexing) → Lexes names whole.text found → Finds files before now file names found
 found_open files before now file rest names fed lexing (loaded.Lexed tokens) is_open count whole lexes =
-    (count, record { text = whole.text; file_is = is_small files file rest whole.text is_open whole.all whole.small; are = lexes.1; few = lexes.2 })
+    (count, record { text = whole.text; file_is = is_small files file rest whole.text is_open whole.all whole.small; own = lexes.1; few = lexes.2 })
 found_open files before now file rest names fed lexing loaded.Missing is_open count whole lexes = absurd lexes
 found_open files before now file rest names fed lexing loaded.Unread is_open count whole lexes = absurd lexes
 found_open files before now file rest names fed lexing loaded.TooLarge is_open count whole lexes = absurd lexes

@@ -1,7 +1,7 @@
 -- How far a lexer was fed with a file.
 use Rattle.std.specs.Prelude.{◌≡◌, ◌≢◌, ℕ, ◌+◌, ◌≤◌, List, length, Option, None, Some}
 use Rattle.std.specs.Option.{ForSome}
-use Rattle.pst_token.specs.Tokens.{AreTokens}
+use Rattle.pst_lexer.specs.Numbering.{AreNumbered, AreOwnTokens}
 use Rattle.pst_lexer.specs.declared.fault.LexFault.{LexFault}
 use Rattle.pst_lexer.specs.declared.fault.LexFault.TheVariants as fault
 use Rattle.pst_lexer.specs.Fault.{HasFault, HasTokens, AlwaysHasFault}
@@ -23,6 +23,7 @@ pub record IsFed (names : List (List ℕ)) (text : List ℕ) (lexing : Lexing) :
   pub short : length lexing.taken ≤ length text
   pub texts : HasItsTexts names lexing
   pub few : length lexing.tokens ≤ most_tokens
+  pub numbered : lexing.fault ≡ None → AreNumbered 0 lexing.tokens (length names)
   pub grown : length names ≤ length lexing.tokens + length text
 
 -- the lexer was fed with all that was left of the file, which isn't too large
@@ -34,7 +35,7 @@ pub record IsFedWhole (left : Option (List ℕ)) (names : List (List ℕ)) (lexi
 
 -- the text has these tokens, or this fault
 abbrev pub Lexes : List (List ℕ) → List ℕ → Loaded → Type 0
-Lexes names text (Lexed tokens) = (length tokens.items ≤ most_tokens + 1) × AreTokens 0 names text tokens.items × HasTokens most_tokens text
+Lexes names text (Lexed tokens) = (length tokens.items ≤ most_tokens + 1) × AreOwnTokens 0 text names tokens.items × HasTokens most_tokens text
 Lexes names text TooMany = HasFault 0 most_tokens text fault.Many
 Lexes names text (Faulty wide place) = HasFault 0 most_tokens text (lexical_fault wide place)
 Lexes names text _ = ⊥

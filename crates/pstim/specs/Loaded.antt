@@ -4,7 +4,7 @@ use Rattle.std.specs.Option.{ForSome}
 use Rattle.pst_base.specs.Fault.{HasRisen}
 use Rattle.pst_io.specs.Shelf.{Files}
 use Rattle.pst_token.specs.declared.token.Token.{Token}
-use Rattle.pst_token.specs.Tokens.{AreTokens}
+use Rattle.pst_lexer.specs.Numbering.{AreOwnTokens}
 use Rattle.pst_lexer.specs.declared.fault.LexFault.TheVariants as fault
 use Rattle.pst_lexer.specs.Fault.{HasTokens}
 use Rattle.pstim.specs.declared.loading.Loaded.{Loaded}
@@ -15,7 +15,7 @@ use Rattle.pstim.specs.Outcome.{IsSmall, IsTooLarge, HasLexicalFault, lexical_fa
 pub record HasLexed (files : Option Files) (file : List ℕ) (names : List (List ℕ)) (tokens : List Token) : Type 0 where
   pub text : List ℕ
   pub file_is : ForSome files (λ f. IsSmall f file text)
-  pub are : AreTokens 0 names text tokens
+  pub own : AreOwnTokens 0 text names tokens
   pub few : HasTokens most_tokens text
 
 -- what was found is right for the files where they are told, the shelf's count of faults before and now, and the table of names
@@ -33,5 +33,5 @@ IsOpen files file rest = ForSome files (λ f. (bytes : List ℕ) × (f file ≡ 
 
 -- there are few tokens, and they are those of some text
 abbrev pub IsReadable : List (List ℕ) → Loaded → Type 0
-IsReadable names (Lexed tokens) = (length tokens.items ≤ most_tokens + 1) × ((text : List ℕ) × AreTokens 0 names text tokens.items)
+IsReadable names (Lexed tokens) = (length tokens.items ≤ most_tokens + 1) × ((text : List ℕ) × AreOwnTokens 0 text names tokens.items)
 IsReadable names _ = Unit {0}

@@ -13,13 +13,15 @@ use Rattle.pst_scen.specs.declared.event.Event.{Event}
 use Rattle.pst_scen.specs.Trace.{IsLegalTrace, IsWhole}
 use Rattle.pst_scen.specs.Core.{Core, commands_of}
 use Rattle.pstim.specs.declared.answer.Answer.{Answer}
-use Rattle.pstim.specs.declared.answer.Answer.TheVariants.{Done, NoFile, ReadFault, Large, Lexical, WriteFault, NoMemory, Unbuilt}
+use Rattle.pstim.specs.declared.answer.Answer.TheVariants.{Done, NoFile, ReadFault, Large, Lexical, Syntax, WriteFault, NoMemory, Unbuilt}
 use Rattle.pstim.specs.declared.answer.What.{What}
 use Rattle.pstim.specs.declared.answer.What.TheVariants.{Bytes, Trace, Tokens, Instances}
 use Rattle.pstim.specs.Words.{IsLine}
 use Rattle.pstim.specs.declared.parsing.Declaration.{Declaration}
 use Rattle.pstim.specs.Straight.{IsStraight, names_of}
-use Rattle.pstim.specs.Texts.{trace_text, no_file_text, read_fault_text, large_text, lexical_text, unbuilt_text}
+use Rattle.pst_ast.specs.DeclarationTree.{UnitTree}
+use Rattle.pstim.specs.Source.{HasUnit, HasSyntaxFault}
+use Rattle.pstim.specs.Texts.{trace_text, no_file_text, read_fault_text, large_text, lexical_text, syntax_text, unbuilt_text}
 
 -- the most bytes of a file
 abbrev pub most_bytes : ℕ
@@ -82,10 +84,19 @@ abbrev pub lexical_fault : Bool → Place → LexFault
 lexical_fault true place = fault.Wide place
 lexical_fault false place = fault.Bad place
 
--- the file isn't of the straight form, or doesn't have the root
+-- the file is a list of tokens that has this fault
+pub record IsSyntaxFaulty (files : Files) (file : List ℕ) (deep : Bool) (place : Place) : Type 0 where
+  pub bytes : List ℕ
+  pub source : IsSource files file bytes
+  pub has : HasSyntaxFault bytes deep place
+
+-- the file is a unit, and isn't of the straight form, or doesn't have the root
 pub record IsOtherForm (files : Files) (root file : List ℕ) : Type 0 where
   pub bytes : List ℕ
   pub source : IsSource files file bytes
+  pub names : List (List ℕ)
+  pub unit : UnitTree
+  pub parsed : HasUnit bytes names unit
   pub other : (actions : List Declaration) (s : Scenario) → IsStraight bytes root actions s → ⊥
 
 -- why a line or a file isn't served yet
@@ -133,6 +144,14 @@ pub record IsLexical (words : List (List ℕ)) (files : Option Files) (wide : Bo
   pub has : ForSome files (λ f. HasLexicalFault f file (lexical_fault wide place))
   pub text_is : text ≡ lexical_text file wide place
 
+-- the file is no unit
+pub record IsSyntax (words : List (List ℕ)) (files : Option Files) (deep : Bool) (place : Place) (text : List ℕ) : Type 0 where
+  pub root : List ℕ
+  pub file : List ℕ
+  pub line : IsLine words root file
+  pub has : ForSome files (λ f. IsSyntaxFaulty f file deep place)
+  pub text_is : text ≡ syntax_text file deep place
+
 -- Before anything is written: this answer and its text are right for the words, the files where they are told, and the shelf's
 -- count of faults before and now. An answer that only writing or memory gives is never right then.
 abbrev pub IsOwed : List (List ℕ) → Option Files → ℕ → ℕ → Answer → List ℕ → Type 0
@@ -141,6 +160,7 @@ IsOwed words files before now (NoFile word) text = (now ≡ before) × IsMissing
 IsOwed words files before now (ReadFault word) text = HasRisen before now × IsUnread words word text
 IsOwed words files before now (Large what number) text = (now ≡ before) × IsLarge words files what number text
 IsOwed words files before now (Lexical wide place) text = (now ≡ before) × IsLexical words files wide place text
+IsOwed words files before now (Syntax deep place) text = (now ≡ before) × IsSyntax words files deep place text
 IsOwed words files before now Unbuilt text = (now ≡ before) × IsUnbuilt words files × (text ≡ unbuilt_text)
 IsOwed words files before now WriteFault text = ⊥
 IsOwed words files before now NoMemory text = ⊥
@@ -181,6 +201,7 @@ Answers words files before now w (NoFile word) = HasAnswered words files before 
 Answers words files before now w (ReadFault word) = HasAnswered words files before now w (ReadFault word)
 Answers words files before now w (Large what number) = HasAnswered words files before now w (Large what number)
 Answers words files before now w (Lexical wide place) = HasAnswered words files before now w (Lexical wide place)
+Answers words files before now w (Syntax deep place) = HasAnswered words files before now w (Syntax deep place)
 Answers words files before now w Unbuilt = HasAnswered words files before now w Unbuilt
 Answers words files before now w WriteFault = HasBroken words files before now w
 Answers words files before now w NoMemory = HasGivenUp w
@@ -196,3 +217,4 @@ AnswersNoLane w (NoFile word) = ⊥
 AnswersNoLane w (ReadFault word) = ⊥
 AnswersNoLane w (Large what number) = ⊥
 AnswersNoLane w (Lexical wide place) = ⊥
+AnswersNoLane w (Syntax deep place) = ⊥

@@ -1,50 +1,72 @@
--- Sources of the straight form, and the tokens that spell them.
-use Rattle.std.specs.Prelude.{◌≡◌, ℕ, List, [], ◌∷◌, ◌++◌, map, get_or, Bool, true, false, if◌then◌else◌, Option, None, Some, codes}
-use Rattle.std.specs.List.{flat_map}
-use Rattle.pst_token.specs.declared.kind.Kind.{Kind}
-use Rattle.pst_token.specs.declared.kind.Kind.TheVariants.{Component, Action, Activity, Do, LeftBrace, RightBrace, Semicolon, End}
-use Rattle.pst_token.specs.declared.kind.Kind.TheVariants as kind
+-- Sources of the straight form: component pss_top { .. } with actions alone, each with one activity or none, that performs actions in order.
+use Rattle.std.specs.Prelude.{◌≡◌, ℕ, Bool, true, false, List, [], ◌∷◌, get_or, slice_get, Option, None, Some, codes}
+use Rattle.std.specs.List.{AllZip}
+use Rattle.pst_base.specs.declared.position.Place.{Place}
 use Rattle.pst_token.specs.declared.token.Token.{Token}
-use Rattle.pst_token.specs.Tokens.{AreTokens}
+use Rattle.pst_lexer.specs.Numbering.{AreOwnTokens}
+use Rattle.pst_ast.specs.Answers.{IsWhole, IsFault}
+use Rattle.pst_ast.specs.Rule.{TheUnit}
+use Rattle.pst_ast.specs.ActivityTree.{ActivityTree, MakeActivity, StatementTree, StatementPlain, CoreTree, CoreDo, WithNothing}
+use Rattle.pst_ast.specs.DeclarationTree.{ActionPartTree, ActionPartActivity, ActionTree, MakeAction, ComponentPartTree, ComponentPartAction, ComponentTree, MakeComponent, ItemTree, ItemComponent, UnitTree, MakeUnit}
+use Rattle.pst_ast.specs.declared.fault.SyntaxFault.{SyntaxFault}
+use Rattle.pst_ast.specs.declared.fault.SyntaxFault.TheVariants as the_fault
+use Rattle.pst_ast.specs.declared.leaf.Name.{Name}
 use Rattle.pstim.specs.declared.parsing.Declaration.{Declaration}
 
--- what a token is, wherever it stands: a name with its text, or a token of another kind
-pub data Shape : Type 0 where
-  named : List ℕ → Shape
-  of_kind : Kind → Shape
-
-abbrev pub is_name : Kind → Bool
-is_name kind.Name = true
-is_name _ = false
-
--- a name's text stands in the table under its number
-abbrev pub shape_of : List (List ℕ) → Token → Shape
-shape_of names token = if is_name token.kind then named (get_or names token.name.0 []) else of_kind token.kind
-
-abbrev pub shapes_of : List (List ℕ) → List Token → List Shape
-shapes_of names tokens = map (shape_of names) tokens
+-- the text of a name in a table of names
+abbrev pub text_of : List (List ℕ) → Name → List ℕ
+text_of names name = get_or names name.id.0 []
 
 -- do NAME ;
-abbrev pub do_of : List ℕ → List Shape
-do_of name = of_kind Do ∷ named name ∷ of_kind Semicolon ∷ []
+abbrev pub IsDo : List (List ℕ) → StatementTree → List ℕ → Type 0
+IsDo names (StatementPlain (CoreDo do_place action (WithNothing semicolon_place))) name = (action.second ≡ None) × (name ≡ text_of names action.first)
+IsDo names _ name = ⊥
 
--- activity { .. }, or nothing
-abbrev pub activity_of : Option (List (List ℕ)) → List Shape
-activity_of None = []
-activity_of (Some names) = of_kind Activity ∷ of_kind LeftBrace ∷ (flat_map do_of names ++ of_kind RightBrace ∷ [])
+-- activity { .. }, which performs actions of these names in order
+abbrev pub Performs : List (List ℕ) → ActivityTree → List (List ℕ) → Type 0
+Performs names (MakeActivity activity_place left_brace_place statements right_brace_place) performed = AllZip (IsDo names) statements performed
+
+-- what stands in an action: nothing, or one activity
+abbrev pub HasParts : List (List ℕ) → List ActionPartTree → Option (List (List ℕ)) → Type 0
+HasParts names [] None = Unit {0}
+HasParts names (ActionPartActivity activity ∷ []) (Some performed) = Performs names activity performed
+HasParts names _ _ = ⊥
 
 -- action NAME { .. }
-abbrev pub action_of : Declaration → List Shape
-action_of declaration = of_kind Action ∷ named declaration.name ∷ of_kind LeftBrace ∷ (activity_of declaration.activity ++ of_kind RightBrace ∷ [])
+abbrev pub Declares : List (List ℕ) → ComponentPartTree → Declaration → Type 0
+Declares names (ComponentPartAction (MakeAction abstract_place action_place name base left_brace_place parts right_brace_place)) declaration =
+    (abstract_place ≡ None) × (base ≡ None) × (declaration.name ≡ text_of names name) × HasParts names parts declaration.activity
+Declares names _ declaration = ⊥
 
--- component pss_top { .. }, and the end
-abbrev pub source_of : List Declaration → List Shape
-source_of actions =
-    of_kind Component ∷ named (codes "pss_top") ∷ of_kind LeftBrace ∷ (flat_map action_of actions ++ of_kind RightBrace ∷ of_kind End ∷ [])
+-- component pss_top { .. }
+abbrev pub IsTop : List (List ℕ) → ItemTree → List Declaration → Type 0
+IsTop names (ItemComponent (MakeComponent component_place name left_brace_place parts right_brace_place)) actions =
+    (text_of names name ≡ codes "pss_top") × AllZip (Declares names) parts actions
+IsTop names _ actions = ⊥
 
--- the tokens of the text, in some table of names, spell these actions
-pub record Spells (text : List ℕ) (actions : List Declaration) : Type 0 where
+-- a unit with this component alone
+abbrev pub IsStraightUnit : List (List ℕ) → UnitTree → List Declaration → Type 0
+IsStraightUnit names (MakeUnit (item ∷ []) finish) actions = IsTop names item actions
+IsStraightUnit names _ actions = ⊥
+
+-- the text's own table of names, and its unit
+pub record HasUnit (text : List ℕ) (names : List (List ℕ)) (unit : UnitTree) : Type 0 where
+  pub tokens : List Token
+  pub own : AreOwnTokens 0 text names tokens
+  pub whole : IsWhole tokens unit
+
+-- a token that breaks a limit, or an unexpected one
+abbrev pub syntax_fault : Bool → ℕ → SyntaxFault
+syntax_fault true index = the_fault.Deep index
+syntax_fault false index = the_fault.At index
+
+-- the text has tokens and no unit, and the fault is at the token at this place
+pub record HasSyntaxFault (text : List ℕ) (deep : Bool) (place : Place) : Type 0 where
   pub names : List (List ℕ)
   pub tokens : List Token
-  pub are : AreTokens 0 names text tokens
-  pub spelled : shapes_of names tokens ≡ source_of actions
+  pub own : AreOwnTokens 0 text names tokens
+  pub index : ℕ
+  pub fault : IsFault TheUnit tokens 0 0 (syntax_fault deep index)
+  pub token : Token
+  pub there : slice_get tokens index ≡ Some token
+  pub at : place ≡ token.place

@@ -1,11 +1,12 @@
 -- The exit status of each answer.
 use Rattle.std.specs.Prelude.{ℕ}
 use Rattle.pstim.specs.declared.answer.Answer.{Answer}
-use Rattle.pstim.specs.declared.answer.Answer.TheVariants.{Done, NoFile, ReadFault, Large, Lexical, WriteFault, NoMemory, Unbuilt}
+use Rattle.pstim.specs.declared.answer.Answer.TheVariants.{Done, NoFile, ReadFault, Large, Lexical, Syntax, WriteFault, NoMemory, Unbuilt}
 
 abbrev pub status_of : Answer → ℕ
 status_of (Done actions) = 0
 status_of (Lexical wide place) = 1
+status_of (Syntax deep place) = 1
 status_of (NoFile word) = 2
 status_of (ReadFault word) = 6
 status_of WriteFault = 7

@@ -6,7 +6,8 @@ use Rattle.pst_scen.specs.declared.tree.Fill.TheVariants.{Compound, Leaf}
 use Rattle.pst_scen.specs.declared.act.Act.{Act}
 use Rattle.pst_scen.specs.declared.scenario.Scenario.{Scenario}
 use Rattle.pstim.specs.declared.parsing.Declaration.{Declaration}
-use Rattle.pstim.specs.Source.{Spells}
+use Rattle.pst_ast.specs.DeclarationTree.{UnitTree}
+use Rattle.pstim.specs.Source.{HasUnit, IsStraightUnit}
 
 -- the name of each action type, by number
 abbrev pub names_of : List Declaration → List (List ℕ)
@@ -96,5 +97,8 @@ pub record HasScenario (actions : List Declaration) (root : List ℕ) (s : Scena
 
 -- The text is of the straight form, these are its actions, and this is the scenario of the root.
 pub record IsStraight (text root : List ℕ) (actions : List Declaration) (s : Scenario) : Type 0 where
-  pub source : Spells text actions
+  pub names : List (List ℕ)
+  pub unit : UnitTree
+  pub parsed : HasUnit text names unit
+  pub straight : IsStraightUnit names unit actions
   pub has : HasScenario actions root s

@@ -99,5 +99,8 @@ place_text file place = file ++ codes ":" ++ decimal place.line ++ codes ":" ++ 
 abbrev pub lexical_text : List ℕ → Bool → Place → List ℕ
 lexical_text file wide place = line (codes "lexical " ++ (if wide then codes "wide" else codes "bad") ++ codes " " ++ place_text file place)
 
+abbrev pub syntax_text : List ℕ → Bool → Place → List ℕ
+syntax_text file deep place = line (codes "syntax " ++ (if deep then codes "deep " else []) ++ place_text file place)
+
 abbrev pub unbuilt_text : List ℕ
 unbuilt_text = line (codes "unbuilt")

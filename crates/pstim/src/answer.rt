@@ -50,6 +50,14 @@ pub enum Answer {
         /// The place of the first fault.
         place: Place,
     },
+    /// The file is a list of tokens, and no unit of the grammar within its limits.
+    Syntax {
+        /// Whether the token at the place is the first that breaks a limit; else no unit begins with
+        /// the tokens up to it and with it.
+        deep: bool,
+        /// The place of the token.
+        place: Place,
+    },
     /// The sink's count of faults rose; a part of the text of another answer was written.
     WriteFault,
     /// Memory ran out; nothing was written.
@@ -65,7 +73,7 @@ impl Answer {
     {
         match self {
             Answer::Done { .. } => 0,
-            Answer::Lexical { .. } => 1,
+            Answer::Lexical { .. } | Answer::Syntax { .. } => 1,
             Answer::NoFile { .. } => 2,
             Answer::ReadFault { .. } => 6,
             Answer::WriteFault => 7,

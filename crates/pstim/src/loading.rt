@@ -140,7 +140,10 @@ fn finish(lexer: Lexer, names: &mut Names) -> Result<Loaded, NoMemory>
     ensures { IfOk result (λ loaded. (text : List ℕ) → IsFed names.old text lexer → Lexes names.new text loaded) }
 {
     match lexer.finish(names) {
-        Ok(tokens) => Ok(Loaded::Lexed(tokens)),
+        Ok(tokens) => {
+            let _different = names.len();
+            Ok(Loaded::Lexed(tokens))
+        }
         Err(LexFault::Bad(place)) => Ok(Loaded::Faulty { wide: false, place }),
         Err(LexFault::Wide(place)) => Ok(Loaded::Faulty { wide: true, place }),
         Err(LexFault::Many) => Ok(Loaded::TooMany),

@@ -3,7 +3,6 @@
 #![tactic(auto)]
 
 mod answer;
-mod cursor;
 mod laws;
 mod loading;
 mod parsing;

@@ -1,7 +1,7 @@
 //! The texts that the program prints.
 ghost use Rattle.std.specs.Prelude.{◌≡◌, ◌++◌, ◌<◌, ◌^◌, [], get_or, length, false, codes, string_bytes, IfOk, OnOk};
 ghost use Rattle.pstim.specs.Straight.{names_of};
-ghost use Rattle.pstim.specs.Texts.{compound_line, compound_text, compound_lines, count_lines, action_line, action_lines, event_lines, event_text, goes_on, header, trace_text as trace_text_of, no_file_text as no_file_text_of, read_fault_text as read_fault_text_of, what_text as what_text_of, large_text as large_text_of, lexical_text as lexical_text_of, unbuilt_text as unbuilt_text_of};
+ghost use Rattle.pstim.specs.Texts.{compound_line, compound_text, compound_lines, count_lines, action_line, action_lines, event_lines, event_text, goes_on, header, trace_text as trace_text_of, no_file_text as no_file_text_of, read_fault_text as read_fault_text_of, what_text as what_text_of, large_text as large_text_of, lexical_text as lexical_text_of, syntax_text as syntax_text_of, unbuilt_text as unbuilt_text_of};
 
 use crate::answer::What;
 use crate::parsing::Declaration;
@@ -173,6 +173,15 @@ pub fn lexical_text(alloc: Global, file: &str, wide: bool, place: Place) -> Resu
     let sort = if wide { "wide" } else { "bad" };
     let (line, column) = (place.line, place.column);
     Ok(format!(in alloc; "lexical {sort} {file}:{line}:{column}\n")?)
+}
+
+/// `syntax NAME:LINE:COLUMN`, or `syntax deep` in its place.
+pub fn syntax_text(alloc: Global, file: &str, deep: bool, place: Place) -> Result<String, NoMemory>
+    ensures { IfOk result (λ text. string_bytes text ≡ syntax_text_of file.now deep place) }
+{
+    let sort = if deep { "deep " } else { "" };
+    let (line, column) = (place.line, place.column);
+    Ok(format!(in alloc; "syntax {sort}{file}:{line}:{column}\n")?)
 }
 
 /// `unbuilt`.

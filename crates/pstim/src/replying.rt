@@ -1,29 +1,35 @@
 //! Making the reply to a line of words.
 ghost use Rattle.std.specs.Prelude.{◌≡◌, ◌+◌, ◌≤◌, List, ℕ, length, map, string_bytes, IfOk, MatchOption, ◌⊎◌};
-ghost use Rattle.pst_token.specs.Tokens.{AreTokens};
+ghost use Rattle.pst_ast.specs.DeclarationView.{view_unit};
+ghost use Rattle.pst_lexer.specs.Numbering.{AreOwnTokens};
 ghost use Rattle.pst_scen.specs.declared.scenario.Scenario.{Scenario as AnyScenario};
 ghost use Rattle.pstim.specs.declared.parsing.Declaration.{Declaration as AnyDeclaration};
+ghost use Rattle.pstim.specs.Source.{HasUnit, IsStraightUnit};
 ghost use Rattle.pstim.specs.Straight.{IsStraight};
-ghost use Rattle.pstim.specs.Texts.{large_text as large_text_of, lexical_text as lexical_text_of, unbuilt_text as unbuilt_text_of};
+ghost use Rattle.pstim.specs.Texts.{large_text as large_text_of, lexical_text as lexical_text_of, syntax_text as syntax_text_of, unbuilt_text as unbuilt_text_of};
 ghost use Rattle.pstim.specs.Outcome.{IsOwed, most_tokens};
-ghost use Rattle.pstim.specs.Replies.{RepliesRun, RefusesOther, RepliesTo, Says};
+ghost use Rattle.pstim.specs.Replies.{RepliesRun, RefusesOther, RepliesSource, RepliesTo, Says};
 ghost use Rattle.pstim.specs.Loaded.{IsReadable};
 ghost use Rattle.pstim.specs.Words.{IsLine};
 
 use crate::answer::{Answer, What};
-use crate::cursor::Cursor;
 use crate::loading::{Loaded, MOST_BYTES, MOST_TOKENS, load};
 use crate::printing::{
-    large_text, lexical_text, no_file_text, read_fault_text, trace_text, unbuilt_text,
+    large_text, lexical_text, no_file_text, read_fault_text, syntax_text, trace_text, unbuilt_text,
 };
 use crate::running::{plan_unrefused, run_alone};
-use crate::source::parse;
+use crate::source::actions_of;
 use crate::straight::find_scenario;
 use crate::words::{Line, line_of};
+use pst_ast::{SyntaxFault, Unit};
 use pst_base::{Names, NoMemory, Place};
 use pst_io::Shelf;
+use pst_lexer::laws::own_tokens_are_one;
+use pst_parser::laws::at_most_one_unit;
+use pst_parser::parse_unit;
 use pst_scen::prefixes_are_legal;
 use pst_token::Token;
+use pst_token::laws::tokens_are_in_order;
 use std::alloc::Global;
 
 /// An answer, and the text that is to be written for it.
@@ -33,27 +39,27 @@ pub struct Reply {
     pub text: String,
 }
 
-/// Runs the root of the source of these tokens; none where it isn't of the straight form.
-fn run_source(
+/// Runs the root of the unit of a source; none where it isn't of the straight form.
+fn run_unit(
     alloc: Global,
     root: &[u8],
     names: &Names,
-    tokens: &[Token],
+    unit: &Unit,
 ) -> Result<Option<Reply>, NoMemory>
-    requires few { length tokens.now ≤ most_tokens + 1 }
-    requires are { (source : List ℕ) × AreTokens 0 names.now source tokens.now }
-    ensures { IfOk result (λ reply. (source : List ℕ) → AreTokens 0 names.now source tokens.now → MatchOption reply
+    requires few { (actions : List AnyDeclaration) → IsStraightUnit names.now (view_unit unit.now) actions → length actions < 2 ^ 32 - 1 }
+    ensures { IfOk result (λ reply. (source : List ℕ) → HasUnit source names.now (view_unit unit.now) → MatchOption reply
         ((actions : List AnyDeclaration) (s : AnyScenario) → IsStraight source root.now actions s → ⊥)
         (λ reply. RepliesRun source root.now reply)) }
 {
-    let mut cursor = Cursor::new(names, tokens);
-    let Some(all) = parse(alloc, &mut cursor)? else {
+    own_tokens_are_one();
+    at_most_one_unit();
+    prefixes_are_legal();
+    let Some(all) = actions_of(alloc, names, unit)? else {
         return Ok(None);
     };
     let Some(scenario) = find_scenario(alloc, all.as_slice(), root)? else {
         return Ok(None);
     };
-    prefixes_are_legal();
     let plan = plan_unrefused(alloc, &scenario)?;
     let book = run_alone(alloc, &scenario, &plan)?;
     let actions = scenario.actions.as_slice().len() as u32;
@@ -97,21 +103,52 @@ fn lexical(alloc: Global, file: &str, wide: bool, place: Place) -> Result<Reply,
     })
 }
 
+/// The reply to a list of tokens that is no unit.
+fn syntax(alloc: Global, file: &str, deep: bool, place: Place) -> Result<Reply, NoMemory>
+    ensures { IfOk result (λ reply. Says (Answer.Syntax deep place) (syntax_text_of file.now deep place) reply) }
+{
+    let text = syntax_text(alloc, file, deep, place)?;
+    Ok(Reply {
+        answer: Answer::Syntax { deep, place },
+        text,
+    })
+}
+
+/// The reply to a unit.
+fn reply_to_unit(
+    alloc: Global,
+    root: &[u8],
+    names: &Names,
+    unit: &Unit,
+) -> Result<Reply, NoMemory>
+    requires few { (actions : List AnyDeclaration) → IsStraightUnit names.now (view_unit unit.now) actions → length actions < 2 ^ 32 - 1 }
+    ensures { IfOk result (λ reply. (source : List ℕ) → HasUnit source names.now (view_unit unit.now)
+        → RepliesRun source root.now reply ⊎ RefusesOther source root.now reply) }
+{
+    match run_unit(alloc, root, names, unit)? {
+        Some(reply) => Ok(reply),
+        None => unbuilt(alloc),
+    }
+}
+
 /// The reply to a source.
 fn reply_to_source(
     alloc: Global,
-    root: &[u8],
+    line: &Line<'_>,
     names: &Names,
     tokens: &[Token],
 ) -> Result<Reply, NoMemory>
     requires few { length tokens.now ≤ most_tokens + 1 }
-    requires are { (source : List ℕ) × AreTokens 0 names.now source tokens.now }
-    ensures { IfOk result (λ reply. (source : List ℕ) → AreTokens 0 names.now source tokens.now
-        → RepliesRun source root.now reply ⊎ RefusesOther source root.now reply) }
+    requires own { (source : List ℕ) × AreOwnTokens 0 source names.now tokens.now }
+    ensures { IfOk result (λ reply. (source : List ℕ) → AreOwnTokens 0 source names.now tokens.now
+        → RepliesSource line.now.root.now line.now.file.now source reply) }
 {
-    match run_source(alloc, root, names, tokens)? {
-        Some(reply) => Ok(reply),
-        None => unbuilt(alloc),
+    tokens_are_in_order();
+    match parse_unit(alloc, tokens) {
+        Ok(unit) => reply_to_unit(alloc, line.root, names, &unit),
+        Err(SyntaxFault::At { at }) => syntax(alloc, line.file, false, tokens[at].place),
+        Err(SyntaxFault::Deep { at }) => syntax(alloc, line.file, true, tokens[at].place),
+        Err(SyntaxFault::NoMemory) => Err(NoMemory),
     }
 }
 
@@ -138,7 +175,7 @@ fn reply_to(alloc: Global, line: Line<'_>, names: &Names, loaded: Loaded) -> Res
         Loaded::TooLarge => large(alloc, What::Bytes, MOST_BYTES as u64 + 1),
         Loaded::TooMany => large(alloc, What::Tokens, MOST_TOKENS as u64 + 1),
         Loaded::Faulty { wide, place } => lexical(alloc, line.file, wide, place),
-        Loaded::Lexed(tokens) => reply_to_source(alloc, line.root, names, tokens.as_slice()),
+        Loaded::Lexed(tokens) => reply_to_source(alloc, &line, names, tokens.as_slice()),
     }
 }
 

@@ -1,168 +1,156 @@
-//! Reading tokens into declarations.
-ghost use Rattle.std.specs.Prelude.{◌≡◌, ◌∷◌, [], ◌++◌, ℕ, List, Option, codes, IfOk, MatchOption, MatchBool};
-ghost use Rattle.std.specs.List.{flat_map};
-ghost use Rattle.pst_token.specs.declared.kind.Kind.TheVariants as kind;
-ghost use Rattle.pstim.specs.Source.{Shape, named, of_kind, do_of, activity_of, action_of, source_of};
+//! Reading the declarations of the straight form from the tree of a source.
+ghost use Rattle.std.specs.Prelude.{◌≡◌, ℕ, List, Option, map, IfOk, MatchOption};
+ghost use Rattle.pst_ast.specs.ActivityView.{view_activity, view_statement};
+ghost use Rattle.pst_ast.specs.DeclarationView.{view_action_part, view_component_part, view_unit};
+ghost use Rattle.pstim.specs.Source.{text_of, IsDo, Performs, HasParts, Declares, IsStraightUnit};
 ghost use Rattle.pstim.specs.declared.parsing.Declaration.{Declaration as AnyDeclaration};
+ghost use Rattle.std.specs.List.{AllZip};
 
-use crate::cursor::Cursor;
 use crate::parsing::Declaration;
 use crate::text::Text;
-use pst_base::{Items, NoMemory};
-use pst_token::Kind;
+use pst_ast::{
+    ActionPart, ActivityNode, ComponentPart, CoreNode, Item, Name, StatementNode, Unit, WithNode,
+};
+use pst_base::{Items, Names, NoMemory};
 use std::alloc::Global;
 
-/// Takes `NAME ;` from the front.
-fn performed_name<'a>(cursor: &mut Cursor<'a>) -> Option<&'a str>
-    ensures { MatchOption result
-        ((name : List ℕ) (rest : List Shape) → cursor.old ≡ named name ∷ of_kind kind.Semicolon ∷ rest → ⊥)
-        (λ name. cursor.old ≡ named name.now ∷ of_kind kind.Semicolon ∷ cursor.new) }
+/// The text of a name, and none where the table doesn't have its number.
+fn text_of(names: &Names, name: Name) -> &str
+    ensures { result.now ≡ text_of names.now name }
 {
-    let name = cursor.take_name()?;
-    if cursor.takes(Kind::Semicolon) {
-        Some(name)
+    if name.id.0 < names.len() {
+        names.text(name.id)
     } else {
-        None
+        ""
     }
 }
 
-/// Takes any number of `do NAME ;` and the `}` behind them from the front.
-fn performed(alloc: Global, cursor: &mut Cursor<'_>) -> Result<Option<Vec<Text>>, NoMemory>
-    ensures { IfOk result (λ found. MatchOption found
-        ((names : List (List ℕ)) (rest : List Shape) → cursor.old ≡ flat_map do_of names ++ of_kind kind.RightBrace ∷ rest → ⊥)
-        (λ names. cursor.old ≡ flat_map do_of names.items ++ of_kind kind.RightBrace ∷ cursor.new)) }
+/// The name of the action that a statement `do NAME ;` performs.
+fn performed_name<'a>(names: &'a Names, statement: &StatementNode) -> Option<&'a str>
+    ensures { MatchOption result
+        ((name : List ℕ) → IsDo names.now (view_statement statement.now) name → ⊥)
+        (λ name. IsDo names.now (view_statement statement.now) name.now) }
 {
-    let mut names = Vec::new(alloc);
-    while cursor.takes(Kind::Do) {
-        let Some(name) = performed_name(cursor) else {
+    let StatementNode::Plain(CoreNode::Do {
+        name,
+        with: WithNode::Nothing(_),
+        ..
+    }) = statement
+    else {
+        return None;
+    };
+    if name.second.is_some() {
+        return None;
+    }
+    Some(text_of(names, name.first))
+}
+
+/// The names of the actions that an activity performs in order.
+fn performed(
+    alloc: Global,
+    names: &Names,
+    activity: &ActivityNode,
+) -> Result<Option<Vec<Text>>, NoMemory>
+    ensures { IfOk result (λ found. MatchOption found
+        ((all : List (List ℕ)) → Performs names.now (view_activity activity.now) all → ⊥)
+        (λ all. Performs names.now (view_activity activity.now) all.items)) }
+{
+    let mut all = Vec::new(alloc);
+    for statement in &activity.statements {
+        let Some(name) = performed_name(names, statement) else {
             return Ok(None);
         };
-        names.push(Text::from_str(alloc, name)?)?;
+        all.push(Text::from_str(alloc, name)?)?;
     }
-    if cursor.takes(Kind::RightBrace) {
-        Ok(Some(names))
-    } else {
-        Ok(None)
-    }
+    Ok(Some(all))
 }
 
-/// Takes what stands behind `activity`, with the `}` of its action, from the front.
-fn block(alloc: Global, cursor: &mut Cursor<'_>) -> Result<Option<Vec<Text>>, NoMemory>
+/// What an action performs, of which these are the parts.
+fn activity(
+    alloc: Global,
+    names: &Names,
+    parts: &[ActionPart],
+) -> Result<Option<Option<Items<Text>>>, NoMemory>
     ensures { IfOk result (λ found. MatchOption found
-        ((names : List (List ℕ)) (rest : List Shape)
-        → cursor.old ≡ of_kind kind.LeftBrace ∷ (flat_map do_of names ++ of_kind kind.RightBrace ∷ of_kind kind.RightBrace ∷ rest) → ⊥)
-        (λ names. cursor.old ≡ of_kind kind.LeftBrace ∷ (flat_map do_of names.items ++ of_kind kind.RightBrace ∷ of_kind kind.RightBrace ∷ cursor.new))) }
+        ((activity : Option (List (List ℕ))) → HasParts names.now (map view_action_part parts.now) activity → ⊥)
+        (λ activity. HasParts names.now (map view_action_part parts.now) activity)) }
 {
-    if !cursor.takes(Kind::LeftBrace) {
-        return Ok(None);
-    }
-    let Some(names) = performed(alloc, cursor)? else {
+    let Some((part, rest)) = parts.split_first() else {
+        return Ok(Some(None));
+    };
+    let ActionPart::Activity(activity) = part else {
         return Ok(None);
     };
-    if cursor.takes(Kind::RightBrace) {
-        Ok(Some(names))
-    } else {
-        Ok(None)
-    }
-}
-
-/// Takes what stands behind the `{` of an action, with the `}`, from the front.
-fn activity(alloc: Global, cursor: &mut Cursor<'_>) -> Result<Option<Option<Items<Text>>>, NoMemory>
-    ensures { IfOk result (λ found. MatchOption found
-        ((activity : Option (List (List ℕ))) (rest : List Shape) → cursor.old ≡ activity_of activity ++ of_kind kind.RightBrace ∷ rest → ⊥)
-        (λ activity. cursor.old ≡ activity_of activity ++ of_kind kind.RightBrace ∷ cursor.new)) }
-{
-    if cursor.takes(Kind::RightBrace) {
-        return Ok(Some(None));
-    }
-    if !cursor.takes(Kind::Activity) {
+    if !rest.is_empty() {
         return Ok(None);
     }
-    match block(alloc, cursor)? {
-        Some(names) => Ok(Some(Some(Items::from_vec(names)))),
+    match performed(alloc, names, activity)? {
+        Some(all) => Ok(Some(Some(Items::from_vec(all)))),
         None => Ok(None),
     }
 }
 
-/// Takes a declaration, of which `action` is taken already, from the front.
-fn declaration(alloc: Global, cursor: &mut Cursor<'_>) -> Result<Option<Declaration>, NoMemory>
+/// The declaration of an action without a base, of one activity or none.
+fn declaration(
+    alloc: Global,
+    names: &Names,
+    part: &ComponentPart,
+) -> Result<Option<Declaration>, NoMemory>
     ensures { IfOk result (λ found. MatchOption found
-        ((declaration : AnyDeclaration) (rest : List Shape) → of_kind kind.Action ∷ cursor.old ≡ action_of declaration ++ rest → ⊥)
-        (λ declaration. of_kind kind.Action ∷ cursor.old ≡ action_of declaration ++ cursor.new)) }
+        ((declaration : AnyDeclaration) → Declares names.now (view_component_part part.now) declaration → ⊥)
+        (λ declaration. Declares names.now (view_component_part part.now) declaration)) }
 {
-    let Some(name) = cursor.take_name() else {
+    let ComponentPart::Action(action) = part else {
         return Ok(None);
     };
-    if !cursor.takes(Kind::LeftBrace) {
+    if action.abstract_.is_some() || action.base.is_some() {
         return Ok(None);
     }
-    let Some(activity) = activity(alloc, cursor)? else {
+    let Some(activity) = activity(alloc, names, action.parts.as_slice())? else {
         return Ok(None);
     };
-    let name = Text::from_str(alloc, name)?;
+    let name = Text::from_str(alloc, text_of(names, action.name))?;
     Ok(Some(Declaration { name, activity }))
 }
 
-/// Takes any number of declarations and the `}` behind them from the front.
+/// The declarations of actions alone, in order.
 fn declarations(
     alloc: Global,
-    cursor: &mut Cursor<'_>,
+    names: &Names,
+    parts: &[ComponentPart],
 ) -> Result<Option<Vec<Declaration>>, NoMemory>
     ensures { IfOk result (λ found. MatchOption found
-        ((all : List AnyDeclaration) (rest : List Shape) → cursor.old ≡ flat_map action_of all ++ of_kind kind.RightBrace ∷ rest → ⊥)
-        (λ all. cursor.old ≡ flat_map action_of all.items ++ of_kind kind.RightBrace ∷ cursor.new)) }
+        ((all : List AnyDeclaration) → AllZip (Declares names.now) (map view_component_part parts.now) all → ⊥)
+        (λ all. AllZip (Declares names.now) (map view_component_part parts.now) all.items)) }
 {
     let mut all = Vec::new(alloc);
-    while cursor.takes(Kind::Action) {
-        let Some(declaration) = declaration(alloc, cursor)? else {
+    for part in parts {
+        let Some(declaration) = declaration(alloc, names, part)? else {
             return Ok(None);
         };
         all.push(declaration)?;
     }
-    if cursor.takes(Kind::RightBrace) {
-        Ok(Some(all))
-    } else {
-        Ok(None)
-    }
+    Ok(Some(all))
 }
 
-/// Takes `component pss_top {` from the front.
-fn takes_head(cursor: &mut Cursor<'_>) -> bool
-    ensures { MatchBool result
-        (cursor.old ≡ of_kind kind.Component ∷ named (codes "pss_top") ∷ of_kind kind.LeftBrace ∷ cursor.new)
-        ((rest : List Shape) → cursor.old ≡ of_kind kind.Component ∷ named (codes "pss_top") ∷ of_kind kind.LeftBrace ∷ rest → ⊥) }
-{
-    if !cursor.takes(Kind::Component) {
-        return false;
-    }
-    let Some(name) = cursor.take_name() else {
-        return false;
-    };
-    name == "pss_top" && cursor.takes(Kind::LeftBrace)
-}
-
-/// Takes the end of the tokens, and nothing may stand behind it.
-fn takes_end(cursor: &mut Cursor<'_>) -> bool
-    ensures { MatchBool result (cursor.old ≡ of_kind kind.End ∷ []) (cursor.old ≡ of_kind kind.End ∷ [] → ⊥) }
-{
-    cursor.takes(Kind::End) && cursor.is_at_end()
-}
-
-/// The declarations that the tokens spell, if they spell any.
-pub fn parse(alloc: Global, cursor: &mut Cursor<'_>) -> Result<Option<Vec<Declaration>>, NoMemory>
+/// The declarations of a unit of the straight form.
+pub fn actions_of(
+    alloc: Global,
+    names: &Names,
+    unit: &Unit,
+) -> Result<Option<Vec<Declaration>>, NoMemory>
     ensures { IfOk result (λ found. MatchOption found
-        ((all : List AnyDeclaration) → cursor.old ≡ source_of all → ⊥)
-        (λ all. cursor.old ≡ source_of all.items)) }
+        ((all : List AnyDeclaration) → IsStraightUnit names.now (view_unit unit.now) all → ⊥)
+        (λ all. IsStraightUnit names.now (view_unit unit.now) all.items)) }
 {
-    if !takes_head(cursor) {
-        return Ok(None);
-    }
-    let Some(all) = declarations(alloc, cursor)? else {
+    let Some((item, rest)) = unit.items.split_first() else {
         return Ok(None);
     };
-    if takes_end(cursor) {
-        Ok(Some(all))
-    } else {
-        Ok(None)
+    let Item::Component(component) = item else {
+        return Ok(None);
+    };
+    if !rest.is_empty() || text_of(names, component.name) != "pss_top" {
+        return Ok(None);
     }
+    declarations(alloc, names, component.parts.as_slice())
 }

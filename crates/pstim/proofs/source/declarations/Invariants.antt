@@ -1,11 +1,9 @@
-use Rattle.std.proofs.Common.{◌≡◌, ◌++◌, length}
-use Rattle.std.specs.List.{flat_map}
-use Rattle.pstim.specs.Source.{action_of}
+use Rattle.std.proofs.Common.{take}
+use Rattle.std.specs.List.{AllZip}
+use Rattle.pst_ast.specs.DeclarationView.{view_component_part}
+use Rattle.pstim.specs.Source.{Declares}
 use Rattle.pstim.proofs.source.declarations.Given as goal
 
--- the declarations so far, and the tokens that are left
-abbrev pub invariant-loop-alloc : goal.invariant-loop-alloc
-invariant-loop-alloc l = l.fn.cursor ≡ flat_map action_of l.all.items ++ l.cursor
-
-abbrev pub decreases-loop-alloc : goal.decreases-loop-alloc
-decreases-loop-alloc l = length l.cursor
+-- the parts so far declare these actions
+abbrev pub invariant-loop-part : goal.invariant-loop-part
+invariant-loop-part l = AllZip (λ part declaration. Declares l.names (view_component_part part) declaration) (take l.part-index l.parts) l.all.items

@@ -1,11 +1,9 @@
-use Rattle.std.proofs.Common.{◌≡◌, ◌++◌, length}
-use Rattle.std.specs.List.{flat_map}
-use Rattle.pstim.specs.Source.{do_of}
+use Rattle.std.proofs.Common.{take}
+use Rattle.std.specs.List.{AllZip}
+use Rattle.pst_ast.specs.ActivityView.{view_statement}
+use Rattle.pstim.specs.Source.{IsDo}
 use Rattle.pstim.proofs.source.performed.Given as goal
 
--- the names so far, and the tokens that are left
-abbrev pub invariant-loop-alloc : goal.invariant-loop-alloc
-invariant-loop-alloc l = l.fn.cursor ≡ flat_map do_of l.names.items ++ l.cursor
-
-abbrev pub decreases-loop-alloc : goal.decreases-loop-alloc
-decreases-loop-alloc l = length l.cursor
+-- the statements so far perform actions of these names
+abbrev pub invariant-loop-statement : goal.invariant-loop-statement
+invariant-loop-statement l = AllZip (λ statement name. IsDo l.names (view_statement statement) name) (take l.statement-index l.activity.statements.items) l.all.items

@@ -1,0 +1,97 @@
+-- Units of the straight form, and their declarations.
+use Rattle.std.proofs.Common.{◌≡◌, ◌∙◌, ℕ, zero, suc, ◌+◌, ◌<◌, ◌≤◌, List, [], ◌∷◌, ◌++◌, length, length-append, get_or, take, map, refl, ap, sym, subst, arith}
+use Rattle.std.specs.Prelude.{Some, None, Option, slice_get}
+use Rattle.std.specs.List.{AllZip, flat_map}
+use Rattle.std.proofs.lemmas.List.{take_more}
+use Rattle.std.proofs.lemmas.Option.{slice_get_read}
+use Rattle.pst_token.specs.declared.token.Token.{Token}
+use Rattle.pst_ast.specs.ActivityTree.{ActivityTree, MakeActivity, StatementTree, StatementEmpty, StatementLabeled, StatementPlain, CoreTree, CoreDo, CoreHandle, CoreSequence, CoreTogether, CoreSelect, CoreRepeat, CoreIf, CoreIfElse, CoreMatch, CoreBind, WithNothing, WithSet}
+use Rattle.pst_ast.specs.DeclarationTree.{ActionPartTree, ActionPartField, ActionPartReference, ActionPartClaim, ActionPartMembers, ActionPartConstraint, ActionPartActivity, ActionPartBody, ActionPartEmpty, ActionTree, MakeAction, ComponentPartTree, ComponentPartAction, ComponentPartObject, ComponentPartEnum, ComponentPartFunction, ComponentPartPool, ComponentPartPoolBind, ComponentPartMembers, ComponentPartEmpty, ComponentTree, MakeComponent, ItemTree, ItemComponent, ItemObject, ItemEnum, ItemFunction, ItemEmpty, UnitTree, MakeUnit}
+use Rattle.pst_ast.specs.DeclarationSpelling.{spell_component_part, spell_unit}
+use Rattle.pstim.specs.declared.parsing.Declaration.{Declaration}
+use Rattle.pstim.specs.Source.{IsDo, Performs, HasParts, Declares, IsTop, IsStraightUnit}
+use Rattle.pstim.proofs.Named.{zip_more, zip_at}
+
+-- a list of pairs, of which the first ones are seen through a view
+pub zip_viewed : {X A B : Type 0} (view : X → A) (R : A → B → Type 0) (xs : List X) (ys : List B) → AllZip (λ x y. R (view x) y) xs ys → AllZip R (map view xs) ys
+zip_viewed view R [] [] h = tt
+zip_viewed view R [] (y ∷ ys) h = absurd h
+zip_viewed view R (x ∷ xs) [] h = absurd h
+zip_viewed view R (x ∷ xs) (y ∷ ys) h = (h.0, zip_viewed view R xs ys h.1)
+
+pub zip_unviewed : {X A B : Type 0} (view : X → A) (R : A → B → Type 0) (xs : List X) (ys : List B) → AllZip R (map view xs) ys → AllZip (λ x y. R (view x) y) xs ys
+zip_unviewed view R [] [] h = tt
+zip_unviewed view R [] (y ∷ ys) h = absurd h
+zip_unviewed view R (x ∷ xs) [] h = absurd h
+zip_unviewed view R (x ∷ xs) (y ∷ ys) h = (h.0, zip_unviewed view R xs ys h.1)
+
+-- one more pair
+pub zip_further : {A B : Type 0} (R : A → B → Type 0) (xs : List A) (i : ℕ) (x : A) (ys : List B) (y : B) → i < length xs → x ≡ get_or xs i x → AllZip R (take i xs) ys → R x y → AllZip R (take (i + 1) xs) (ys ++ y ∷ [])
+zip_further R xs i x ys y below is before there =
+    let more : take (i + 1) xs ≡ take i xs ++ x ∷ [] = take_more xs i x below ∙ ap (λ z. take i xs ++ z ∷ []) (sym is) in
+    subst (λ zs. AllZip R zs (ys ++ y ∷ [])) (sym more) (zip_more R (take i xs) ys x y before there)
+
+-- an element that has no pair
+pub zip_without : {X A B : Type 0} (view : X → A) (R : A → B → Type 0) (xs : List X) (i : ℕ) (x : X) → i < length xs → x ≡ get_or xs i x → ((y : B) → R (view x) y → ⊥) → (ys : List B) → AllZip R (map view xs) ys → ⊥
+zip_without view R xs i x below is none ys h =
+    let found = zip_at (λ x y. R (view x) y) xs ys i x (zip_unviewed view R xs ys h) (slice_get_read xs (length xs) i x refl below is) in
+    none found.0 found.1
+
+-- at most one partner each
+one_zip : {A B : Type 0} (R : A → B → Type 0) → ((x : A) (a b : B) → R x a → R x b → a ≡ b) → (xs : List A) (as bs : List B) → AllZip R xs as → AllZip R xs bs → as ≡ bs
+one_zip R one [] [] [] h k = refl
+one_zip R one [] [] (b ∷ bs) h k = absurd k
+one_zip R one [] (a ∷ as) bs h k = absurd h
+one_zip R one (x ∷ xs) [] bs h k = absurd h
+one_zip R one (x ∷ xs) (a ∷ as) [] h k = absurd k
+one_zip R one (x ∷ xs) (a ∷ as) (b ∷ bs) h k =
+    let first = one x a b h.0 k.0 in
+    let rest = one_zip R one xs as bs h.1 k.1 in
+    λ i. first i ∷ rest i
+
+one_do : (names : List (List ℕ)) (t : StatementTree) (a b : List ℕ) → IsDo names t a → IsDo names t b → a ≡ b
+one_do names (StatementPlain (CoreDo do_place action (WithNothing semicolon))) a b h k = h.1 ∙ sym k.1
+one_do names _ a b h k = absurd h
+
+one_parts : (names : List (List ℕ)) (parts : List ActionPartTree) (a b : Option (List (List ℕ))) → HasParts names parts a → HasParts names parts b → a ≡ b
+one_parts names [] None None h k = refl
+one_parts names [] None (Some y) h k = absurd k
+one_parts names [] (Some x) b h k = absurd h
+one_parts names (ActionPartActivity (MakeActivity activity_place left statements right) ∷ []) (Some x) (Some y) h k = ap Some (one_zip (IsDo names) (one_do names) statements x y h k)
+one_parts names (ActionPartActivity (MakeActivity activity_place left statements right) ∷ []) (Some x) None h k = absurd k
+one_parts names _ a b h k = absurd h
+
+same_declaration : (d e : Declaration) → d.name ≡ e.name → d.activity ≡ e.activity → d ≡ e
+same_declaration d e p q =
+    ap (λ n. record { name = n; activity = d.activity }) p ∙ ap (λ a. record { name = e.name; activity = a }) q
+
+one_declaration : (names : List (List ℕ)) (part : ComponentPartTree) (d e : Declaration) → Declares names part d → Declares names part e → d ≡ e
+one_declaration names (ComponentPartAction (MakeAction abstract_place action_place name base left parts right)) d e h k =
+    same_declaration d e (h.2 ∙ sym k.2) (one_parts names parts d.activity e.activity h.3 k.3)
+one_declaration names _ d e h k = absurd h
+
+-- a unit has one list of declarations
+pub one_list : (names : List (List ℕ)) (unit : UnitTree) (a b : List Declaration) → IsStraightUnit names unit a → IsStraightUnit names unit b → a ≡ b
+one_list names (MakeUnit (ItemComponent (MakeComponent component_place name left parts right) ∷ []) finish) a b h k = one_zip (Declares names) (one_declaration names) parts a b h.1 k.1
+one_list names _ a b h k = absurd h
+
+-- a declaration has a token
+one_token : (names : List (List ℕ)) (part : ComponentPartTree) (d : Declaration) → Declares names part d → 1 ≤ length (spell_component_part part)
+one_token names (ComponentPartAction (MakeAction None action_place name base left parts right)) d h = omega arith
+one_token names (ComponentPartAction (MakeAction (Some place) action_place name base left parts right)) d h = omega arith
+one_token names _ d h = absurd h
+
+fewer_parts : (names : List (List ℕ)) (parts : List ComponentPartTree) (all : List Declaration) → AllZip (Declares names) parts all → length all ≤ length (flat_map spell_component_part parts)
+fewer_parts names [] [] h = omega arith
+fewer_parts names [] (d ∷ ds) h = absurd h
+fewer_parts names (p ∷ ps) [] h = absurd h
+fewer_parts names (p ∷ ps) (d ∷ ds) h =
+    let here = one_token names p d h.0 in
+    let rest = fewer_parts names ps ds h.1 in
+    omega (arith, here, rest, length-append (spell_component_part p) (flat_map spell_component_part ps))
+
+-- there are no more declarations than tokens
+pub fewer_declarations : (names : List (List ℕ)) (unit : UnitTree) (all : List Declaration) → IsStraightUnit names unit all → length all ≤ length (spell_unit unit)
+fewer_declarations names (MakeUnit (ItemComponent (MakeComponent component_place name left parts right) ∷ []) finish) all h =
+    ?
+fewer_declarations names _ all h = absurd h
