@@ -12,11 +12,7 @@ use std::alloc::Global;
 /// one that breaks a limit, is answered by its place: `At` where no part of a unit goes on with the
 /// token, `Deep` where it is the first that breaks a limit; `NoMemory` where memory runs out.
 #[tactic(auto, using(crate::proofs::Items::item_is_answered))]
-pub fn parse_item(
-    alloc: Global,
-    tokens: &[Token],
-    at: usize,
-) -> Result<(Item, usize), SyntaxFault>
+pub fn parse_item(alloc: Global, tokens: &[Token], at: usize) -> Result<(Item, usize), SyntaxFault>
     requires ended { IsEnded tokens.now }
     requires inside { at < length tokens.now }
     ensures { AnswersItem tokens.now at result }

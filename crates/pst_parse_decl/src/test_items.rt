@@ -208,8 +208,12 @@ fn wrong_tokens_of_actions(rt: HostRuntime) {
     assert!(rt; action_outcome(alloc, &[ACTION, A, COLON, OPEN]) == Err(SyntaxFault::At { at: 3 }));
     assert!(rt; action_outcome(alloc, &[ACTION, A, OPEN]) == Err(SyntaxFault::At { at: 3 }));
     assert!(rt; action_outcome(alloc, &[ACTION, A, OPEN, POOL]) == Err(SyntaxFault::At { at: 3 }));
-    assert!(rt; action_outcome(alloc, &[ACTION, A, OPEN, ACTION]) == Err(SyntaxFault::At { at: 3 }));
-    assert!(rt; action_outcome(alloc, &[ACTION, A, OPEN, A, SEMI]) == Err(SyntaxFault::At { at: 4 }));
+    assert!(rt;
+        action_outcome(alloc, &[ACTION, A, OPEN, ACTION]) == Err(SyntaxFault::At { at: 3 })
+    );
+    assert!(rt;
+        action_outcome(alloc, &[ACTION, A, OPEN, A, SEMI]) == Err(SyntaxFault::At { at: 4 })
+    );
     let no_braces = [ACTION, A, OPEN, ACTIVITY, SEMI];
     assert!(rt; action_outcome(alloc, &no_braces) == Err(SyntaxFault::At { at: 4 }));
     let no_word = [ACTION, A, OPEN, EXEC, OPEN];
@@ -268,8 +272,12 @@ fn wrong_tokens_of_items(rt: HostRuntime) {
     assert!(rt; outcome(alloc, &[COMPONENT, A, SEMI]) == Err(SyntaxFault::At { at: 2 }));
     assert!(rt; outcome(alloc, &[COMPONENT, A, OPEN]) == Err(SyntaxFault::At { at: 3 }));
     assert!(rt; outcome(alloc, &[COMPONENT, A, OPEN, COMPONENT]) == Err(SyntaxFault::At { at: 3 }));
-    assert!(rt; outcome(alloc, &[COMPONENT, A, OPEN, Kind::Rand]) == Err(SyntaxFault::At { at: 3 }));
-    assert!(rt; outcome(alloc, &[COMPONENT, A, OPEN, CONSTRAINT]) == Err(SyntaxFault::At { at: 3 }));
+    assert!(rt;
+        outcome(alloc, &[COMPONENT, A, OPEN, Kind::Rand]) == Err(SyntaxFault::At { at: 3 })
+    );
+    assert!(rt;
+        outcome(alloc, &[COMPONENT, A, OPEN, CONSTRAINT]) == Err(SyntaxFault::At { at: 3 })
+    );
     let third = [
         COMPONENT, A, OPEN, SEMI, ACTION, A, OPEN, CLOSE, ENUM, A, OPEN, CLOSE,
     ];
@@ -302,4 +310,14 @@ fn nesting_of_items(rt: HostRuntime) -> Result<(), NoMemory> {
     let deep = nested(alloc, &body, BRACES, 63, &[], &[CLOSE, CLOSE, CLOSE])?;
     assert!(rt; outcome(alloc, deep.as_slice()) == Err(SyntaxFault::Deep { at: 71 }));
     Ok(())
+}
+
+// One allocation may be made to fail where this runs: then memory ran out, and no other answer comes.
+#[test]
+fn want_of_memory(rt: HostRuntime) {
+    let alloc = rt.alloc();
+    let whole = outcome(alloc, &EVERY_COMPONENT_PART);
+    assert!(rt; whole == Ok(36) || whole == Err(SyntaxFault::NoMemory));
+    let parts = action_outcome(alloc, &EVERY_ACTION_PART);
+    assert!(rt; parts == Ok(38) || parts == Err(SyntaxFault::NoMemory));
 }

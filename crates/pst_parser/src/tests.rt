@@ -94,6 +94,31 @@ const ENUM: Kind = Kind::Enum;
 
 const IMPORT: Kind = Kind::Import;
 
+// A part of each kind, with 21 tokens.
+const EACH_PART: [Kind; 21] = [
+    COMPONENT,
+    A,
+    OPEN,
+    CLOSE,
+    ENUM,
+    A,
+    OPEN,
+    A,
+    CLOSE,
+    IMPORT,
+    Kind::Function,
+    Kind::Void,
+    A,
+    LP,
+    RP,
+    SEMI,
+    Kind::Buffer,
+    A,
+    OPEN,
+    CLOSE,
+    SEMI,
+];
+
 // The numbers and places are worked out by hand from the grammar.
 #[test]
 fn whole_units(rt: HostRuntime) {
@@ -101,30 +126,7 @@ fn whole_units(rt: HostRuntime) {
     assert!(rt; outcome(alloc, &[]) == Ok(0));
     assert!(rt; outcome(alloc, &[SEMI]) == Ok(1));
     assert!(rt; outcome(alloc, &[SEMI, SEMI]) == Ok(2));
-    let each = [
-        COMPONENT,
-        A,
-        OPEN,
-        CLOSE,
-        ENUM,
-        A,
-        OPEN,
-        A,
-        CLOSE,
-        IMPORT,
-        Kind::Function,
-        Kind::Void,
-        A,
-        LP,
-        RP,
-        SEMI,
-        Kind::Buffer,
-        A,
-        OPEN,
-        CLOSE,
-        SEMI,
-    ];
-    assert!(rt; outcome(alloc, &each) == Ok(5));
+    assert!(rt; outcome(alloc, &EACH_PART) == Ok(5));
     let sequence = [
         COMPONENT,
         A,
@@ -157,7 +159,9 @@ fn wrong_tokens(rt: HostRuntime) {
     assert!(rt; outcome(alloc, &[SEMI, Kind::Pool]) == Err(SyntaxFault::At { at: 1 }));
     assert!(rt; outcome(alloc, &[ENUM]) == Err(SyntaxFault::At { at: 1 }));
     assert!(rt; outcome(alloc, &[COMPONENT, A, OPEN]) == Err(SyntaxFault::At { at: 3 }));
-    assert!(rt; outcome(alloc, &[COMPONENT, A, OPEN, CLOSE, CLOSE]) == Err(SyntaxFault::At { at: 4 }));
+    assert!(rt;
+        outcome(alloc, &[COMPONENT, A, OPEN, CLOSE, CLOSE]) == Err(SyntaxFault::At { at: 4 })
+    );
     let second = [COMPONENT, A, OPEN, CLOSE, ENUM, A, OPEN, CLOSE];
     assert!(rt; outcome(alloc, &second) == Err(SyntaxFault::At { at: 7 }));
     let unfinished = [SEMI, COMPONENT, A, OPEN, ACTION, A, OPEN, CLOSE];
@@ -206,4 +210,11 @@ fn operators(rt: HostRuntime) -> Result<(), NoMemory> {
     let over = repeated(alloc, second.as_slice(), pair, 257, &[CLOSE])?;
     assert!(rt; outcome(alloc, over.as_slice()) == Err(SyntaxFault::Deep { at: 1037 }));
     Ok(())
+}
+
+// One allocation may be made to fail where this runs: then memory ran out, and no other answer comes.
+#[test]
+fn want_of_memory(rt: HostRuntime) {
+    let parts = outcome(rt.alloc(), &EACH_PART);
+    assert!(rt; parts == Ok(5) || parts == Err(SyntaxFault::NoMemory));
 }
