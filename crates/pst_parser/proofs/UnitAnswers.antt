@@ -15,7 +15,7 @@ use Rattle.pst_base.specs.declared.position.Place.{Place}
 use Rattle.pst_parse_decl.proofs.Items.{whole_item_free}
 use Rattle.pst_parser.proofs.OneEnd.{nothing_behind}
 use Rattle.pst_parser.proofs.UnitLaws.{taken_unit, same_unit, unit_explains, unit_again}
-use Rattle.pst_parser.specs.Ends.{EndsOnce}
+use Rattle.pst_token.specs.Laws.{EndsOnce}
 use Rattle.pst_parser.specs.Units.{items_by, unit_by, Settles, Fails}
 use Rattle.pst_reading.proofs.Becoming.{run_followed}
 use Rattle.pst_reading.proofs.Explaining.{Means, Explained}
@@ -75,7 +75,7 @@ all_spelled before last more (MakeUnit items finish) e f = nothing_behind before
 
 -- tokens that a unit spells, in front of others, where only the last one is `End`
 all_taken : (tokens rest : List Token) (e : EndsOnce tokens) (unit : UnitTree) → tokens ≡ spell_unit unit ++ rest → rest ≡ []
-all_taken tokens rest e (MakeUnit items finish) h = nothing_behind (flat_map spell_item items) (mark kind.End finish.place) rest e.before_end e.last (sym h ∙ e.all) refl e.only_there
+all_taken tokens rest e (MakeUnit items finish) h = nothing_behind (flat_map spell_item items) (mark kind.End finish.place) rest e.before_end e.last (sym h ∙ e.all) refl e.only
 
 module _ (tokens : List Token) (e : EndsOnce tokens) where
   kept_at : (n : ℕ) (o : Outcome UnitTree) → run is_over (unit_by n) tokens ≡ o → Kept (unit_by n) tokens o

@@ -1,5 +1,5 @@
 ghost use Rattle.std.specs.Prelude.{◌≡◌, IfOk};
-ghost use Rattle.pst_parser.specs.Ends.{EndsOnce};
+ghost use Rattle.pst_token.specs.Laws.{EndsOnce};
 
 use crate::parse_unit;
 use pst_ast::SyntaxFault;

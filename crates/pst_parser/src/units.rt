@@ -1,6 +1,6 @@
 //! Units.
 ghost use Rattle.pst_ast.specs.Answers.{AnswersUnit};
-ghost use Rattle.pst_parser.specs.Ends.{EndsOnce};
+ghost use Rattle.pst_token.specs.Laws.{EndsOnce};
 ghost use Rattle.pst_parser.specs.Units.{AnswersItems};
 
 use pst_ast::{Item, SyntaxFault, Unit};
