@@ -210,7 +210,8 @@ lexed names added text lexing tokens r t is again are few different stay fed =
     let taken : lexing.taken ≡ text = subst (HasMet 0 most_tokens text lexing.taken) none fed.met in
     let now : AreTokens 0 added text tokens = subst (λ bytes. AreTokens 0 added bytes tokens) taken (subst (λ file. AreTokens file added lexing.taken tokens) fed.file are) in
     let short : length tokens ≤ most_tokens + 1 = subst (λ n. length tokens ≤ n + 1) fed.room few in
-    (short, now, few_tokens 0 most_tokens added text tokens now short)
+    let numbered : AreNumbered 0 tokens (length added) = stay 0 (fed.numbered none) in
+    (short, record { are = now; different = different; numbered = numbered }, few_tokens 0 most_tokens added text tokens now short)
 
 pub faulted : {T : Type 0} (names : List (List ℕ)) (text : List ℕ) (lexing : Lexing) (f : LexFault) (r : Result T LexFault)
     → r ≡ Err f → IfSome lexing.fault (λ g. r ≡ Err g) → HasFault lexing.file lexing.room lexing.taken f

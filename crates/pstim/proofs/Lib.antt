@@ -12,5 +12,6 @@ mod Runnable
 mod Opened
 mod Plain
 mod Owed
+mod SyntaxFaults
 mod OneScenario
 mod OneAnswer

@@ -4,12 +4,15 @@ use Rattle.std.specs.Prelude.{Option, Some, None, slice_get}
 use Rattle.std.specs.List.{AllZip}
 use Rattle.pst_scen.specs.declared.scenario.Scenario.{Scenario}
 use Rattle.pstim.specs.declared.parsing.Declaration.{Declaration}
-use Rattle.pstim.specs.Source.{source_of}
-use Rattle.pstim.specs.Straight.{HasScenario, IsScenarioOf, names_of, compound_scenario}
+use Rattle.pst_lexer.specs.Numbering.{OwnTokensAreOne}
+use Rattle.pst_ast.specs.DeclarationTree.{UnitTree}
+use Rattle.pst_ast.specs.Laws.{AtMostOneTree}
+use Rattle.pst_ast.specs.Rule.{TheUnit}
+use Rattle.pstim.specs.Source.{HasUnit, IsStraightUnit}
+use Rattle.pstim.specs.Straight.{IsStraight, HasScenario, IsScenarioOf, names_of, compound_scenario}
 use Rattle.pstim.specs.Laws.{ScenariosAreOne}
-use Rattle.pstim.proofs.Grammar.{same_source}
 use Rattle.pstim.proofs.Named.{name_at}
-use Rattle.pstim.proofs.Shapes.{one_spelling}
+use Rattle.pstim.proofs.Sources.{one_list}
 
 -- names have one list of numbers
 pub one_numbering : (types names : List (List ℕ)) (numbers others : List ℕ) → ((i j : ℕ) (name : List ℕ) → slice_get types i ≡ Some name → slice_get types j ≡ Some name → i ≡ j)
@@ -42,9 +45,21 @@ one_of_root actions root s t a b =
     one_of_activity actions a.number a.declaration.activity s t a.sound.different a.scenario
     (subst (λ (d : Declaration). IsScenarioOf actions a.number d.activity t) same moved)
 
-pub one_scenario : ScenariosAreOne
-one_scenario text root actions others s t a b =
-    let shapes = one_spelling 0 a.source.names b.source.names text a.source.tokens b.source.tokens a.source.are b.source.are in
-    let spelled : source_of actions ≡ source_of others = sym a.source.spelled ∙ shapes ∙ b.source.spelled in
-    let same : actions ≡ others = same_source actions others spelled in
+-- a text has one own table of names, and one unit
+pub one_unit : OwnTokensAreOne → AtMostOneTree TheUnit → (text : List ℕ) (names others : List (List ℕ)) (unit other : UnitTree) → HasUnit text names unit → HasUnit text others other → (names ≡ others) × (unit ≡ other)
+one_unit own at_most text names others unit other h k =
+    let same = own 0 text names others h.tokens k.tokens h.own k.own in
+    (same.0, at_most unit other h.whole.proper k.whole.proper (h.whole.spelled ∙ same.1 ∙ sym k.whole.spelled))
+
+-- what is straight in one reading of a text is so in each
+pub straight_here : OwnTokensAreOne → AtMostOneTree TheUnit → (text root : List ℕ) (names : List (List ℕ)) (unit : UnitTree) (actions : List Declaration) (s : Scenario)
+    → HasUnit text names unit → IsStraight text root actions s → IsStraightUnit names unit actions
+straight_here own at_most text root names unit actions s parsed straight =
+    let same = one_unit own at_most text straight.names names straight.unit unit straight.parsed parsed in
+    subst (λ table. IsStraightUnit table unit actions) same.0 (subst (λ tree. IsStraightUnit straight.names tree actions) same.1 straight.straight)
+
+pub one_scenario : OwnTokensAreOne → AtMostOneTree TheUnit → ScenariosAreOne
+one_scenario own at_most text root actions others s t a b =
+    let here = straight_here own at_most text root a.names a.unit others t a.parsed b in
+    let same : actions ≡ others = one_list a.names a.unit actions others a.straight here in
     (same, one_of_root actions root s t a.has (subst (λ (ds : List Declaration). HasScenario ds root t) (sym same) b.has))

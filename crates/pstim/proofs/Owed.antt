@@ -4,7 +4,7 @@ use Rattle.std.specs.Prelude.{Option, Result, Ok, Err, IfOk, string_bytes, ◌�
 use Rattle.std.specs.Option.{ForSome}
 use Rattle.pst_io.specs.Shelf.{Files}
 use Rattle.pstim.specs.declared.answer.Answer.{Answer}
-use Rattle.pstim.specs.declared.answer.Answer.TheVariants.{Done, NoFile, ReadFault, Large, Lexical, WriteFault, NoMemory, Unbuilt}
+use Rattle.pstim.specs.declared.answer.Answer.TheVariants.{Done, NoFile, ReadFault, Large, Lexical, Syntax, WriteFault, NoMemory, Unbuilt}
 use Rattle.pstim.specs.declared.answer.What.TheVariants.{Bytes, Tokens}
 use Rattle.pstim.specs.declared.loading.Loaded.{Loaded}
 use Rattle.pstim.specs.declared.loading.Loaded.TheVariants as loaded
@@ -12,8 +12,8 @@ use Rattle.pstim.specs.declared.replying.Reply.{Reply}
 use Rattle.pstim.specs.Words.{IsLine}
 use Rattle.pstim.specs.Loaded.{Finds}
 use Rattle.pstim.specs.Outcome.{IsOwed, IsSource, OtherForm, Writing, Answers, most_bytes, most_tokens}
-use Rattle.pstim.specs.Replies.{RepliesRun, RefusesOther, RepliesTo, Says, Delivers}
-use Rattle.pstim.specs.Texts.{unbuilt_text}
+use Rattle.pstim.specs.Replies.{RepliesSource, RepliesTo, Says, Delivers}
+use Rattle.pstim.specs.Texts.{syntax_text, unbuilt_text}
 
 -- an answer and a text that are those of a reply
 pub owed_as : (words : List (List ℕ)) (files : Option Files) (before now : ℕ) (answer : Answer) (text : List ℕ) (reply : Reply)
@@ -34,18 +34,21 @@ owed_found words root file names files before now loaded.TooMany reply line find
     owed_as words files before now (Large Tokens (most_tokens + 1)) _ reply says (finds.0, record { root = root; file = file; line = line; exceeds = (refl, finds.1); text_is = refl })
 owed_found words root file names files before now (loaded.Faulty wide place) reply line finds says =
     owed_as words files before now (Lexical wide place) _ reply says (finds.0, record { root = root; file = file; line = line; has = finds.1; text_is = refl })
-owed_found words root file names files before now (loaded.Lexed tokens) reply line (count, lexed) says = by_case (says lexed.text lexed.are)
+owed_found words root file names files before now (loaded.Lexed tokens) reply line (count, lexed) says = by_case (says lexed.text lexed.own)
   where
     source_is : ForSome files (λ f. IsSource f file lexed.text)
     source_is f told = record { file_is = lexed.file_is f told; lexed = lexed.few }
 
-    by_case : RepliesRun lexed.text root reply ⊎ RefusesOther lexed.text root reply → IsOwed words files before now reply.answer (string_bytes reply.text)
+    by_case : RepliesSource root file lexed.text reply → IsOwed words files before now reply.answer (string_bytes reply.text)
     by_case (inl runs) =
         owed_as words files before now (Done runs.count) (string_bytes reply.text) reply (record { answer_is = runs.answer_is; text_is = refl })
         (count, record { root = root; file = file; line = line; shows = λ f told. record { bytes = lexed.text; source = source_is f told; shows = runs.shows } })
-    by_case (inr refuses) =
+    by_case (inr (inl refuses)) =
         owed_as words files before now Unbuilt unbuilt_text reply refuses.says
-        (count, OtherForm root file line (λ f told. record { bytes = lexed.text; source = source_is f told; other = refuses.other }), refl)
+        (count, OtherForm root file line (λ f told. record { bytes = lexed.text; source = source_is f told; names = refuses.names; unit = refuses.unit; parsed = refuses.parsed; other = refuses.other }), refl)
+    by_case (inr (inr wrong)) =
+        owed_as words files before now (Syntax wrong.deep wrong.place) (syntax_text file wrong.deep wrong.place) reply wrong.says
+        (count, record { root = root; file = file; line = line; has = λ f told. record { bytes = lexed.text; source = source_is f told; has = wrong.has }; text_is = refl })
 
 -- what holds of a value that is there, from another fact
 pub if_ok_from : {T E : Type 0} (P Q : T → Type 0) (r : Result T E) → ((t : T) → P t → Q t) → IfOk r P → IfOk r Q
@@ -63,6 +66,7 @@ answered words files before now w reply result owed (inl d) = subst (Answers wor
     by_answer (ReadFault word) o = record { text = string_bytes reply.text; owed = o; written = d.1.written; count = d.1.count }
     by_answer (Large what number) o = record { text = string_bytes reply.text; owed = o; written = d.1.written; count = d.1.count }
     by_answer (Lexical wide place) o = record { text = string_bytes reply.text; owed = o; written = d.1.written; count = d.1.count }
+    by_answer (Syntax deep place) o = record { text = string_bytes reply.text; owed = o; written = d.1.written; count = d.1.count }
     by_answer Unbuilt o = record { text = string_bytes reply.text; owed = o; written = d.1.written; count = d.1.count }
     by_answer WriteFault o = absurd o
     by_answer NoMemory o = absurd o

@@ -1,15 +1,30 @@
 -- Units of the straight form, and their declarations.
-use Rattle.std.proofs.Common.{◌≡◌, ◌∙◌, ℕ, zero, suc, ◌+◌, ◌<◌, ◌≤◌, List, [], ◌∷◌, ◌++◌, length, length-append, get_or, take, map, refl, ap, sym, subst, arith}
-use Rattle.std.specs.Prelude.{Some, None, Option, slice_get}
+use Rattle.std.proofs.Common.{◌≡◌, ◌∙◌, ℕ, Bool, true, false, not, Result, Ok, Err, IfOk, zero, suc, ◌+◌, ◌<◌, ◌≤◌, List, [], ◌∷◌, ◌++◌, length, length-append, get_or, take, map, refl, ap, sym, subst, arith}
+use Rattle.std.specs.Prelude.{Some, None, Option, slice_get, ◌==◌, codes, MatchOption}
+use Rattle.std.specs.Global.{Vec}
+use Rattle.std.specs.Str.{bytes_eq}
+use Rattle.std.proofs.lemmas.Slice.Eq.{bytes_eq-Decides}
 use Rattle.std.specs.List.{AllZip, flat_map}
-use Rattle.std.proofs.lemmas.List.{take_more}
+use Rattle.std.proofs.lemmas.List.{take_more, take_all}
 use Rattle.std.proofs.lemmas.Option.{slice_get_read}
 use Rattle.pst_token.specs.declared.token.Token.{Token}
 use Rattle.pst_ast.specs.ActivityTree.{ActivityTree, MakeActivity, StatementTree, StatementEmpty, StatementLabeled, StatementPlain, CoreTree, CoreDo, CoreHandle, CoreSequence, CoreTogether, CoreSelect, CoreRepeat, CoreIf, CoreIfElse, CoreMatch, CoreBind, WithNothing, WithSet}
 use Rattle.pst_ast.specs.DeclarationTree.{ActionPartTree, ActionPartField, ActionPartReference, ActionPartClaim, ActionPartMembers, ActionPartConstraint, ActionPartActivity, ActionPartBody, ActionPartEmpty, ActionTree, MakeAction, ComponentPartTree, ComponentPartAction, ComponentPartObject, ComponentPartEnum, ComponentPartFunction, ComponentPartPool, ComponentPartPoolBind, ComponentPartMembers, ComponentPartEmpty, ComponentTree, MakeComponent, ItemTree, ItemComponent, ItemObject, ItemEnum, ItemFunction, ItemEmpty, UnitTree, MakeUnit}
-use Rattle.pst_ast.specs.DeclarationSpelling.{spell_component_part, spell_unit}
+use Rattle.pst_token.specs.declared.kind.Kind.TheVariants as kind
+use Rattle.pst_ast.specs.Marks.{mark, name_token}
+use Rattle.pst_ast.specs.DeclarationSpelling.{spell_component_part, spell_item, spell_unit}
+use Rattle.pst_base.specs.declared.memory.NoMemory.{NoMemory}
+use Rattle.pst_ast.specs.ActivityView.{view_activity, view_statement}
+use Rattle.pst_ast.specs.DeclarationView.{view_action_part, view_component_part, view_component, view_item, view_unit}
+use Rattle.pst_ast.specs.declared.activity.ActivityNode.{ActivityNode}
+use Rattle.pst_ast.specs.declared.declaration.ActionPart.{ActionPart}
+use Rattle.pst_ast.specs.declared.declaration.ActionPart.TheVariants as the_action_part
+use Rattle.pst_ast.specs.declared.declaration.ComponentNode.{ComponentNode}
+use Rattle.pst_ast.specs.declared.declaration.Item.{Item}
+use Rattle.pst_ast.specs.declared.declaration.Item.TheVariants as the_item
+use Rattle.pst_ast.specs.declared.declaration.Unit.{Unit}
 use Rattle.pstim.specs.declared.parsing.Declaration.{Declaration}
-use Rattle.pstim.specs.Source.{IsDo, Performs, HasParts, Declares, IsTop, IsStraightUnit}
+use Rattle.pstim.specs.Source.{text_of, IsDo, HasParts, Declares, IsStraightUnit}
 use Rattle.pstim.proofs.Named.{zip_more, zip_at}
 
 -- a list of pairs, of which the first ones are seen through a view
@@ -31,6 +46,12 @@ zip_further R xs i x ys y below is before there =
     let more : take (i + 1) xs ≡ take i xs ++ x ∷ [] = take_more xs i x below ∙ ap (λ z. take i xs ++ z ∷ []) (sym is) in
     subst (λ zs. AllZip R zs (ys ++ y ∷ [])) (sym more) (zip_more R (take i xs) ys x y before there)
 
+-- all pairs
+pub zip_whole : {X A B : Type 0} (view : X → A) (R : A → B → Type 0) (xs : List X) (i : ℕ) (ys : List B) → length xs ≤ i → AllZip (λ x y. R (view x) y) (take i xs) ys → AllZip R (map view xs) ys
+zip_whole view R xs i ys end h =
+    let all : take i xs ≡ xs = take_all i xs end in
+    zip_viewed view R xs ys (subst (λ zs. AllZip (λ x y. R (view x) y) zs ys) all h)
+
 -- an element that has no pair
 pub zip_without : {X A B : Type 0} (view : X → A) (R : A → B → Type 0) (xs : List X) (i : ℕ) (x : X) → i < length xs → x ≡ get_or xs i x → ((y : B) → R (view x) y → ⊥) → (ys : List B) → AllZip R (map view xs) ys → ⊥
 zip_without view R xs i x below is none ys h =
@@ -38,15 +59,15 @@ zip_without view R xs i x below is none ys h =
     none found.0 found.1
 
 -- at most one partner each
-one_zip : {A B : Type 0} (R : A → B → Type 0) → ((x : A) (a b : B) → R x a → R x b → a ≡ b) → (xs : List A) (as bs : List B) → AllZip R xs as → AllZip R xs bs → as ≡ bs
+one_zip : {A B : Type 0} (R : A → B → Type 0) → ((x : A) (a b : B) → R x a → R x b → a ≡ b) → (xs : List A) (ys zs : List B) → AllZip R xs ys → AllZip R xs zs → ys ≡ zs
 one_zip R one [] [] [] h k = refl
-one_zip R one [] [] (b ∷ bs) h k = absurd k
-one_zip R one [] (a ∷ as) bs h k = absurd h
-one_zip R one (x ∷ xs) [] bs h k = absurd h
-one_zip R one (x ∷ xs) (a ∷ as) [] h k = absurd k
-one_zip R one (x ∷ xs) (a ∷ as) (b ∷ bs) h k =
-    let first = one x a b h.0 k.0 in
-    let rest = one_zip R one xs as bs h.1 k.1 in
+one_zip R one [] [] (z ∷ zs) h k = absurd k
+one_zip R one [] (y ∷ ys) zs h k = absurd h
+one_zip R one (x ∷ xs) [] zs h k = absurd h
+one_zip R one (x ∷ xs) (y ∷ ys) [] h k = absurd k
+one_zip R one (x ∷ xs) (y ∷ ys) (z ∷ zs) h k =
+    let first = one x y z h.0 k.0 in
+    let rest = one_zip R one xs ys zs h.1 k.1 in
     λ i. first i ∷ rest i
 
 one_do : (names : List (List ℕ)) (t : StatementTree) (a b : List ℕ) → IsDo names t a → IsDo names t b → a ≡ b
@@ -93,5 +114,56 @@ fewer_parts names (p ∷ ps) (d ∷ ds) h =
 -- there are no more declarations than tokens
 pub fewer_declarations : (names : List (List ℕ)) (unit : UnitTree) (all : List Declaration) → IsStraightUnit names unit all → length all ≤ length (spell_unit unit)
 fewer_declarations names (MakeUnit (ItemComponent (MakeComponent component_place name left parts right) ∷ []) finish) all h =
-    ?
+    let fewer = fewer_parts names parts all h.1 in
+    let inner = length-append (flat_map spell_component_part parts) (mark kind.RightBrace right ∷ []) in
+    let outer = length-append (mark kind.Component component_place ∷ name_token name ∷ mark kind.LeftBrace left ∷ (flat_map spell_component_part parts ++ mark kind.RightBrace right ∷ [])) [] in
+    let whole = length-append (flat_map spell_item (ItemComponent (MakeComponent component_place name left parts right) ∷ [])) (mark kind.End finish.place ∷ []) in
+    omega (arith, fewer, inner, outer, whole)
 fewer_declarations names _ all h = absurd h
+
+-- an element that stands alone
+alone : {X : Type 0} (xs rest : List X) (x : X) (empty : Bool) → xs ≡ x ∷ rest → empty ≡ (length rest == 0) → not empty ≡ false → xs ≡ x ∷ []
+alone xs [] x empty is test h = is
+alone xs (r ∷ rest) x empty is test h =
+    let none : empty ≡ false = test ∙ refl in
+    absurd (cc (none, h))
+
+-- an activity that stands alone in an action
+pub activity_alone : (parts rest : List ActionPart) (part : ActionPart) (activity : ActivityNode) (empty : Bool) → parts ≡ part ∷ rest → empty ≡ (length rest == 0) → not empty ≡ false → part ≡ the_action_part.Activity activity
+    → map view_action_part parts ≡ ActionPartActivity (view_activity activity) ∷ []
+activity_alone parts rest part activity empty is test h node =
+    ap (λ xs. map view_action_part xs) (alone parts rest part empty is test h) ∙ ap (λ p. view_action_part p ∷ []) node
+
+pub without_names : (names : List (List ℕ)) (activity : ActivityNode) (found : Option (List (List ℕ)))
+    → ((all : List (List ℕ)) → AllZip (IsDo names) (map view_statement activity.statements.items) all → ⊥) → HasParts names (ActionPartActivity (view_activity activity) ∷ []) found → ⊥
+without_names names activity None none h = h
+without_names names activity (Some all) none h = none all h
+
+-- a component that stands alone in a unit
+pub component_alone : (items rest : List Item) (item : Item) (component : ComponentNode) (empty : Bool) → items ≡ item ∷ rest → empty ≡ (length rest == 0) → not empty ≡ false → item ≡ the_item.Component component
+    → map view_item items ≡ ItemComponent (view_component component) ∷ []
+component_alone items rest item component empty is test h node =
+    ap (λ xs. map view_item xs) (alone items rest item empty is test h) ∙ ap (λ i. view_item i ∷ []) node
+
+pub same_text : (text other : List ℕ) (differs : Bool) → differs ≡ not (bytes_eq text other) → differs ≡ false → text ≡ other
+same_text text other differs test h =
+    let same : bytes_eq text other ≡ true = by_test (bytes_eq text other) (sym test ∙ h) in
+    (bytes_eq-Decides text other).0 same
+  where
+    by_test : (b : Bool) → not b ≡ false → b ≡ true
+    by_test true e = refl
+    by_test false e = cc
+
+abbrev pub Finds : List (List ℕ) → List ComponentPartTree → Option (Vec Declaration) → Type 0
+Finds names parts found = MatchOption found ((all : List Declaration) → AllZip (Declares names) parts all → ⊥) (λ all. AllZip (Declares names) parts all.items)
+
+abbrev pub FindsStraight : List (List ℕ) → UnitTree → Option (Vec Declaration) → Type 0
+FindsStraight names unit found = MatchOption found ((all : List Declaration) → IsStraightUnit names unit all → ⊥) (λ all. IsStraightUnit names unit all.items)
+
+pub straight_from : (names : List (List ℕ)) (unit : Unit) (component : ComponentNode) (r : Result (Option (Vec Declaration)) NoMemory) → map view_item unit.items.items ≡ ItemComponent (view_component component) ∷ []
+    → text_of names component.name ≡ codes "pss_top" → IfOk r (Finds names (map view_component_part component.parts.items)) → IfOk r (FindsStraight names (view_unit unit))
+straight_from names unit component (Err e) items named found = tt
+straight_from names unit component (Ok None) items named found = λ all h.
+    let moved : IsStraightUnit names (MakeUnit (ItemComponent (view_component component) ∷ []) unit.finish) all = subst (λ xs. IsStraightUnit names (MakeUnit xs unit.finish) all) items h in
+    found all moved.1
+straight_from names unit component (Ok (Some all)) items named found = subst (λ xs. IsStraightUnit names (MakeUnit xs unit.finish) all.items) (sym items) (named, found)

@@ -115,12 +115,7 @@ fn syntax(alloc: Global, file: &str, deep: bool, place: Place) -> Result<Reply, 
 }
 
 /// The reply to a unit.
-fn reply_to_unit(
-    alloc: Global,
-    root: &[u8],
-    names: &Names,
-    unit: &Unit,
-) -> Result<Reply, NoMemory>
+fn reply_to_unit(alloc: Global, root: &[u8], names: &Names, unit: &Unit) -> Result<Reply, NoMemory>
     requires few { (actions : List AnyDeclaration) → IsStraightUnit names.now (view_unit unit.now) actions → length actions < 2 ^ 32 - 1 }
     ensures { IfOk result (λ reply. (source : List ℕ) → HasUnit source names.now (view_unit unit.now)
         → RepliesRun source root.now reply ⊎ RefusesOther source root.now reply) }

@@ -1,16 +1,14 @@
 //! Reading the declarations of the straight form from the tree of a source.
 ghost use Rattle.std.specs.Prelude.{◌≡◌, ℕ, List, Option, map, IfOk, MatchOption};
-ghost use Rattle.pst_ast.specs.ActivityView.{view_activity, view_statement};
+ghost use Rattle.pst_ast.specs.ActivityView.{view_statement};
 ghost use Rattle.pst_ast.specs.DeclarationView.{view_action_part, view_component_part, view_unit};
-ghost use Rattle.pstim.specs.Source.{text_of, IsDo, Performs, HasParts, Declares, IsStraightUnit};
+ghost use Rattle.pstim.specs.Source.{text_of, IsDo, HasParts, Declares, IsStraightUnit};
 ghost use Rattle.pstim.specs.declared.parsing.Declaration.{Declaration as AnyDeclaration};
 ghost use Rattle.std.specs.List.{AllZip};
 
 use crate::parsing::Declaration;
 use crate::text::Text;
-use pst_ast::{
-    ActionPart, ActivityNode, ComponentPart, CoreNode, Item, Name, StatementNode, Unit, WithNode,
-};
+use pst_ast::{ActionPart, ComponentPart, CoreNode, Item, Name, StatementNode, Unit, WithNode};
 use pst_base::{Items, Names, NoMemory};
 use std::alloc::Global;
 
@@ -31,11 +29,13 @@ fn performed_name<'a>(names: &'a Names, statement: &StatementNode) -> Option<&'a
         ((name : List ℕ) → IsDo names.now (view_statement statement.now) name → ⊥)
         (λ name. IsDo names.now (view_statement statement.now) name.now) }
 {
-    let StatementNode::Plain(CoreNode::Do {
-        name,
-        with: WithNode::Nothing(_),
-        ..
-    }) = statement
+    let StatementNode::Plain(
+        CoreNode::Do {
+            name,
+            with: WithNode::Nothing(_),
+            ..
+        },
+    ) = statement
     else {
         return None;
     };
@@ -45,18 +45,18 @@ fn performed_name<'a>(names: &'a Names, statement: &StatementNode) -> Option<&'a
     Some(text_of(names, name.first))
 }
 
-/// The names of the actions that an activity performs in order.
+/// The names of the actions that the statements of an activity perform in order.
 fn performed(
     alloc: Global,
     names: &Names,
-    activity: &ActivityNode,
+    statements: &[StatementNode],
 ) -> Result<Option<Vec<Text>>, NoMemory>
     ensures { IfOk result (λ found. MatchOption found
-        ((all : List (List ℕ)) → Performs names.now (view_activity activity.now) all → ⊥)
-        (λ all. Performs names.now (view_activity activity.now) all.items)) }
+        ((all : List (List ℕ)) → AllZip (IsDo names.now) (map view_statement statements.now) all → ⊥)
+        (λ all. AllZip (IsDo names.now) (map view_statement statements.now) all.items)) }
 {
     let mut all = Vec::new(alloc);
-    for statement in &activity.statements {
+    for statement in statements {
         let Some(name) = performed_name(names, statement) else {
             return Ok(None);
         };
@@ -84,7 +84,7 @@ fn activity(
     if !rest.is_empty() {
         return Ok(None);
     }
-    match performed(alloc, names, activity)? {
+    match performed(alloc, names, activity.statements.as_slice())? {
         Some(all) => Ok(Some(Some(Items::from_vec(all)))),
         None => Ok(None),
     }

@@ -6,4 +6,4 @@ use Rattle.pstim.proofs.source.performed.Given as goal
 
 -- the statements so far perform actions of these names
 abbrev pub invariant-loop-statement : goal.invariant-loop-statement
-invariant-loop-statement l = AllZip (λ statement name. IsDo l.names (view_statement statement) name) (take l.statement-index l.activity.statements.items) l.all.items
+invariant-loop-statement l = AllZip (λ statement name. IsDo l.names (view_statement statement) name) (take l.statement-index l.statements) l.all.items

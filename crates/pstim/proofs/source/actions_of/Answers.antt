@@ -1,0 +1,15 @@
+use Rattle.std.proofs.Common.{◌≡◌, ◌∙◌, ap, sym, subst, map}
+use Rattle.std.specs.Prelude.{codes}
+use Rattle.std.specs.Prelude.{IfOk}
+use Rattle.pst_ast.specs.DeclarationView.{view_component_part, view_item}
+use Rattle.pstim.specs.Source.{text_of}
+use Rattle.pstim.proofs.Sources.{Finds, component_alone, same_text, straight_from}
+use Rattle.pstim.proofs.source.actions_of.Goals as goal
+
+pub returns : goal.returns
+returns c =
+    let component = c.in-Component.component in
+    let alone = component_alone c.deref.result.now c.in-Some.rest.now c.in-Some.item.now component c.is_empty.result c.in-Some.ensures.cases.0 c.is_empty.ensures c.if-not-is_empty.false c.in-Component.is in
+    let named : text_of c.args.names.now component.name ≡ codes "pss_top" = sym c.text_of.ensures ∙ same_text c.text_of.result.now (codes "pss_top") c.ne.result c.ne.ensures c.if-ne.false in
+    straight_from c.args.names.now c.args.unit.now component c.declarations.result (ap (λ items. map view_item items) (sym c.deref.ensures.value) ∙ alone) named
+    (subst (λ parts. IfOk c.declarations.result (Finds c.args.names.now (map view_component_part parts))) c.as_slice.ensures.value c.declarations.ensures)
