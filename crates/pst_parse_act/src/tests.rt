@@ -100,7 +100,18 @@ fn whole_activities(rt: HostRuntime) {
     assert!(rt; outcome(alloc, &[ACT, OPEN, A, COLON, A, SEMI, CLOSE], 0) == Ok(7));
     assert!(rt; outcome(alloc, &[ACT, OPEN, DO, A, SEMI, CLOSE], 0) == Ok(6));
     let scoped = [
-        ACT, OPEN, DO, A, Kind::ColonColon, A, WITH, OPEN, A, SEMI, CLOSE, CLOSE,
+        ACT,
+        OPEN,
+        DO,
+        A,
+        Kind::ColonColon,
+        A,
+        WITH,
+        OPEN,
+        A,
+        SEMI,
+        CLOSE,
+        CLOSE,
     ];
     assert!(rt; outcome(alloc, &scoped, 0) == Ok(12));
     assert!(rt; outcome(alloc, &[ACT, OPEN, A, WITH, A, SEMI, CLOSE], 0) == Ok(7));
@@ -110,11 +121,31 @@ fn whole_activities(rt: HostRuntime) {
     let none = [ACT, OPEN, PARALLEL, Kind::JoinNone, OPEN, CLOSE, CLOSE];
     assert!(rt; outcome(alloc, &none, 0) == Ok(7));
     let named = [
-        ACT, OPEN, Kind::Schedule, Kind::JoinBranch, LP, A, COMMA, A, RP, OPEN, CLOSE, CLOSE,
+        ACT,
+        OPEN,
+        Kind::Schedule,
+        Kind::JoinBranch,
+        LP,
+        A,
+        COMMA,
+        A,
+        RP,
+        OPEN,
+        CLOSE,
+        CLOSE,
     ];
     assert!(rt; outcome(alloc, &named, 0) == Ok(12));
     let some = [
-        ACT, OPEN, PARALLEL, Kind::JoinSelect, LP, N, RP, OPEN, CLOSE, CLOSE,
+        ACT,
+        OPEN,
+        PARALLEL,
+        Kind::JoinSelect,
+        LP,
+        N,
+        RP,
+        OPEN,
+        CLOSE,
+        CLOSE,
     ];
     assert!(rt; outcome(alloc, &some, 0) == Ok(10));
     let branches = [
@@ -123,8 +154,33 @@ fn whole_activities(rt: HostRuntime) {
     ];
     assert!(rt; outcome(alloc, &branches, 0) == Ok(29));
     let arms = [
-        ACT, OPEN, MATCH, LP, A, RP, OPEN, LB, N, RB, COLON, A, SEMI, LB, N, Kind::DotDot, N, COMMA,
-        N, RB, COLON, SEMI, Kind::Default, COLON, SEMI, CLOSE, CLOSE,
+        ACT,
+        OPEN,
+        MATCH,
+        LP,
+        A,
+        RP,
+        OPEN,
+        LB,
+        N,
+        RB,
+        COLON,
+        A,
+        SEMI,
+        LB,
+        N,
+        Kind::DotDot,
+        N,
+        COMMA,
+        N,
+        RB,
+        COLON,
+        SEMI,
+        Kind::Default,
+        COLON,
+        SEMI,
+        CLOSE,
+        CLOSE,
     ];
     assert!(rt; outcome(alloc, &arms, 0) == Ok(27));
     let bound = [ACT, OPEN, BIND, A, DOT, A, A, DOT, A, SEMI, CLOSE];
@@ -180,7 +236,9 @@ fn nesting(rt: HostRuntime) {
     let alloc = rt.alloc();
     assert!(rt; outcome(alloc, &[ACT, OPEN, CLOSE], 64) == Ok(3));
     assert!(rt; outcome(alloc, &[ACT, OPEN, A, SEMI, CLOSE], 63) == Ok(5));
-    assert!(rt; outcome(alloc, &[ACT, OPEN, A, SEMI, CLOSE], 64) == Err(SyntaxFault::Deep { at: 2 }));
+    assert!(rt;
+        outcome(alloc, &[ACT, OPEN, A, SEMI, CLOSE], 64) == Err(SyntaxFault::Deep { at: 2 })
+    );
     assert!(rt; outcome(alloc, &[ACT, OPEN, ELSE], 64) == Err(SyntaxFault::At { at: 2 }));
     assert!(rt; outcome(alloc, &[ACT, OPEN, OPEN, SEMI], 63) == Err(SyntaxFault::Deep { at: 3 }));
     assert!(rt; outcome(alloc, &[ACT, OPEN, OPEN, ELSE], 63) == Err(SyntaxFault::At { at: 3 }));
