@@ -22,7 +22,7 @@ use Rattle.pst_parse_body.specs.BodyFamilies.{body_family}
 use Rattle.pst_parse_decl.specs.Inner.{activity_parser, body_parser, activity_parser_family, body_parser_family}
 use Rattle.pst_reading.proofs.Explaining.{Means, Explains}
 use Rattle.pst_reading.proofs.Rereading.{Rereads, Anything}
-use Rattle.pst_reading.specs.Gives.{SettlesFrom, FailsFrom}
+use Rattle.pst_reading.specs.Gives.{SettlesFrom}
 use Rattle.pst_reading.specs.Parser.{Outcome, Refused, TooDeep}
 use Rattle.pst_reading.specs.Reads.{Reads}
 use Rattle.pst_token.specs.declared.token.Token.{Token}

@@ -4,8 +4,7 @@ use Rattle.pst_ast.specs.DeclarationLimits.{counts_unit}
 use Rattle.pst_ast.specs.DeclarationProper.{IsProperUnit}
 use Rattle.pst_ast.specs.DeclarationSpelling.{spell_item, spell_unit}
 use Rattle.pst_ast.specs.DeclarationTree.{ItemTree, UnitTree, MakeUnit}
-use Rattle.pst_ast.specs.DeclarationView.{view_item}
-use Rattle.pst_ast.specs.Limits.{Count, counted, is_over, first_over}
+use Rattle.pst_ast.specs.Limits.{counted, is_over, first_over}
 use Rattle.pst_ast.specs.Marks.{mark}
 use Rattle.pst_ast.specs.Rule.{TheUnit}
 use Rattle.pst_ast.specs.Viable.{IsViable}
@@ -24,10 +23,10 @@ use Rattle.pst_reading.proofs.Keeping.{Kept, limits_kept}
 use Rattle.pst_reading.proofs.Rereading.{Anything}
 use Rattle.pst_reading.proofs.Whole.{NoEnd, both_free, drop_more, over_same, over_take}
 use Rattle.pst_reading.specs.Gives.{Expects}
-use Rattle.pst_reading.specs.Parser.{Parser, Done, Outcome, Took, Refused, TooDeep, and_then, followed_by, mark_by, run, read, counts_taken, next}
+use Rattle.pst_reading.specs.Parser.{Parser, Done, Outcome, Took, Refused, TooDeep, and_then, followed_by, mark_by, run, read, counts_taken}
 use Rattle.pst_token.specs.declared.kind.Kind.TheVariants as kind
 use Rattle.pst_token.specs.declared.token.Token.{Token}
-use Rattle.std.proofs.Common.{arith, refl, sym, ap, subst, ◌∙◌, inl, ◌⊎◌, ℕ, suc, ◌+◌, ◌-◌, ◌<◌, ◌≤◌, ◌≡◌, Some, None, Option, Err, List, [], ◌∷◌, ◌++◌, length, length-append, length-drop, append_assoc, append-nil, take, drop}
+use Rattle.std.proofs.Common.{arith, refl, sym, ap, subst, ◌∙◌, inl, ◌⊎◌, ℕ, suc, ◌+◌, ◌-◌, ◌<◌, ◌≤◌, ◌≡◌, Some, None, Err, List, [], ◌∷◌, ◌++◌, length, length-append, length-drop, append_assoc, append-nil, take, drop}
 use Rattle.std.proofs.lemmas.List.Folds.{drop_split}
 use Rattle.std.proofs.lemmas.List.{append_cancel_right}
 use Rattle.std.specs.List.{flat_map}

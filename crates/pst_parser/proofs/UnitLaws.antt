@@ -27,7 +27,6 @@ use Rattle.pst_reading.proofs.Whole.{NoEnd}
 use Rattle.pst_reading.specs.Kinds.{is_mark}
 use Rattle.pst_reading.specs.Parser.{Done, next}
 use Rattle.pst_token.specs.declared.kind.Kind.TheVariants as kind
-use Rattle.pst_token.specs.declared.kind.Kind.{Kind}
 use Rattle.pst_token.specs.declared.token.Token.{Token}
 use Rattle.std.proofs.Common.{arith, refl, sym, ap, subst, inl, ℕ, ◌<◌, ◌≤◌, ◌≡◌, Bool, true, false, if◌then◌else◌, List, [], ◌∷◌, ◌++◌, length, length-append, map}
 use Rattle.std.specs.List.{flat_map, AllByRecursion}

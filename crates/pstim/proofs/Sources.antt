@@ -5,6 +5,8 @@ use Rattle.std.specs.Global.{Vec}
 use Rattle.std.specs.Str.{bytes_eq}
 use Rattle.std.proofs.lemmas.Slice.Eq.{bytes_eq-Decides}
 use Rattle.std.specs.List.{AllZip, flat_map}
+use Rattle.std.proofs.lemmas.Bool.{both_ways}
+use Rattle.std.proofs.lemmas.Bool.Decides.{nat_tests}
 use Rattle.std.proofs.lemmas.List.{take_more, take_all}
 use Rattle.std.proofs.lemmas.Option.{slice_get_read}
 use Rattle.pst_token.specs.declared.token.Token.{Token}
@@ -94,7 +96,12 @@ one_declaration names _ d e h k = absurd h
 -- a unit has one list of declarations
 pub one_list : (names : List (List ℕ)) (unit : UnitTree) (a b : List Declaration) → IsStraightUnit names unit a → IsStraightUnit names unit b → a ≡ b
 one_list names (MakeUnit (ItemComponent (MakeComponent component_place name left parts right) ∷ []) finish) a b h k = one_zip (Declares names) (one_declaration names) parts a b h.1 k.1
-one_list names _ a b h k = absurd h
+one_list names (MakeUnit (ItemObject object ∷ []) finish) a b h k = absurd h
+one_list names (MakeUnit (ItemEnum enum ∷ []) finish) a b h k = absurd h
+one_list names (MakeUnit (ItemFunction function ∷ []) finish) a b h k = absurd h
+one_list names (MakeUnit (ItemEmpty place ∷ []) finish) a b h k = absurd h
+one_list names (MakeUnit [] finish) a b h k = absurd h
+one_list names (MakeUnit (i ∷ j ∷ more) finish) a b h k = absurd h
 
 -- a declaration has a token
 one_token : (names : List (List ℕ)) (part : ComponentPartTree) (d : Declaration) → Declares names part d → 1 ≤ length (spell_component_part part)
@@ -119,17 +126,22 @@ fewer_declarations names (MakeUnit (ItemComponent (MakeComponent component_place
     let outer = length-append (mark kind.Component component_place ∷ name_token name ∷ mark kind.LeftBrace left ∷ (flat_map spell_component_part parts ++ mark kind.RightBrace right ∷ [])) [] in
     let whole = length-append (flat_map spell_item (ItemComponent (MakeComponent component_place name left parts right) ∷ [])) (mark kind.End finish.place ∷ []) in
     omega (arith, fewer, inner, outer, whole)
-fewer_declarations names _ all h = absurd h
+fewer_declarations names (MakeUnit (ItemObject object ∷ []) finish) all h = absurd h
+fewer_declarations names (MakeUnit (ItemEnum enum ∷ []) finish) all h = absurd h
+fewer_declarations names (MakeUnit (ItemFunction function ∷ []) finish) all h = absurd h
+fewer_declarations names (MakeUnit (ItemEmpty place ∷ []) finish) all h = absurd h
+fewer_declarations names (MakeUnit [] finish) all h = absurd h
+fewer_declarations names (MakeUnit (i ∷ j ∷ more) finish) all h = absurd h
 
 -- an element that stands alone
-alone : {X : Type 0} (xs rest : List X) (x : X) (empty : Bool) → xs ≡ x ∷ rest → empty ≡ (length rest == 0) → not empty ≡ false → xs ≡ x ∷ []
+alone : {X : Type 0} (xs rest : List X) (x : X) (empty : Bool) → xs ≡ x ∷ rest → empty ≡ (length rest == 0) → empty ≡ true → xs ≡ x ∷ []
 alone xs [] x empty is test h = is
 alone xs (r ∷ rest) x empty is test h =
-    let none : empty ≡ false = test ∙ refl in
-    absurd (cc (none, h))
+    let none : (length (r ∷ rest) == 0) ≡ false = grind (arith, nat_tests) in
+    absurd (both_ways empty (test ∙ none) h)
 
 -- an activity that stands alone in an action
-pub activity_alone : (parts rest : List ActionPart) (part : ActionPart) (activity : ActivityNode) (empty : Bool) → parts ≡ part ∷ rest → empty ≡ (length rest == 0) → not empty ≡ false → part ≡ the_action_part.Activity activity
+pub activity_alone : (parts rest : List ActionPart) (part : ActionPart) (activity : ActivityNode) (empty : Bool) → parts ≡ part ∷ rest → empty ≡ (length rest == 0) → empty ≡ true → part ≡ the_action_part.Activity activity
     → map view_action_part parts ≡ ActionPartActivity (view_activity activity) ∷ []
 activity_alone parts rest part activity empty is test h node =
     ap (λ xs. map view_action_part xs) (alone parts rest part empty is test h) ∙ ap (λ p. view_action_part p ∷ []) node
@@ -140,7 +152,7 @@ without_names names activity None none h = h
 without_names names activity (Some all) none h = none all h
 
 -- a component that stands alone in a unit
-pub component_alone : (items rest : List Item) (item : Item) (component : ComponentNode) (empty : Bool) → items ≡ item ∷ rest → empty ≡ (length rest == 0) → not empty ≡ false → item ≡ the_item.Component component
+pub component_alone : (items rest : List Item) (item : Item) (component : ComponentNode) (empty : Bool) → items ≡ item ∷ rest → empty ≡ (length rest == 0) → empty ≡ true → item ≡ the_item.Component component
     → map view_item items ≡ ItemComponent (view_component component) ∷ []
 component_alone items rest item component empty is test h node =
     ap (λ xs. map view_item xs) (alone items rest item empty is test h) ∙ ap (λ i. view_item i ∷ []) node

@@ -1,5 +1,5 @@
 //! Making the reply to a line of words.
-ghost use Rattle.std.specs.Prelude.{◌≡◌, ◌+◌, ◌≤◌, List, ℕ, length, map, string_bytes, IfOk, MatchOption, ◌⊎◌};
+ghost use Rattle.std.specs.Prelude.{◌≡◌, ◌+◌, ◌-◌, ◌^◌, ◌<◌, ◌≤◌, List, ℕ, length, map, string_bytes, IfOk, MatchOption, ◌⊎◌};
 ghost use Rattle.pst_ast.specs.DeclarationView.{view_unit};
 ghost use Rattle.pst_lexer.specs.Numbering.{AreOwnTokens};
 ghost use Rattle.pst_scen.specs.declared.scenario.Scenario.{Scenario as AnyScenario};

@@ -5,7 +5,7 @@ use Rattle.pst_parse_decl.specs.Choices.{optional}
 use Rattle.pst_parse_decl.specs.Families.{mark_family, action_family, action_part_family, base_family}
 use Rattle.pst_parse_decl.specs.Inner.{activity_parser, body_parser}
 use Rattle.pst_parse_expr.specs.Constraints.{is_at, is_other}
-use Rattle.pst_reading.proofs.Reaching.{begin, step, mark_step, name_step, settles, ends, fails, mark_fails, name_fails}
+use Rattle.pst_reading.proofs.Reaching.{begin, step, mark_step, name_step, ends, fails, mark_fails, name_fails}
 use Rattle.pst_reading.specs.Lists.{listed}
 use Rattle.pst_token.specs.declared.kind.Kind.TheVariants as kind
 use Rattle.std.proofs.Common.{arith, ◌+◌, ◌-◌, map}

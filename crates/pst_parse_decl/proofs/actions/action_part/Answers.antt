@@ -8,7 +8,7 @@ use Rattle.pst_parse_decl.proofs.actions.action_part.Goals as goal
 use Rattle.pst_parse_decl.specs.Actions.{begins_reference, begins_claim}
 use Rattle.pst_parse_decl.specs.Families.{members_family, claim_family, constraint_declaration_family, action_part_family, field_family, reference_family}
 use Rattle.pst_parse_decl.specs.Inner.{activity_parser, body_parser, activity_parser_family, body_parser_family}
-use Rattle.pst_reading.proofs.Reaching.{begin, step, choose, settles, ends, fails}
+use Rattle.pst_reading.proofs.Reaching.{begin, step, choose, ends, fails}
 use Rattle.pst_reading.specs.Parser.{Done}
 use Rattle.pst_token.specs.declared.kind.Kind.TheVariants as kind
 use Rattle.std.proofs.Common.{arith, rules, true, false}

@@ -2,11 +2,9 @@ use Rattle.pst_ast.specs.DeclarationView.{view_action_part}
 use Rattle.pst_parse_decl.proofs.actions.action_parts.Goals as goal
 use Rattle.pst_parse_decl.specs.Families.{action_part_family}
 use Rattle.pst_parse_decl.specs.Inner.{activity_parser, body_parser}
-use Rattle.pst_parse_decl.specs.Objects.{behind}
 use Rattle.pst_parse_expr.specs.Constraints.{is_other}
 use Rattle.pst_reading.proofs.Giving.{later, later_fault}
 use Rattle.pst_reading.proofs.Lists.{list_begins, list_turns, list_fails, list_ends}
-use Rattle.pst_reading.proofs.Reaching.{settles}
 use Rattle.pst_token.specs.declared.kind.Kind.TheVariants as kind
 use Rattle.std.proofs.Common.{arith, rules, ◌-◌, map}
 use Rattle.std.proofs.lemmas.List.{map-append}

@@ -2,7 +2,6 @@ use Rattle.pst_parse_decl.proofs.Maybe.{present_given, present_fails}
 use Rattle.pst_parse_decl.proofs.actions.maybe_base.Goals as goal
 use Rattle.pst_parse_decl.specs.Families.{base_family}
 use Rattle.pst_parse_expr.specs.Constraints.{is_at}
-use Rattle.pst_reading.proofs.Reaching.{settles}
 use Rattle.pst_token.specs.declared.kind.Kind.TheVariants as kind
 use Rattle.std.proofs.Common.{arith, rules}
 use Rattle.std.proofs.lemmas.Result.{err_from_is_err_and}

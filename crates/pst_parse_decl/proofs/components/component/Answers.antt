@@ -4,7 +4,7 @@ use Rattle.pst_parse_decl.proofs.components.component.Goals as goal
 use Rattle.pst_parse_decl.specs.Families.{component_part_family, component_family}
 use Rattle.pst_parse_decl.specs.Inner.{activity_parser, body_parser}
 use Rattle.pst_parse_expr.specs.Constraints.{is_other}
-use Rattle.pst_reading.proofs.Reaching.{begin, step, mark_step, name_step, settles, ends, fails, mark_fails}
+use Rattle.pst_reading.proofs.Reaching.{begin, step, mark_step, name_step, ends, fails, mark_fails}
 use Rattle.pst_reading.specs.Lists.{listed}
 use Rattle.pst_token.specs.declared.kind.Kind.TheVariants as kind
 use Rattle.std.proofs.Common.{arith, ◌+◌, ◌-◌, map}

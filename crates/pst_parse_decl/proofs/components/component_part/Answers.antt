@@ -4,7 +4,7 @@ use Rattle.pst_parse_decl.proofs.components.component_part.Goals as goal
 use Rattle.pst_parse_decl.specs.Components.{begins_action, begins_object}
 use Rattle.pst_parse_decl.specs.Families.{component_part_family, members_family, enum_family, function_family, pool_bind_family, action_family, pool_family, object_family}
 use Rattle.pst_parse_decl.specs.Inner.{activity_parser, body_parser}
-use Rattle.pst_reading.proofs.Reaching.{begin, step, choose, settles, ends, fails}
+use Rattle.pst_reading.proofs.Reaching.{begin, step, choose, ends, fails}
 use Rattle.pst_token.specs.declared.kind.Kind.TheVariants as kind
 use Rattle.std.proofs.Common.{arith, rules, true, false}
 use Rattle.std.proofs.lemmas.Result.{err_from_is_err_and}
