@@ -51,18 +51,18 @@ text_numbers names text id token named number there = by_cases (list_any (bytes_
       where
         new_at : list_any (bytes_eq text) names ≡ false → slice_get (names ++ text ∷ []) id ≡ Some text → id ≡ length names
         new_at none last = ⊎_elim (
-          λ found.
-          let there = slice_get-longer names (text ∷ []) id found.0 found.2 in
-          let one : Some found.0 ≡ Some text = sym there ∙ last in
-          let same : found.0 ≡ text = cc in
-          let any = any_passes_from_place (bytes_eq text) names id text (subst (λ x. slice_get names id ≡ Some x) same found.2) ((bytes_eq-Decides text text).1 refl) in
-          absurd (cc (any, none))
-        ) (
-          λ past.
-          let within = slice_get_within (names ++ text ∷ []) id text last in
-          let behind = past.0 in
-          omega (arith, within, behind, length-append names (text ∷ []))
-        ) (slice_get_cases names id).1
+            λ found.
+            let there = slice_get-longer names (text ∷ []) id found.0 found.2 in
+            let one : Some found.0 ≡ Some text = sym there ∙ last in
+            let same : found.0 ≡ text = cc in
+            let any = any_passes_from_place (bytes_eq text) names id text (subst (λ x. slice_get names id ≡ Some x) same found.2) ((bytes_eq-Decides text text).1 refl) in
+            absurd (cc (any, none))
+            ) (
+            λ past.
+            let within = slice_get_within (names ++ text ∷ []) id text last in
+            let behind = past.0 in
+            omega (arith, within, behind, length-append names (text ∷ []))
+            ) (slice_get_cases names id).1
 
 -- a name was added
 pub stay_name : (r : Result Bool LexFault) (old new : Scanner) (names others : List (List ℕ)) (text : List ℕ) (id len : ℕ)

@@ -50,10 +50,10 @@ record IsSame (names others : List (List ℕ)) (tokens more : List Token) (next 
 -- one more text, under the same number
 agree_on : (names others : List (List ℕ)) (free : ℕ) (bytes : List ℕ) → Agree names others free → slice_get names free ≡ Some bytes → slice_get others free ≡ Some bytes → Agree names others (suc free)
 agree_on names others free bytes agree here there k below = ⊎_elim (λ lower. agree k lower) (
-  λ not_lower.
-  let at : k ≡ free = omega (arith, not_lower, below) in
-  subst (λ n. slice_get names n ≡ slice_get others n) (sym at) (here ∙ sym there)
-) (cases_lt k free)
+    λ not_lower.
+    let at : k ≡ free = omega (arith, not_lower, below) in
+    subst (λ n. slice_get names n ≡ slice_get others n) (sym at) (here ∙ sym there)
+    ) (cases_lt k free)
 
 -- a name has the same number in both tables
 record IsOneName (names others : List (List ℕ)) (id other middle next : ℕ) : Type 0 where

@@ -222,7 +222,8 @@ fn limits(rt: HostRuntime) -> Result<(), Fail> {
     Ok(())
 }
 
-// The operators of a tree's root and of the parts on its left and right, where they have one.
+// The operators of a tree's root and of the parts on its left and right, where they have one; `in`
+// has a part on the left alone.
 fn shape(tree: &ExprNode) -> [Option<Operator>; 3] {
     match tree {
         ExprNode::Binary {
@@ -231,6 +232,7 @@ fn shape(tree: &ExprNode) -> [Option<Operator>; 3] {
             right,
             ..
         } => [root(left), Some(*operator), root(right)],
+        ExprNode::In { left, .. } => [root(left), None, None],
         _ => [None, None, None],
     }
 }
@@ -292,6 +294,8 @@ fn operators_group(rt: HostRuntime) {
         shape_of(alloc, &[A, Kind::GreaterGreater, A, MINUS, A])
             == Ok([None, Some(Operator::ShiftRight), Some(Operator::Subtract)])
     );
+    let sum_in_range = [A, PLUS, A, STAR, A, Kind::In, LB, N, Kind::DotDot, N, RB];
+    assert!(rt; shape_of(alloc, &sum_in_range) == Ok([Some(Operator::Add), None, None]));
 }
 
 #[test]

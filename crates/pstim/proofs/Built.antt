@@ -1,20 +1,19 @@
 -- The scenarios of the straight form are built.
-use Rattle.std.proofs.Common.{◌≡◌, ◌∙◌, ℕ, zero, suc, ◌+◌, ◌<◌, ◌≤◌, ◌^◌, List, [], ◌∷◌, ◌++◌, length, map, refl, ap, sym, subst, arith}
-use Rattle.std.specs.Prelude.{Option, Some, None, slice_get, flat_map, replicate}
+use Rattle.std.proofs.Common.{◌≡◌, ◌∙◌, ℕ, zero, suc, ◌+◌, ◌<◌, ◌≤◌, List, [], ◌∷◌, ◌++◌, length, map, refl, ap, sym, subst, arith}
+use Rattle.std.specs.Prelude.{Option, Some, None, slice_get, flat_map}
 use Rattle.std.specs.List.{enumerate_from, range_with_len}
 use Rattle.pst_scen.specs.declared.act.Act.{Act}
 use Rattle.pst_scen.specs.declared.act.Filled.{Filled}
 use Rattle.pst_scen.specs.declared.act.Link.{Link}
 use Rattle.pst_scen.specs.declared.tree.Node.{Node}
-use Rattle.pst_scen.specs.declared.tree.Fill.{Fill}
-use Rattle.pst_scen.specs.declared.tree.Fill.TheVariants.{Compound, Leaf}
+use Rattle.pst_scen.specs.declared.tree.Fill.TheVariants.{Leaf}
 use Rattle.pst_scen.specs.declared.scenario.Scenario.{Scenario}
-use Rattle.pst_scen.specs.Tree.{IsNode, IsChild, StandsUnder, AtTop, Below}
+use Rattle.pst_scen.specs.Tree.{IsNode, StandsUnder, AtTop, Below}
 use Rattle.pst_scen.specs.Laws.{IsPreorder, HasOneLeafEach}
 use Rattle.pst_scen.specs.Scenarios.{AreInPreorder, HasLeavesFirst, leaf_of, leaves_of}
 use Rattle.pst_order.specs.Facts.{IsOutput, LinksStates, IsLinked}
 use Rattle.pst_order.specs.Built.{IsBuilt}
-use Rattle.pstim.specs.Straight.{atomic_scenario, compound_scenario, acts_from, act_at, leaves_from, nodes_under}
+use Rattle.pstim.specs.Straight.{atomic_scenario, compound_scenario, acts_from, leaves_from, nodes_under}
 use Rattle.pstim.proofs.Serial.{IsPlain, no_item, refers_not}
 use Rattle.pstim.proofs.Plain.{leaf_at, child_at, length-acts_from, compound_is_plain, atomic_is_plain}
 

@@ -1,10 +1,10 @@
 -- What a book on one lane does in a step.
-use Rattle.std.proofs.Common.{◌≡◌, ℕ, zero, suc, ◌+◌, ◌<◌, List, [], ◌∷◌, ◌++◌, length, length-append, ap, arith, true, false}
+use Rattle.std.proofs.Common.{◌≡◌, ℕ, zero, suc, ◌<◌, List, [], ◌∷◌, length, length-append, ap, arith, true, false}
 use Rattle.std.specs.Prelude.{Option, None, Some, MatchOption, IsSome}
 use Rattle.pst_scen.specs.declared.event.Event.{Event}
 use Rattle.pst_scen.specs.Trace.{StartsOn, Runs, IsHeld, starts_of}
 use Rattle.pst_book.specs.declared.book.Opened.{Opened}
-use Rattle.pst_book.specs.Books.{View, IsShut, DidOpen, with_trace}
+use Rattle.pst_book.specs.Books.{View, IsShut, DidOpen}
 
 starts_grow : (members used : List ℕ) → 0 < length members → length used ≡ length members → 0 < length (starts_of members used)
 starts_grow [] used some many = absurd (omega (arith, some))

@@ -1,6 +1,6 @@
 -- Words have one answer.
 use Rattle.std.proofs.Common.{◌≡◌, ◌∙◌, ℕ, ◌+◌, ◌<◌, ◌≤◌, ◌⊎◌, inl, inr, Bool, true, false, List, [], ◌∷◌, ◌++◌, length, refl, ap, sym, subst, arith}
-use Rattle.std.specs.Prelude.{Option, Some, None, codes, slice_get}
+use Rattle.std.specs.Prelude.{Some, None, codes, slice_get}
 use Rattle.pst_base.specs.Fault.{HasRisen, last_count}
 use Rattle.pst_base.specs.declared.position.Place.{Place}
 use Rattle.pst_io.specs.Shelf.{Files}

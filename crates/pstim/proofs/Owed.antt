@@ -1,6 +1,6 @@
 -- From replies to answers.
 use Rattle.std.proofs.Common.{ℕ, ◌+◌, List, refl, sym, subst, inl, inr}
-use Rattle.std.specs.Prelude.{Option, Result, Ok, Err, IfOk, string_bytes, ◌⊎◌}
+use Rattle.std.specs.Prelude.{Option, Result, Ok, Err, IfOk, string_bytes}
 use Rattle.std.specs.Option.{ForSome}
 use Rattle.pst_io.specs.Shelf.{Files}
 use Rattle.pstim.specs.declared.answer.Answer.{Answer}

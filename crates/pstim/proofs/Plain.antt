@@ -1,16 +1,13 @@
 -- The scenarios of the straight form are plain.
-use Rattle.std.proofs.Common.{◌≡◌, ◌∙◌, ℕ, zero, suc, ◌+◌, ◌<◌, ◌≤◌, List, [], ◌∷◌, length, refl, ap, sym, subst, arith}
-use Rattle.std.specs.Prelude.{Option, Some, None, slice_get}
+use Rattle.std.proofs.Common.{◌≡◌, ◌∙◌, ℕ, zero, suc, ◌+◌, ◌<◌, List, [], ◌∷◌, length, refl, ap, sym, subst, arith}
+use Rattle.std.specs.Prelude.{Some, None, slice_get}
 use Rattle.pst_scen.specs.declared.act.Act.{Act}
 use Rattle.pst_scen.specs.declared.tree.Node.{Node}
 use Rattle.pst_scen.specs.declared.tree.Fill.TheVariants.{Compound, Leaf}
-use Rattle.pst_scen.specs.declared.scenario.Scenario.{Scenario}
 use Rattle.pst_scen.specs.Tree.{IsChild, StandsUnder, AtTop, Below, Contains-act}
-use Rattle.pstim.specs.declared.parsing.Declaration.{Declaration}
-use Rattle.pstim.specs.Straight.{atomic_scenario, compound_scenario, acts_from, act_at, leaves_from, nodes_under, HasScenario, IsScenarioOf, names_of}
+use Rattle.pstim.specs.Straight.{atomic_scenario, compound_scenario, acts_from, act_at, leaves_from, nodes_under}
 use Rattle.pst_scen.specs.Plans.{IsParallel}
 use Rattle.pstim.proofs.Serial.{IsPlain}
-use Rattle.pstim.proofs.Named.{zip_length}
 
 -- an action that was made for a number
 pub made : (node : ℕ) (numbers : List ℕ) (a : ℕ) (act : Act) → slice_get (acts_from node numbers) a ≡ Some act → (act.references ≡ []) × (act.claims ≡ [])

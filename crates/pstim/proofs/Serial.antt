@@ -1,6 +1,6 @@
 -- Scenarios whose actions only stand in order.
-use Rattle.std.proofs.Common.{◌≡◌, ◌≢◌, ◌∙◌, ℕ, zero, suc, ◌+◌, ◌<◌, ◌≤◌, List, [], ◌∷◌, length, get_or, max, refl, ap, sym, subst, arith, Bool, true, false}
-use Rattle.std.specs.Prelude.{Some, slice_get, nat_eq, cond, ◌⊎◌}
+use Rattle.std.proofs.Common.{◌≡◌, ◌∙◌, ℕ, zero, suc, ◌+◌, ◌<◌, ◌≤◌, List, [], ◌∷◌, length, get_or, refl, ap, sym, subst, arith, Bool, true, false}
+use Rattle.std.specs.Prelude.{Some, slice_get, nat_eq, cond}
 use Rattle.std.proofs.lemmas.Bool.Decides.{nat_tests}
 use Rattle.std.proofs.lemmas.List.Recursion.{is_count_by}
 use Rattle.pst_scen.specs.declared.act.Act.{Act}

@@ -1,6 +1,6 @@
 -- Units of the straight form, and their declarations.
-use Rattle.std.proofs.Common.{◌≡◌, ◌∙◌, ℕ, Bool, true, false, not, Result, Ok, Err, IfOk, zero, suc, ◌+◌, ◌<◌, ◌≤◌, List, [], ◌∷◌, ◌++◌, length, length-append, get_or, take, map, refl, ap, sym, subst, arith}
-use Rattle.std.specs.Prelude.{Some, None, Option, slice_get, ◌==◌, codes, MatchOption}
+use Rattle.std.proofs.Common.{◌≡◌, ◌∙◌, ℕ, Bool, true, false, not, Result, Ok, Err, IfOk, ◌+◌, ◌<◌, ◌≤◌, List, [], ◌∷◌, ◌++◌, length, length-append, get_or, take, map, refl, ap, sym, subst, arith}
+use Rattle.std.specs.Prelude.{Some, None, Option, ◌==◌, codes, MatchOption}
 use Rattle.std.specs.Global.{Vec}
 use Rattle.std.specs.Str.{bytes_eq}
 use Rattle.std.proofs.lemmas.Slice.Eq.{bytes_eq-Decides}
@@ -9,9 +9,8 @@ use Rattle.std.proofs.lemmas.Bool.{both_ways}
 use Rattle.std.proofs.lemmas.Bool.Decides.{nat_tests}
 use Rattle.std.proofs.lemmas.List.{take_more, take_all}
 use Rattle.std.proofs.lemmas.Option.{slice_get_read}
-use Rattle.pst_token.specs.declared.token.Token.{Token}
-use Rattle.pst_ast.specs.ActivityTree.{ActivityTree, MakeActivity, StatementTree, StatementEmpty, StatementLabeled, StatementPlain, CoreTree, CoreDo, CoreHandle, CoreSequence, CoreTogether, CoreSelect, CoreRepeat, CoreIf, CoreIfElse, CoreMatch, CoreBind, WithNothing, WithSet}
-use Rattle.pst_ast.specs.DeclarationTree.{ActionPartTree, ActionPartField, ActionPartReference, ActionPartClaim, ActionPartMembers, ActionPartConstraint, ActionPartActivity, ActionPartBody, ActionPartEmpty, ActionTree, MakeAction, ComponentPartTree, ComponentPartAction, ComponentPartObject, ComponentPartEnum, ComponentPartFunction, ComponentPartPool, ComponentPartPoolBind, ComponentPartMembers, ComponentPartEmpty, ComponentTree, MakeComponent, ItemTree, ItemComponent, ItemObject, ItemEnum, ItemFunction, ItemEmpty, UnitTree, MakeUnit}
+use Rattle.pst_ast.specs.ActivityTree.{MakeActivity, StatementTree, StatementPlain, CoreDo, WithNothing}
+use Rattle.pst_ast.specs.DeclarationTree.{ActionPartTree, ActionPartActivity, MakeAction, ComponentPartTree, ComponentPartAction, MakeComponent, ItemComponent, ItemObject, ItemEnum, ItemFunction, ItemEmpty, UnitTree, MakeUnit}
 use Rattle.pst_token.specs.declared.kind.Kind.TheVariants as kind
 use Rattle.pst_ast.specs.Marks.{mark, name_token}
 use Rattle.pst_ast.specs.DeclarationSpelling.{spell_component_part, spell_item, spell_unit}

@@ -6,8 +6,8 @@ use Rattle.pst_token.specs.declared.token.Token.{Token}
 use Rattle.pst_lexer.specs.Numbering.{AreOwnTokens}
 use Rattle.pst_ast.specs.Answers.{IsWhole, IsFault}
 use Rattle.pst_ast.specs.Rule.{TheUnit}
-use Rattle.pst_ast.specs.ActivityTree.{ActivityTree, MakeActivity, StatementTree, StatementPlain, CoreTree, CoreDo, WithNothing}
-use Rattle.pst_ast.specs.DeclarationTree.{ActionPartTree, ActionPartActivity, ActionTree, MakeAction, ComponentPartTree, ComponentPartAction, ComponentTree, MakeComponent, ItemTree, ItemComponent, UnitTree, MakeUnit}
+use Rattle.pst_ast.specs.ActivityTree.{ActivityTree, MakeActivity, StatementTree, StatementPlain, CoreDo, WithNothing}
+use Rattle.pst_ast.specs.DeclarationTree.{ActionPartTree, ActionPartActivity, MakeAction, ComponentPartTree, ComponentPartAction, MakeComponent, ItemTree, ItemComponent, UnitTree, MakeUnit}
 use Rattle.pst_ast.specs.declared.fault.SyntaxFault.{SyntaxFault}
 use Rattle.pst_ast.specs.declared.fault.SyntaxFault.TheVariants as the_fault
 use Rattle.pst_ast.specs.declared.leaf.Name.{Name}

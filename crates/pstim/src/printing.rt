@@ -180,7 +180,7 @@ pub fn syntax_text(alloc: Global, file: &str, deep: bool, place: Place) -> Resul
     ensures { IfOk result (λ text. string_bytes text ≡ syntax_text_of file.now deep place) }
 {
     let sort = if deep { "deep " } else { "" };
-    let (line, column) = (place.line, place.column);
+    let Place { line, column, .. } = place;
     Ok(format!(in alloc; "syntax {sort}{file}:{line}:{column}\n")?)
 }
 

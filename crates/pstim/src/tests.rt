@@ -33,7 +33,7 @@ done 1
 ";
 
 /// The words of a line.
-fn words(alloc: Global, file: &str) -> Result<Vec<String>, AllocError> {
+pub fn words(alloc: Global, file: &str) -> Result<Vec<String>, AllocError> {
     let mut words = Vec::new(alloc);
     for word in ["run", "root=pss_top::entry", file] {
         words.push(String::from_str(alloc, word)?)?;
@@ -42,7 +42,7 @@ fn words(alloc: Global, file: &str) -> Result<Vec<String>, AllocError> {
 }
 
 /// A shelf with one source, `a.pss`.
-fn shelf(alloc: Global, source: &[u8], failing: Vec<u64>) -> Result<MemoryShelf, AllocError> {
+pub fn shelf(alloc: Global, source: &[u8], failing: Vec<u64>) -> Result<MemoryShelf, AllocError> {
     let mut files = Vec::new(alloc);
     files.push((
         String::from_str(alloc, "a.pss")?,
@@ -74,8 +74,8 @@ fn runs_straight_sources(rt: HostRuntime) -> Result<(), Fail> {
         ),
         (
             "component pss_top { action bind { } action entry { } }",
-            10,
-            "unbuilt\n",
+            1,
+            "syntax a.pss:1:28\n",
         ),
         (
             "component pss_top { action entry { } } /*/",
@@ -86,7 +86,7 @@ fn runs_straight_sources(rt: HostRuntime) -> Result<(), Fail> {
         ("9223372036854775808", 1, "lexical wide a.pss:1:1\n"),
         ("/* a", 1, "lexical bad a.pss:1:1\n"),
         ("do\n 9223372036854775808 07", 1, "lexical wide a.pss:2:2\n"),
-        ("9223372036854775807 0x0f <= a..b", 10, "unbuilt\n"),
+        ("9223372036854775807 0x0f <= a..b", 1, "syntax a.pss:1:1\n"),
         ("", 10, "unbuilt\n"),
     ] {
         let mut shelf = shelf(alloc, source.as_bytes(), Vec::new(alloc))?;

@@ -6,7 +6,7 @@ use Rattle.pstim.proofs.loading.finish.Goals as goal
 
 pub returns-in-Ok : goal.returns-in-Ok
 returns-in-Ok c = λ text fed.
-    lexed c.args.names.now c.finish.new.names text c.args.lexer c.in-Ok.tokens.items c.finish.result c.in-Ok.tokens c.in-Ok.is c.finish.ensures.again c.in-Ok.ensures.tokens c.in-Ok.ensures.room c.len.ensures.different c.in-Ok.ensures.numbered fed
+    lexed c.args.names.now c.finish.new.names text c.args.lexer c.in-Ok.tokens.items c.finish.result c.in-Ok.tokens c.in-Ok.is c.finish.ensures.again c.in-Ok.ensures.tokens c.in-Ok.ensures.room c.len-different.ensures.different c.in-Ok.ensures.numbered fed
 
 pub returns-in-Err-Bad : goal.returns-in-Err-Bad
 returns-in-Err-Bad c = λ text fed.

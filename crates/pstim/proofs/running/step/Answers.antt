@@ -1,4 +1,4 @@
-use Rattle.std.proofs.Common.{◌≡◌, ℕ, ◌<◌, List, subst, sym}
+use Rattle.std.proofs.Common.{ℕ, ◌<◌, List, subst, sym}
 use Rattle.pst_scen.specs.declared.event.Event.{Event}
 use Rattle.pst_scen.specs.Trace.{StartsOn}
 use Rattle.pstim.proofs.Driven.{opened_grows, nothing_runs}

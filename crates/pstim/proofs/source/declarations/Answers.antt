@@ -1,4 +1,4 @@
-use Rattle.std.proofs.Common.{◌≡◌, ◌+◌, List, sym, subst, take}
+use Rattle.std.proofs.Common.{◌+◌, List, sym, subst, take}
 use Rattle.std.specs.List.{AllZip}
 use Rattle.pst_ast.specs.DeclarationView.{view_component_part}
 use Rattle.pstim.specs.declared.parsing.Declaration.{Declaration}

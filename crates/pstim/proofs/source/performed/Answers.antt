@@ -1,4 +1,4 @@
-use Rattle.std.proofs.Common.{◌≡◌, ◌+◌, ℕ, List, sym, subst, take}
+use Rattle.std.proofs.Common.{◌+◌, ℕ, List, sym, subst, take}
 use Rattle.std.specs.List.{AllZip}
 use Rattle.pst_ast.specs.ActivityView.{view_statement}
 use Rattle.pstim.specs.Source.{IsDo}
