@@ -222,8 +222,7 @@ fn limits(rt: HostRuntime) -> Result<(), Fail> {
     Ok(())
 }
 
-// The operators of a tree's root and of the parts on its left and right, where they have one; `in`
-// has a part on the left alone.
+// The operators of a tree's root and of the parts on its left and right, where they have one.
 fn shape(tree: &ExprNode) -> [Option<Operator>; 3] {
     match tree {
         ExprNode::Binary {
@@ -232,7 +231,6 @@ fn shape(tree: &ExprNode) -> [Option<Operator>; 3] {
             right,
             ..
         } => [root(left), Some(*operator), root(right)],
-        ExprNode::In { left, .. } => [root(left), None, None],
         _ => [None, None, None],
     }
 }
@@ -294,8 +292,6 @@ fn operators_group(rt: HostRuntime) {
         shape_of(alloc, &[A, Kind::GreaterGreater, A, MINUS, A])
             == Ok([None, Some(Operator::ShiftRight), Some(Operator::Subtract)])
     );
-    let sum_in_range = [A, PLUS, A, STAR, A, Kind::In, LB, N, Kind::DotDot, N, RB];
-    assert!(rt; shape_of(alloc, &sum_in_range) == Ok([Some(Operator::Add), None, None]));
 }
 
 #[test]

@@ -2,7 +2,10 @@ ghost use Rattle.std.specs.Prelude.{◌≡◌, IfOk};
 ghost use Rattle.pst_token.specs.Laws.{EndsOnce};
 
 use crate::parse_unit;
-use pst_ast::SyntaxFault;
+use pst_ast::{
+    ActionPart, ComponentPart, ConstraintContent, ConstraintItem, ConstraintNode, ExprNode, Item,
+    Operator, SyntaxFault, Unit,
+};
 use pst_base::{NameId, NoMemory, Place};
 use pst_reading::kind_number;
 use pst_token::{Kind, Token};
@@ -217,4 +220,81 @@ fn operators(rt: HostRuntime) -> Result<(), NoMemory> {
 fn want_of_memory(rt: HostRuntime) {
     let parts = outcome(rt.alloc(), &EACH_PART);
     assert!(rt; parts == Ok(5) || parts == Err(SyntaxFault::NoMemory));
+}
+
+// The first constraint of the first action of the first component.
+fn first_constraint(unit: &Unit) -> Option<&ConstraintNode> {
+    let (item, _) = unit.items.split_first()?;
+    let Item::Component(component) = item else {
+        return None;
+    };
+    let (part, _) = component.parts.split_first()?;
+    let ComponentPart::Action(action) = part else {
+        return None;
+    };
+    let (part, _) = action.parts.split_first()?;
+    let ActionPart::Constraint(constraint) = part else {
+        return None;
+    };
+    match &constraint.content {
+        ConstraintContent::Set(set) => Some(set),
+        ConstraintContent::Named { .. } => None,
+    }
+}
+
+fn expr_of(item: &ConstraintItem) -> Option<&ExprNode> {
+    match item {
+        ConstraintItem::Expr { expr, .. } => Some(expr),
+        _ => None,
+    }
+}
+
+fn operator_of(expr: &ExprNode) -> Option<Operator> {
+    match expr {
+        ExprNode::Binary { operator, .. } => Some(*operator),
+        _ => None,
+    }
+}
+
+// The operator on the left of `in`, where the first constraint has `in` at its root.
+fn left_of_in(unit: &Unit) -> Option<Operator> {
+    let ConstraintNode::One(item) = first_constraint(unit)? else {
+        return None;
+    };
+    let ExprNode::In { left, .. } = expr_of(item)? else {
+        return None;
+    };
+    operator_of(left)
+}
+
+// `a + b * c in [1..2]` has the comparison at its root, and the sum on its left.
+#[test]
+fn sum_in_range(rt: HostRuntime) {
+    let alloc = rt.alloc();
+    let kinds = [
+        Kind::Component,
+        A,
+        OPEN,
+        Kind::Action,
+        A,
+        OPEN,
+        Kind::Constraint,
+        A,
+        Kind::Plus,
+        A,
+        Kind::Star,
+        A,
+        Kind::In,
+        Kind::LeftBracket,
+        N,
+        Kind::DotDot,
+        N,
+        Kind::RightBracket,
+        Kind::Semicolon,
+        CLOSE,
+        CLOSE,
+    ];
+    let tokens = tokens_of(alloc, &kinds).expect(&rt, "memory");
+    let unit = parse_unit(alloc, tokens.as_slice()).expect(&rt, "a unit");
+    assert!(rt; left_of_in(&unit) == Some(Operator::Add));
 }
