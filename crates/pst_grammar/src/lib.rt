@@ -1,0 +1,4 @@
+//! Laws of the whole grammar, above the parsers.
+#![tactic(auto)]
+
+pub mod laws;
