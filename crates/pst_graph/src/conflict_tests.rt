@@ -36,47 +36,38 @@ fn act(alloc: Global, claims: Vec<Claimed>, references: Vec<Filled>) -> Act {
     }
 }
 
+// An action that claims an instance of the resource pool.
+fn claims(alloc: Global, instance: u32, lock: bool) -> Result<Act, NoMemory> {
+    let claims = vec![in alloc; claim(alloc, 3, instance, lock)]?;
+    Ok(act(alloc, claims, Vec::new(alloc)))
+}
+
+// An action that uses the state pool.
+fn uses(alloc: Global, flow: Flow) -> Result<Act, NoMemory> {
+    let references = vec![in alloc; reference(alloc, 7, flow)]?;
+    Ok(act(alloc, Vec::new(alloc), references))
+}
+
+// An action that reads the state and locks an instance.
+fn reads_and_locks(alloc: Global, instance: u32) -> Result<Act, NoMemory> {
+    let claims = vec![in alloc; claim(alloc, 3, instance, true)]?;
+    let references = vec![in alloc; reference(alloc, 7, Flow::StateIn)]?;
+    Ok(act(alloc, claims, references))
+}
+
 // A lock of an instance, two shares of it, a lock of another instance, a writer and a reader of a
 // state pool, and one that reads it and locks the other instance.
 fn users(alloc: Global) -> Result<Scenario, NoMemory>
     ensures { IfOk result (λ s. length s.actions ≡ 7) }
 {
-    let lock = act(
-        alloc,
-        vec![in alloc; claim(alloc, 3, 0, true)]?,
-        Vec::new(alloc),
-    );
-    let share = act(
-        alloc,
-        vec![in alloc; claim(alloc, 3, 0, false)]?,
-        Vec::new(alloc),
-    );
-    let again = act(
-        alloc,
-        vec![in alloc; claim(alloc, 3, 0, false)]?,
-        Vec::new(alloc),
-    );
-    let other = act(
-        alloc,
-        vec![in alloc; claim(alloc, 3, 1, true)]?,
-        Vec::new(alloc),
-    );
-    let writer = act(
-        alloc,
-        Vec::new(alloc),
-        vec![in alloc; reference(alloc, 7, Flow::StateOut)]?,
-    );
-    let reader = act(
-        alloc,
-        Vec::new(alloc),
-        vec![in alloc; reference(alloc, 7, Flow::StateIn)]?,
-    );
-    let both = act(
-        alloc,
-        vec![in alloc; claim(alloc, 3, 1, true)]?,
-        vec![in alloc; reference(alloc, 7, Flow::StateIn)]?,
-    );
-    let actions = vec![in alloc; lock, share, again, other, writer, reader, both]?;
+    let mut actions = Vec::new(alloc);
+    actions.push(claims(alloc, 0, true)?)?;
+    actions.push(claims(alloc, 0, false)?)?;
+    actions.push(claims(alloc, 0, false)?)?;
+    actions.push(claims(alloc, 1, true)?)?;
+    actions.push(uses(alloc, Flow::StateOut)?)?;
+    actions.push(uses(alloc, Flow::StateIn)?)?;
+    actions.push(reads_and_locks(alloc, 1)?)?;
     Ok(Scenario {
         level: 7,
         nodes: Items::empty(alloc),

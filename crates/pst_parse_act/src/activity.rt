@@ -163,13 +163,14 @@ fn select_core(
 {
     let select = expect(tokens, at, Kind::Select, depth, 0)?;
     let left_brace = expect(tokens, at + 1, Kind::LeftBrace, depth, 0)?;
-    let (first, behind) = branch(alloc, tokens, at + 2, depth)?;
+    let (head, behind) = branch(alloc, tokens, at + 2, depth)?;
+    let first = boxed(alloc, head)?;
     let (rest, after) = branches(alloc, tokens, behind, depth)?;
     let right_brace = expect(tokens, after, Kind::RightBrace, depth, 0)?;
     let core = CoreNode::Select {
         select,
         left_brace,
-        first: boxed(alloc, first)?,
+        first,
         rest,
         right_brace,
     };
@@ -310,7 +311,8 @@ fn match_core(
     let (expr, behind) = outermost(alloc, tokens, at + 2, depth)?;
     let right_parenthesis = expect(tokens, behind, Kind::RightParenthesis, depth, 0)?;
     let left_brace = expect(tokens, behind + 1, Kind::LeftBrace, depth, 0)?;
-    let (first, after) = arm(alloc, tokens, behind + 2, depth)?;
+    let (head, after) = arm(alloc, tokens, behind + 2, depth)?;
+    let first = boxed(alloc, head)?;
     let (rest, end) = arms(alloc, tokens, after, depth)?;
     let right_brace = expect(tokens, end, Kind::RightBrace, depth, 0)?;
     let core = CoreNode::Match {
@@ -319,7 +321,7 @@ fn match_core(
         expr,
         right_parenthesis,
         left_brace,
-        first: boxed(alloc, first)?,
+        first,
         rest,
         right_brace,
     };

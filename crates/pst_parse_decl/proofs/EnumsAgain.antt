@@ -3,14 +3,14 @@ use Rattle.pst_ast.specs.DeclarationLimits.{counts_enum_value, counts_enum_item,
 use Rattle.pst_ast.specs.DeclarationProper.{IsProperEnumValue, IsProperEnumItem, IsProperNextEnumItem, IsProperEnum, IsProperAnswer, IsProperParameter, IsProperNextParameter, IsProperParameters, IsProperFunction}
 use Rattle.pst_ast.specs.DeclarationSpelling.{spell_enum_value, spell_enum_item, spell_next_enum_item, spell_enum, spell_answer, spell_parameter, spell_next_parameter, spell_parameters, spell_function}
 use Rattle.pst_ast.specs.DeclarationTree.{EnumValueTree, EnumItemTree, NextEnumItemTree, EnumTree, AnswerTree, ParameterTree, NextParameterTree, ParametersTree, FunctionTree, MakeEnumValue, MakeEnumItem, MakeNextEnumItem, MakeEnum, AnswerVoid, AnswerPlain, MakeParameter, MakeNextParameter, MakeParameters, MakeFunction}
-use Rattle.pst_ast.specs.Limits.{counted}
-use Rattle.pst_ast.specs.Marks.{mark, name_token, spell_option}
+use Rattle.pst_ast.specs.Limits.{Count, counted, counts_option}
+use Rattle.pst_ast.specs.Marks.{mark, name_token, spell_option, OptionIs}
 use Rattle.pst_ast.specs.SharedLimits.{counts_plain}
 use Rattle.pst_ast.specs.SharedSpelling.{spell_plain}
 use Rattle.pst_base.specs.declared.position.Place.{Place}
 use Rattle.pst_parse_decl.proofs.Following.{other_mark, other_name, ends_there, next_list_in, next_part_in, any_option, mark_rereads, expr_rereads, reread_made, reread_empty}
 use Rattle.pst_parse_decl.proofs.TypesAgain.{plain_rereads, plain_begins}
-use Rattle.pst_parse_decl.specs.Enums.{parameters_by, function_by, next_enum_item_by, enum_by, enum_item_by, parameter_by, enum_value_by, answer_by, next_parameter_by}
+use Rattle.pst_parse_decl.specs.Enums.{parameters_by, function_rest_by, function_by, next_enum_item_by, enum_by, enum_item_by, parameter_by, enum_value_by, answer_by, next_parameter_by}
 use Rattle.pst_parse_decl.specs.Types.{plain_by}
 use Rattle.pst_parse_expr.proofs.SharedLaws.{IsAny}
 use Rattle.pst_parse_expr.proofs.Stops.{IsNo, Separates, right_brace_closes, comma_closes}
@@ -106,18 +106,32 @@ parameter_found (MakeParameter None plain name) us = ap (λ (b : Bool). if b the
 parameters_found : (x : ParametersTree) (us : List Token) → is_other kind.RightParenthesis (next (spell_parameters x ++ us)) ≡ true
 parameters_found (MakeParameters first rest) us = next_part_in (λ n. is_other kind.RightParenthesis n ≡ true) (spell_parameter first) (flat_map spell_next_parameter rest) us (parameter_found first _)
 
-pub function_rereads : (size depth : ℕ) (x : FunctionTree) → IsProperFunction x → length (spell_function x) ≤ size → Rereads Anything (function_by size depth) (spell_function x) (counts_function depth x) x
-function_rereads size depth (MakeFunction import_place target function answer name left_parenthesis parameters right_parenthesis semicolon) proper short =
-    let long = length-append (spell_option (λ p. mark kind.Target p ∷ []) target) (mark kind.Function function ∷ (spell_answer answer ++ name_token name ∷ mark kind.LeftParenthesis left_parenthesis ∷ (spell_option spell_parameters parameters ++ mark kind.RightParenthesis right_parenthesis ∷ mark kind.Semicolon semicolon ∷ []))) in
-    let long2 = length-append (spell_answer answer) (name_token name ∷ mark kind.LeftParenthesis left_parenthesis ∷ (spell_option spell_parameters parameters ++ mark kind.RightParenthesis right_parenthesis ∷ mark kind.Semicolon semicolon ∷ [])) in
-    let long3 = length-append (spell_option spell_parameters parameters) (mark kind.RightParenthesis right_parenthesis ∷ mark kind.Semicolon semicolon ∷ []) in
-    reread_mark _ kind.Import (counted depth 0) _ import_place _ _ _
-    (reread_part _ (EndsOption (is_at kind.Target) Anything) (option_by (is_at kind.Target) (mark_by kind.Target (counted depth 0))) _ (spell_option (λ p. mark kind.Target p ∷ []) target) _ target _ _ _ (reread_option (λ p. mark kind.Target p ∷ []) IsAny (λ p. counted depth 0 ∷ []) (is_at kind.Target) Anything (mark_by kind.Target (counted depth 0)) size (λ x p n. mark_rereads kind.Target (counted depth 0) x) (λ x us. mark_is_so kind.Target x) target (any_option target) (omega (arith, short, long, long2, long3))) (λ more m. ((other_mark kind.Target kind.Function function refl), tt))
-    (reread_mark _ kind.Function (counted depth 0) _ function _ _ _
-    (reread_part _ (IsNo kind.LeftBracket) (answer_by size depth) _ (spell_answer answer) _ answer _ _ _ (answer_rereads size depth answer proper.0 (omega (arith, short, long, long2, long3))) (λ more m. (other_name kind.LeftBracket name refl))
-    (reread_name _ (counted depth 0) _ name _ _ _
-    (reread_mark _ kind.LeftParenthesis (counted depth 0) _ left_parenthesis _ _ _
-    (reread_part _ (EndsOption (is_other kind.RightParenthesis) (EndsOption (is_at kind.Comma) Anything)) (option_by (is_other kind.RightParenthesis) (parameters_by size depth)) _ (spell_option spell_parameters parameters) _ parameters _ _ _ (reread_option spell_parameters IsProperParameters (counts_parameters depth) (is_other kind.RightParenthesis) (EndsOption (is_at kind.Comma) Anything) (parameters_by size depth) size (λ x p n. (parameters_rereads size depth x p n)) (λ x us. parameters_found x us) parameters proper.1 (omega (arith, short, long, long2, long3))) (λ more m. ((ends_there kind.RightParenthesis right_parenthesis), ((other_mark kind.Comma kind.RightParenthesis right_parenthesis refl), tt)))
+spell_rest : Place → Option ParametersTree → Place → Place → List Token
+spell_rest left_parenthesis parameters right_parenthesis semicolon = mark kind.LeftParenthesis left_parenthesis ∷ (spell_option spell_parameters parameters ++ mark kind.RightParenthesis right_parenthesis ∷ mark kind.Semicolon semicolon ∷ [])
+
+counts_rest : ℕ → Option ParametersTree → List Count
+counts_rest depth parameters = counted depth 0 ∷ (counts_option (counts_parameters depth) parameters ++ counted depth 0 ∷ counted depth 0 ∷ [])
+
+function_rest_rereads : (size depth : ℕ) (left_parenthesis : Place) (parameters : Option ParametersTree) (right_parenthesis semicolon : Place) → OptionIs IsProperParameters parameters
+    → length (spell_rest left_parenthesis parameters right_parenthesis semicolon) ≤ size
+    → Rereads Anything (function_rest_by size depth) (spell_rest left_parenthesis parameters right_parenthesis semicolon) (counts_rest depth parameters)
+    (record { left_parenthesis = left_parenthesis; parameters = parameters; right_parenthesis = right_parenthesis; semicolon = semicolon })
+function_rest_rereads size depth left_parenthesis parameters right_parenthesis semicolon proper short =
+    let long = length-append (spell_option spell_parameters parameters) (mark kind.RightParenthesis right_parenthesis ∷ mark kind.Semicolon semicolon ∷ []) in
+    reread_mark _ kind.LeftParenthesis (counted depth 0) _ left_parenthesis _ _ _
+    (reread_part _ (EndsOption (is_other kind.RightParenthesis) (EndsOption (is_at kind.Comma) Anything)) (option_by (is_other kind.RightParenthesis) (parameters_by size depth)) _ (spell_option spell_parameters parameters) _ parameters _ _ _ (reread_option spell_parameters IsProperParameters (counts_parameters depth) (is_other kind.RightParenthesis) (EndsOption (is_at kind.Comma) Anything) (parameters_by size depth) size (λ x p n. (parameters_rereads size depth x p n)) (λ x us. parameters_found x us) parameters proper (omega (arith, short, long))) (λ more m. ((ends_there kind.RightParenthesis right_parenthesis), ((other_mark kind.Comma kind.RightParenthesis right_parenthesis refl), tt)))
     (reread_mark _ kind.RightParenthesis (counted depth 0) _ right_parenthesis _ _ _
     (reread_mark _ kind.Semicolon (counted depth 0) _ semicolon _ _ _
-    (reread_done _ _)))))))))
+    (reread_done _ _))))
+
+pub function_rereads : (size depth : ℕ) (x : FunctionTree) → IsProperFunction x → length (spell_function x) ≤ size → Rereads Anything (function_by size depth) (spell_function x) (counts_function depth x) x
+function_rereads size depth (MakeFunction import_place target function answer name left_parenthesis parameters right_parenthesis semicolon) proper short =
+    let rest = spell_rest left_parenthesis parameters right_parenthesis semicolon in
+    let long = length-append (spell_option (λ p. mark kind.Target p ∷ []) target) (mark kind.Function function ∷ (spell_answer answer ++ name_token name ∷ rest)) in
+    let long2 = length-append (spell_answer answer) (name_token name ∷ rest) in
+    reread_mark _ kind.Import (counted depth 0) _ import_place _ _ _
+    (reread_part _ (EndsOption (is_at kind.Target) Anything) (option_by (is_at kind.Target) (mark_by kind.Target (counted depth 0))) _ (spell_option (λ p. mark kind.Target p ∷ []) target) _ target _ _ _ (reread_option (λ p. mark kind.Target p ∷ []) IsAny (λ p. counted depth 0 ∷ []) (is_at kind.Target) Anything (mark_by kind.Target (counted depth 0)) size (λ x p n. mark_rereads kind.Target (counted depth 0) x) (λ x us. mark_is_so kind.Target x) target (any_option target) (omega (arith, short, long, long2))) (λ more m. ((other_mark kind.Target kind.Function function refl), tt))
+    (reread_mark _ kind.Function (counted depth 0) _ function _ _ _
+    (reread_part _ (IsNo kind.LeftBracket) (answer_by size depth) _ (spell_answer answer) _ answer _ _ _ (answer_rereads size depth answer proper.0 (omega (arith, short, long, long2))) (λ more m. (other_name kind.LeftBracket name refl))
+    (reread_name _ (counted depth 0) _ name _ _ _
+    (reread_last _ (function_rest_by size depth) _ _ _ _ _ (function_rest_rereads size depth left_parenthesis parameters right_parenthesis semicolon proper.1 (omega (arith, short, long, long2))) refl)))))

@@ -6,14 +6,14 @@ use Rattle.pst_ast.specs.DeclarationTree.{MakeEnumValue, MakeEnumItem, MakeNextE
 use Rattle.pst_ast.specs.ExpressionLimits.{counts_expr}
 use Rattle.pst_ast.specs.ExpressionProper.{IsProperExpr}
 use Rattle.pst_ast.specs.ExpressionSpelling.{spell_expr}
-use Rattle.pst_ast.specs.Limits.{counted, counts_option}
+use Rattle.pst_ast.specs.Limits.{Count, counted, counts_option}
 use Rattle.pst_ast.specs.Marks.{mark, spell_option, OptionIs}
 use Rattle.pst_ast.specs.SharedLimits.{counts_plain}
 use Rattle.pst_ast.specs.SharedProper.{IsProperPlain}
 use Rattle.pst_ast.specs.SharedSpelling.{spell_plain}
 use Rattle.pst_parse_decl.proofs.ChoicesExplain.{explains_if_mark, explains_option, mark_is_explained, explains_made, explains_empty}
 use Rattle.pst_parse_decl.proofs.TypesExplain.{plain_explains}
-use Rattle.pst_parse_decl.specs.Enums.{parameters_by, function_by, next_enum_item_by, enum_by, enum_item_by, parameter_by, enum_value_by, answer_by, next_parameter_by}
+use Rattle.pst_parse_decl.specs.Enums.{parameters_by, FunctionRestTree, function_rest_by, function_by, next_enum_item_by, enum_by, enum_item_by, parameter_by, enum_value_by, answer_by, next_parameter_by}
 use Rattle.pst_parse_decl.specs.Types.{plain_by}
 use Rattle.pst_parse_expr.proofs.Answering.{explains}
 use Rattle.pst_parse_expr.proofs.SharedLaws.{IsAny}
@@ -25,7 +25,8 @@ use Rattle.pst_reading.specs.Lists.{list_by}
 use Rattle.pst_reading.specs.Options.{option_by}
 use Rattle.pst_reading.specs.Parser.{mark_by}
 use Rattle.pst_token.specs.declared.kind.Kind.TheVariants as kind
-use Rattle.std.proofs.Common.{refl, append-nil, ℕ, suc, [], ◌∷◌}
+use Rattle.pst_token.specs.declared.token.Token.{Token}
+use Rattle.std.proofs.Common.{refl, append-nil, ℕ, suc, List, [], ◌∷◌, ◌++◌}
 use Rattle.std.specs.List.{flat_map, AllByRecursion}
 
 pub enum_value_explains : (size depth : ℕ) → Explains (Means spell_enum_value IsProperEnumValue (counts_enum_value depth)) (enum_value_by size depth)
@@ -81,6 +82,23 @@ parameters_explains size depth =
     explains_part _ (flat_map spell_next_parameter) (AllByRecursion IsProperNextParameter) (flat_map (counts_next_parameter depth)) (list_by (is_at kind.Comma) (next_parameter_by size depth) size) _ (list_explains spell_next_parameter IsProperNextParameter (counts_next_parameter depth) (is_at kind.Comma) (next_parameter_by size depth) (next_parameter_explains size depth) size) (λ rest h1.
     explains_done _ (MakeParameters first rest) (record { is = rw append-nil refl; proper = (h0, h1); counted = rw append-nil refl })))
 
+spell_function_rest : FunctionRestTree → List Token
+spell_function_rest r = mark kind.LeftParenthesis r.left_parenthesis ∷ (spell_option spell_parameters r.parameters ++ mark kind.RightParenthesis r.right_parenthesis ∷ mark kind.Semicolon r.semicolon ∷ [])
+
+IsProperFunctionRest : FunctionRestTree → Type 0
+IsProperFunctionRest r = OptionIs IsProperParameters r.parameters
+
+counts_function_rest : ℕ → FunctionRestTree → List Count
+counts_function_rest depth r = counted depth 0 ∷ (counts_option (counts_parameters depth) r.parameters ++ counted depth 0 ∷ counted depth 0 ∷ [])
+
+function_rest_explains : (size depth : ℕ) → Explains (Means spell_function_rest IsProperFunctionRest (counts_function_rest depth)) (function_rest_by size depth)
+function_rest_explains size depth =
+    explains_mark _ kind.LeftParenthesis (counted depth 0) _ (λ opening.
+    explains_part _ (spell_option spell_parameters) (OptionIs IsProperParameters) (counts_option (counts_parameters depth)) (option_by (is_other kind.RightParenthesis) (parameters_by size depth)) _ (explains_option spell_parameters IsProperParameters (counts_parameters depth) (is_other kind.RightParenthesis) (parameters_by size depth) (parameters_explains size depth)) (λ listed h1.
+    explains_mark _ kind.RightParenthesis (counted depth 0) _ (λ closing.
+    explains_mark _ kind.Semicolon (counted depth 0) _ (λ ending.
+    explains_done _ (record { left_parenthesis = opening; parameters = listed; right_parenthesis = closing; semicolon = ending }) (record { is = refl; proper = h1; counted = refl })))))
+
 pub function_explains : (size depth : ℕ) → Explains (Means spell_function IsProperFunction (counts_function depth)) (function_by size depth)
 function_explains size depth =
     explains_mark _ kind.Import (counted depth 0) _ (λ import_place.
@@ -88,8 +106,5 @@ function_explains size depth =
     explains_mark _ kind.Function (counted depth 0) _ (λ function.
     explains_part _ spell_answer IsProperAnswer (counts_answer depth) (answer_by size depth) _ (answer_explains size depth) (λ answer h3.
     explains_name _ (counted depth 0) _ (λ name.
-    explains_mark _ kind.LeftParenthesis (counted depth 0) _ (λ left_parenthesis.
-    explains_part _ (spell_option spell_parameters) (OptionIs IsProperParameters) (counts_option (counts_parameters depth)) (option_by (is_other kind.RightParenthesis) (parameters_by size depth)) _ (explains_option spell_parameters IsProperParameters (counts_parameters depth) (is_other kind.RightParenthesis) (parameters_by size depth) (parameters_explains size depth)) (λ parameters h6.
-    explains_mark _ kind.RightParenthesis (counted depth 0) _ (λ right_parenthesis.
-    explains_mark _ kind.Semicolon (counted depth 0) _ (λ semicolon.
-    explains_done _ (MakeFunction import_place target function answer name left_parenthesis parameters right_parenthesis semicolon) (record { is = refl; proper = (h3, h6); counted = refl }))))))))))
+    explains_part _ spell_function_rest IsProperFunctionRest (counts_function_rest depth) (function_rest_by size depth) _ (function_rest_explains size depth) (λ rest h5.
+    explains_done _ (MakeFunction import_place target function answer name rest.left_parenthesis rest.parameters rest.right_parenthesis rest.semicolon) (record { is = rw append-nil refl; proper = (h3, h5); counted = rw append-nil refl })))))))

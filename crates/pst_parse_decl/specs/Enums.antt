@@ -1,13 +1,14 @@
 -- Enums and functions, parsed from left to right.
 use Rattle.pst_ast.specs.DeclarationTree.{EnumValueTree, EnumItemTree, NextEnumItemTree, EnumTree, AnswerTree, ParameterTree, NextParameterTree, ParametersTree, FunctionTree, MakeEnumValue, MakeEnumItem, MakeNextEnumItem, MakeEnum, AnswerVoid, AnswerPlain, MakeParameter, MakeNextParameter, MakeParameters, MakeFunction}
 use Rattle.pst_ast.specs.Limits.{counted}
+use Rattle.pst_base.specs.declared.position.Place.{Place}
 use Rattle.pst_parse_decl.specs.Types.{plain_by}
 use Rattle.pst_parse_expr.specs.Constraints.{Within, outermost_at, is_at, is_other}
 use Rattle.pst_reading.specs.Lists.{list_by}
 use Rattle.pst_reading.specs.Options.{option_by}
 use Rattle.pst_reading.specs.Parser.{Done, followed_by, ◌>>=◌, mark_by, name_by, if_mark}
 use Rattle.pst_token.specs.declared.kind.Kind.TheVariants as kind
-use Rattle.std.specs.Prelude.{ℕ, suc}
+use Rattle.std.specs.Prelude.{ℕ, suc, Option}
 
 -- "=" expr
 abbrev pub enum_value_by : ℕ → Within EnumValueTree
@@ -73,6 +74,22 @@ parameters_by size depth = do
   rest ← list_by (is_at kind.Comma) (next_parameter_by size depth) size
   Done (MakeParameters first rest)
 
+-- what stands behind the name of a function
+pub record FunctionRestTree : Type 0 where
+  pub left_parenthesis : Place
+  pub parameters : Option ParametersTree
+  pub right_parenthesis : Place
+  pub semicolon : Place
+
+-- "(" [ param { "," param } ] ")" ";"
+abbrev pub function_rest_by : ℕ → Within FunctionRestTree
+function_rest_by size depth = do
+  opening ← mark_by kind.LeftParenthesis (counted depth 0)
+  listed ← option_by (is_other kind.RightParenthesis) (parameters_by size depth)
+  closing ← mark_by kind.RightParenthesis (counted depth 0)
+  ending ← mark_by kind.Semicolon (counted depth 0)
+  Done (record { left_parenthesis = opening; parameters = listed; right_parenthesis = closing; semicolon = ending })
+
 -- function = "import" ["target"] "function" ("void" | plain) NAME "(" [ param { "," param } ] ")" ";"
 abbrev pub function_by : ℕ → Within FunctionTree
 function_by size depth = do
@@ -81,8 +98,5 @@ function_by size depth = do
   function ← mark_by kind.Function (counted depth 0)
   answer ← answer_by size depth
   name ← name_by (counted depth 0)
-  left_parenthesis ← mark_by kind.LeftParenthesis (counted depth 0)
-  parameters ← option_by (is_other kind.RightParenthesis) (parameters_by size depth)
-  right_parenthesis ← mark_by kind.RightParenthesis (counted depth 0)
-  semicolon ← mark_by kind.Semicolon (counted depth 0)
-  Done (MakeFunction import_place target function answer name left_parenthesis parameters right_parenthesis semicolon)
+  rest ← function_rest_by size depth
+  Done (MakeFunction import_place target function answer name rest.left_parenthesis rest.parameters rest.right_parenthesis rest.semicolon)

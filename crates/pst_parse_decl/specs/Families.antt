@@ -3,6 +3,7 @@ use Rattle.pst_ast.specs.ActivityTree.{ActivityTree}
 use Rattle.pst_ast.specs.BodyTree.{BodyTree}
 use Rattle.pst_ast.specs.ConstraintTree.{ConstraintTree, ConstraintContentTree, ConstraintDeclarationTree, ConstraintContentNamed}
 use Rattle.pst_ast.specs.DeclarationTree.{NextFieldTree, FieldTree, ReferenceTree, ClaimTree, MembersTree, ActionPartTree, ActionTree, ObjectPartTree, ObjectTree, EnumValueTree, EnumItemTree, NextEnumItemTree, EnumTree, AnswerTree, ParameterTree, NextParameterTree, ParametersTree, FunctionTree, SizeTree, PoolTree, TargetTree, NextTargetTree, TargetsTree, PoolBindTree, ComponentPartTree, ComponentTree, ItemTree}
+use Rattle.pst_ast.specs.DeclarationView.{view_parameters}
 use Rattle.pst_ast.specs.ExpressionTree.{PartTree, RangesTree, NextRangeTree, RangeTree, MaybeIndex}
 use Rattle.pst_ast.specs.Limits.{counted}
 use Rattle.pst_ast.specs.SharedTree.{NamesTree, LowTree, WidthTree, PlainTree, DomainTree, TypeTree}
@@ -16,11 +17,12 @@ use Rattle.pst_ast.specs.declared.shared.TypeName.{TypeName}
 use Rattle.pst_base.specs.declared.position.Place.{Place}
 use Rattle.pst_parse_decl.specs.Actions.{action_part_by, base_by, action_by}
 use Rattle.pst_parse_decl.specs.Components.{item_by, component_part_by, component_by}
-use Rattle.pst_parse_decl.specs.Enums.{next_enum_item_by, enum_value_by, enum_by, answer_by, parameter_by, function_by, next_parameter_by, parameters_by, enum_item_by}
+use Rattle.pst_parse_decl.specs.Enums.{next_enum_item_by, enum_value_by, enum_by, answer_by, parameter_by, FunctionRestTree, function_rest_by, function_by, next_parameter_by, parameters_by, enum_item_by}
 use Rattle.pst_parse_decl.specs.Members.{claim_word_by, reference_by, names_by, members_by, reference_word_by, part_by, next_name_by, claim_by, next_field_by, field_by}
 use Rattle.pst_parse_decl.specs.Objects.{content_by, object_part_by, set_content_by, object_word_by, object_by, constraint_declaration_by}
 use Rattle.pst_parse_decl.specs.Pools.{target_by, several_targets_by, next_target_by, targets_by, pool_by, pool_bind_by, size_by}
 use Rattle.pst_parse_decl.specs.Types.{scoped_name_by, int_by, named_type_by, width_by, range_by, domain_by, next_range_by, plain_type_by, ranges_by, type_by, type_name_by, plain_by, bit_by, low_by}
+use Rattle.pst_parse_decl.specs.declared.enums.FunctionRest.{FunctionRest}
 use Rattle.pst_parse_expr.specs.ConstraintFamilies.{items_family}
 use Rattle.pst_parse_expr.specs.Constraints.{Within, constraint_at}
 use Rattle.pst_parse_expr.specs.Reading.{expr_at, maybe_index_by}
@@ -29,6 +31,7 @@ use Rattle.pst_reading.specs.Parser.{Done, ◌>>=◌, mark_by, name_by}
 use Rattle.pst_token.specs.declared.kind.Kind.TheVariants as kind
 use Rattle.pst_token.specs.declared.kind.Kind.{Kind}
 use Rattle.std.specs.Global.{Vec}
+use Rattle.std.specs.Option.{option_map}
 use Rattle.std.specs.Prelude.{ℕ, suc, List, map}
 
 abbrev pub scoped_name_family : ℕ → Family ScopedName
@@ -127,6 +130,9 @@ next_parameter_family depth size prefixes = next_parameter_by size depth
 abbrev pub parameters_family : ℕ → Family ParametersTree
 parameters_family depth size prefixes = parameters_by size depth
 
+abbrev pub function_rest_family : ℕ → Family FunctionRestTree
+function_rest_family depth size prefixes = function_rest_by size depth
+
 abbrev pub function_family : ℕ → Family FunctionTree
 function_family depth size prefixes = function_by size depth
 
@@ -214,3 +220,11 @@ view_list view v = map view v.items
 
 abbrev pub view_items_of : {A : Type 0} → Vec A → List A
 view_items_of v = v.items
+
+abbrev pub view_function_rest : FunctionRest → FunctionRestTree
+view_function_rest r = record {
+  left_parenthesis = r.left_parenthesis;
+  parameters = option_map view_parameters r.parameters;
+  right_parenthesis = r.right_parenthesis;
+  semicolon = r.semicolon;
+}

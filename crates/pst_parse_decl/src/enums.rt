@@ -2,7 +2,7 @@
 //! the tokens of its part; it answers the part and the place behind it.
 ghost use Rattle.pst_ast.specs.DeclarationView.{view_enum_value, view_enum_item, view_next_enum_item, view_enum, view_answer, view_parameter, view_next_parameter, view_parameters, view_function};
 ghost use Rattle.pst_parse_decl.specs.Choices.{optional};
-ghost use Rattle.pst_parse_decl.specs.Families.{enum_item_family, answer_family, view_list, enum_family, function_family, enum_value_family, next_parameter_family, next_enum_item_family, parameter_family, parameters_family};
+ghost use Rattle.pst_parse_decl.specs.Families.{enum_item_family, answer_family, view_list, enum_family, function_rest_family, function_family, view_function_rest, enum_value_family, next_parameter_family, next_enum_item_family, parameter_family, parameters_family};
 ghost use Rattle.pst_parse_expr.specs.Constraints.{is_at, is_other};
 ghost use Rattle.pst_reading.specs.Lists.{listed};
 ghost use Rattle.pst_reading.specs.Reads.{Reads};
@@ -15,10 +15,20 @@ use pst_ast::{
     AnswerNode, EnumItem, EnumNode, EnumValue, FunctionNode, NextEnumItem, NextParameter,
     ParameterNode, ParametersNode, SyntaxFault,
 };
+use pst_base::Place;
 use pst_parse_expr::shared::outermost;
 use pst_reading::{expect, expect_name, is, push};
 use pst_token::{Kind, Token};
 use std::alloc::Global;
+
+// What stands behind the name of a function.
+#[derive(Drop)]
+pub struct FunctionRest {
+    left_parenthesis: Place,
+    parameters: Option<ParametersNode>,
+    right_parenthesis: Place,
+    semicolon: Place,
+}
 
 // The value of an item.
 fn enum_value(
@@ -246,6 +256,30 @@ fn maybe_parameters(
     Ok((Some(parameters), after))
 }
 
+// What stands behind the name of a function: its parameters, and the semicolon.
+fn function_rest(
+    alloc: Global,
+    tokens: &[Token],
+    at: usize,
+    depth: u32,
+) -> Result<(FunctionRest, usize), SyntaxFault>
+    requires inside { at ≤ length tokens.now }
+    requires nesting { depth ≤ 64 }
+    ensures { Reads view_function_rest (function_rest_family depth) tokens.now at at 1 result }
+{
+    let left_parenthesis = expect(tokens, at, Kind::LeftParenthesis, depth, 0)?;
+    let (parameters, after_parameters) = maybe_parameters(alloc, tokens, at + 1, depth)?;
+    let right_parenthesis = expect(tokens, after_parameters, Kind::RightParenthesis, depth, 0)?;
+    let semicolon = expect(tokens, after_parameters + 1, Kind::Semicolon, depth, 0)?;
+    let rest = FunctionRest {
+        left_parenthesis,
+        parameters,
+        right_parenthesis,
+        semicolon,
+    };
+    Ok((rest, after_parameters + 2))
+}
+
 /// A function.
 pub fn function(
     alloc: Global,
@@ -262,20 +296,17 @@ pub fn function(
     let function = expect(tokens, after_target, Kind::Function, depth, 0)?;
     let (answer, after_answer) = answer(alloc, tokens, after_target + 1, depth)?;
     let name = expect_name(tokens, after_answer, depth, 0)?;
-    let left_parenthesis = expect(tokens, after_answer + 1, Kind::LeftParenthesis, depth, 0)?;
-    let (parameters, after_parameters) = maybe_parameters(alloc, tokens, after_answer + 2, depth)?;
-    let right_parenthesis = expect(tokens, after_parameters, Kind::RightParenthesis, depth, 0)?;
-    let semicolon = expect(tokens, after_parameters + 1, Kind::Semicolon, depth, 0)?;
+    let (rest, after_rest) = function_rest(alloc, tokens, after_answer + 1, depth)?;
     let whole = FunctionNode {
         import,
         target,
         function,
         answer,
         name,
-        left_parenthesis,
-        parameters,
-        right_parenthesis,
-        semicolon,
+        left_parenthesis: rest.left_parenthesis,
+        parameters: rest.parameters,
+        right_parenthesis: rest.right_parenthesis,
+        semicolon: rest.semicolon,
     };
-    Ok((whole, after_parameters + 2))
+    Ok((whole, after_rest))
 }

@@ -140,25 +140,25 @@ select_core-returns-in_err-left_brace t c =
     let p = err_from_is_err_and c.from_residual-in_err-left_brace.result c.from_residual-in_err-left_brace.ensures.1 in
     rw (p.1, p.2) (select_core_left_brace_fails c.args.tokens.now c.args.at c.args.depth c.in_ok-select.select c.in_ok-select.ensures.reads.0 c.in_ok-select.ensures.reads.1 c.in_err-left_brace.field-0.0 (omega (arith, c.in_ok-select.ensures.reads.1)) c.in_err-left_brace.ensures.reads)
 
-pub select_core-returns-in_err-first : goal.select_core-returns-in_err-first
-select_core-returns-in_err-first t c =
-    let p = err_from_is_err_and c.from_residual-in_err-first.result c.from_residual-in_err-first.ensures.1 in
-    rw (p.1, p.2) (select_core_first_fails c.args.tokens.now c.args.at c.args.depth c.in_ok-select.select c.in_ok-select.ensures.reads.0 c.in_ok-select.ensures.reads.1 c.in_ok-left_brace.left_brace c.in_ok-left_brace.ensures.reads.0 c.in_ok-left_brace.ensures.reads.1 (omega (arith, c.in_ok-left_brace.ensures.reads.1)) c.in_err-first.field-0.0 c.in_err-first.ensures)
+pub select_core-returns-in_err-head : goal.select_core-returns-in_err-head
+select_core-returns-in_err-head t c =
+    let p = err_from_is_err_and c.from_residual-in_err-head.result c.from_residual-in_err-head.ensures.1 in
+    rw (p.1, p.2) (select_core_first_fails c.args.tokens.now c.args.at c.args.depth c.in_ok-select.select c.in_ok-select.ensures.reads.0 c.in_ok-select.ensures.reads.1 c.in_ok-left_brace.left_brace c.in_ok-left_brace.ensures.reads.0 c.in_ok-left_brace.ensures.reads.1 (omega (arith, c.in_ok-left_brace.ensures.reads.1)) c.in_err-head.field-0.0 c.in_err-head.ensures)
 
 pub select_core-returns-in_err-rest : goal.select_core-returns-in_err-rest
 select_core-returns-in_err-rest t c =
     let p = err_from_is_err_and c.from_residual-in_err-rest.result c.from_residual-in_err-rest.ensures.1 in
-    rw (p.1, p.2) (select_core_rest_fails c.args.tokens.now c.args.at c.args.depth c.in_ok-select.select c.in_ok-select.ensures.reads.0 c.in_ok-select.ensures.reads.1 c.in_ok-left_brace.left_brace c.in_ok-left_brace.ensures.reads.0 c.in_ok-left_brace.ensures.reads.1 (view_branch c.in_ok-first.first) c.in_ok-first.behind c.in_ok-first.ensures.after c.in_ok-first.ensures.inside c.in_ok-first.ensures.settles (omega (arith, c.in_ok-first.ensures.inside)) c.in_err-rest.field-0.0 c.in_err-rest.ensures)
+    rw (p.1, p.2) (select_core_rest_fails c.args.tokens.now c.args.at c.args.depth c.in_ok-select.select c.in_ok-select.ensures.reads.0 c.in_ok-select.ensures.reads.1 c.in_ok-left_brace.left_brace c.in_ok-left_brace.ensures.reads.0 c.in_ok-left_brace.ensures.reads.1 (view_branch c.in_ok-head.head) c.in_ok-head.behind c.in_ok-head.ensures.after c.in_ok-head.ensures.inside c.in_ok-head.ensures.settles (omega (arith, c.in_ok-head.ensures.inside)) c.in_err-rest.field-0.0 c.in_err-rest.ensures)
 
 pub select_core-returns-in_err-right_brace : goal.select_core-returns-in_err-right_brace
 select_core-returns-in_err-right_brace t c =
     let p = err_from_is_err_and c.from_residual-in_err-right_brace.result c.from_residual-in_err-right_brace.ensures.1 in
-    rw (p.1, p.2) (select_core_right_brace_fails c.args.tokens.now c.args.at c.args.depth c.in_ok-select.select c.in_ok-select.ensures.reads.0 c.in_ok-select.ensures.reads.1 c.in_ok-left_brace.left_brace c.in_ok-left_brace.ensures.reads.0 c.in_ok-left_brace.ensures.reads.1 (view_branch c.in_ok-first.first) c.in_ok-first.behind c.in_ok-first.ensures.after c.in_ok-first.ensures.inside c.in_ok-first.ensures.settles (map view_branch c.in_ok-rest.rest.items) c.in_ok-rest.after c.in_ok-rest.ensures.after c.in_ok-rest.ensures.inside c.in_ok-rest.ensures.settles c.in_err-right_brace.field-0.0 (omega (arith, c.in_ok-rest.ensures.inside)) c.in_err-right_brace.ensures.reads)
+    rw (p.1, p.2) (select_core_right_brace_fails c.args.tokens.now c.args.at c.args.depth c.in_ok-select.select c.in_ok-select.ensures.reads.0 c.in_ok-select.ensures.reads.1 c.in_ok-left_brace.left_brace c.in_ok-left_brace.ensures.reads.0 c.in_ok-left_brace.ensures.reads.1 (view_branch c.in_ok-head.head) c.in_ok-head.behind c.in_ok-head.ensures.after c.in_ok-head.ensures.inside c.in_ok-head.ensures.settles (map view_branch c.in_ok-rest.rest.items) c.in_ok-rest.after c.in_ok-rest.ensures.after c.in_ok-rest.ensures.inside c.in_ok-rest.ensures.settles c.in_err-right_brace.field-0.0 (omega (arith, c.in_ok-rest.ensures.inside)) c.in_err-right_brace.ensures.reads)
 
 pub select_core-returns : goal.select_core-returns
 select_core-returns t c = record {
-  settles = rw (select_view, c.in_ok-boxed.ensures.ok) (select_core_given c.args.tokens.now c.args.at c.args.depth c.in_ok-select.select c.in_ok-select.ensures.reads.0 c.in_ok-select.ensures.reads.1 c.in_ok-left_brace.left_brace c.in_ok-left_brace.ensures.reads.0 c.in_ok-left_brace.ensures.reads.1 (view_branch c.in_ok-first.first) c.in_ok-first.behind c.in_ok-first.ensures.after c.in_ok-first.ensures.inside c.in_ok-first.ensures.settles (map view_branch c.in_ok-rest.rest.items) c.in_ok-rest.after c.in_ok-rest.ensures.after c.in_ok-rest.ensures.inside c.in_ok-rest.ensures.settles c.in_ok-right_brace.right_brace c.in_ok-right_brace.ensures.reads.0 c.in_ok-right_brace.ensures.reads.1);
-  after = omega (arith, c.in_ok-first.ensures.after, c.in_ok-rest.ensures.after);
+  settles = rw (select_view, c.in_ok-first.ensures.ok) (select_core_given c.args.tokens.now c.args.at c.args.depth c.in_ok-select.select c.in_ok-select.ensures.reads.0 c.in_ok-select.ensures.reads.1 c.in_ok-left_brace.left_brace c.in_ok-left_brace.ensures.reads.0 c.in_ok-left_brace.ensures.reads.1 (view_branch c.in_ok-head.head) c.in_ok-head.behind c.in_ok-head.ensures.after c.in_ok-head.ensures.inside c.in_ok-head.ensures.settles (map view_branch c.in_ok-rest.rest.items) c.in_ok-rest.after c.in_ok-rest.ensures.after c.in_ok-rest.ensures.inside c.in_ok-rest.ensures.settles c.in_ok-right_brace.right_brace c.in_ok-right_brace.ensures.reads.0 c.in_ok-right_brace.ensures.reads.1);
+  after = omega (arith, c.in_ok-head.ensures.after, c.in_ok-rest.ensures.after);
   inside = c.in_ok-right_brace.ensures.reads.1;
   no_else = λ opens. absurd cc;
 }
@@ -318,25 +318,25 @@ match_core-returns-in_err-left_brace t c =
     let p = err_from_is_err_and c.from_residual-in_err-left_brace.result c.from_residual-in_err-left_brace.ensures.1 in
     rw (p.1, p.2) (match_core_left_brace_fails c.args.tokens.now c.args.at c.args.depth c.in_ok-match_.match_ c.in_ok-match_.ensures.reads.0 c.in_ok-match_.ensures.reads.1 c.in_ok-left_parenthesis.left_parenthesis c.in_ok-left_parenthesis.ensures.reads.0 c.in_ok-left_parenthesis.ensures.reads.1 (view_expr c.in_ok-expr.expr) c.in_ok-expr.behind c.in_ok-expr.ensures.after c.in_ok-expr.ensures.inside c.in_ok-expr.ensures.settles c.in_ok-right_parenthesis.right_parenthesis c.in_ok-right_parenthesis.ensures.reads.0 c.in_ok-right_parenthesis.ensures.reads.1 c.in_err-left_brace.field-0.0 (omega (arith, c.in_ok-right_parenthesis.ensures.reads.1)) c.in_err-left_brace.ensures.reads)
 
-pub match_core-returns-in_err-first : goal.match_core-returns-in_err-first
-match_core-returns-in_err-first t c =
-    let p = err_from_is_err_and c.from_residual-in_err-first.result c.from_residual-in_err-first.ensures.1 in
-    rw (p.1, p.2) (match_core_first_fails c.args.tokens.now c.args.at c.args.depth c.in_ok-match_.match_ c.in_ok-match_.ensures.reads.0 c.in_ok-match_.ensures.reads.1 c.in_ok-left_parenthesis.left_parenthesis c.in_ok-left_parenthesis.ensures.reads.0 c.in_ok-left_parenthesis.ensures.reads.1 (view_expr c.in_ok-expr.expr) c.in_ok-expr.behind c.in_ok-expr.ensures.after c.in_ok-expr.ensures.inside c.in_ok-expr.ensures.settles c.in_ok-right_parenthesis.right_parenthesis c.in_ok-right_parenthesis.ensures.reads.0 c.in_ok-right_parenthesis.ensures.reads.1 c.in_ok-left_brace.left_brace c.in_ok-left_brace.ensures.reads.0 c.in_ok-left_brace.ensures.reads.1 (omega (arith, c.in_ok-left_brace.ensures.reads.1)) c.in_err-first.field-0.0 c.in_err-first.ensures)
+pub match_core-returns-in_err-head : goal.match_core-returns-in_err-head
+match_core-returns-in_err-head t c =
+    let p = err_from_is_err_and c.from_residual-in_err-head.result c.from_residual-in_err-head.ensures.1 in
+    rw (p.1, p.2) (match_core_first_fails c.args.tokens.now c.args.at c.args.depth c.in_ok-match_.match_ c.in_ok-match_.ensures.reads.0 c.in_ok-match_.ensures.reads.1 c.in_ok-left_parenthesis.left_parenthesis c.in_ok-left_parenthesis.ensures.reads.0 c.in_ok-left_parenthesis.ensures.reads.1 (view_expr c.in_ok-expr.expr) c.in_ok-expr.behind c.in_ok-expr.ensures.after c.in_ok-expr.ensures.inside c.in_ok-expr.ensures.settles c.in_ok-right_parenthesis.right_parenthesis c.in_ok-right_parenthesis.ensures.reads.0 c.in_ok-right_parenthesis.ensures.reads.1 c.in_ok-left_brace.left_brace c.in_ok-left_brace.ensures.reads.0 c.in_ok-left_brace.ensures.reads.1 (omega (arith, c.in_ok-left_brace.ensures.reads.1)) c.in_err-head.field-0.0 c.in_err-head.ensures)
 
 pub match_core-returns-in_err-rest : goal.match_core-returns-in_err-rest
 match_core-returns-in_err-rest t c =
     let p = err_from_is_err_and c.from_residual-in_err-rest.result c.from_residual-in_err-rest.ensures.1 in
-    rw (p.1, p.2) (match_core_rest_fails c.args.tokens.now c.args.at c.args.depth c.in_ok-match_.match_ c.in_ok-match_.ensures.reads.0 c.in_ok-match_.ensures.reads.1 c.in_ok-left_parenthesis.left_parenthesis c.in_ok-left_parenthesis.ensures.reads.0 c.in_ok-left_parenthesis.ensures.reads.1 (view_expr c.in_ok-expr.expr) c.in_ok-expr.behind c.in_ok-expr.ensures.after c.in_ok-expr.ensures.inside c.in_ok-expr.ensures.settles c.in_ok-right_parenthesis.right_parenthesis c.in_ok-right_parenthesis.ensures.reads.0 c.in_ok-right_parenthesis.ensures.reads.1 c.in_ok-left_brace.left_brace c.in_ok-left_brace.ensures.reads.0 c.in_ok-left_brace.ensures.reads.1 (view_arm c.in_ok-first.first) c.in_ok-first.after c.in_ok-first.ensures.after c.in_ok-first.ensures.inside c.in_ok-first.ensures.settles (omega (arith, c.in_ok-first.ensures.inside)) c.in_err-rest.field-0.0 c.in_err-rest.ensures)
+    rw (p.1, p.2) (match_core_rest_fails c.args.tokens.now c.args.at c.args.depth c.in_ok-match_.match_ c.in_ok-match_.ensures.reads.0 c.in_ok-match_.ensures.reads.1 c.in_ok-left_parenthesis.left_parenthesis c.in_ok-left_parenthesis.ensures.reads.0 c.in_ok-left_parenthesis.ensures.reads.1 (view_expr c.in_ok-expr.expr) c.in_ok-expr.behind c.in_ok-expr.ensures.after c.in_ok-expr.ensures.inside c.in_ok-expr.ensures.settles c.in_ok-right_parenthesis.right_parenthesis c.in_ok-right_parenthesis.ensures.reads.0 c.in_ok-right_parenthesis.ensures.reads.1 c.in_ok-left_brace.left_brace c.in_ok-left_brace.ensures.reads.0 c.in_ok-left_brace.ensures.reads.1 (view_arm c.in_ok-head.head) c.in_ok-head.after c.in_ok-head.ensures.after c.in_ok-head.ensures.inside c.in_ok-head.ensures.settles (omega (arith, c.in_ok-head.ensures.inside)) c.in_err-rest.field-0.0 c.in_err-rest.ensures)
 
 pub match_core-returns-in_err-right_brace : goal.match_core-returns-in_err-right_brace
 match_core-returns-in_err-right_brace t c =
     let p = err_from_is_err_and c.from_residual-in_err-right_brace.result c.from_residual-in_err-right_brace.ensures.1 in
-    rw (p.1, p.2) (match_core_right_brace_fails c.args.tokens.now c.args.at c.args.depth c.in_ok-match_.match_ c.in_ok-match_.ensures.reads.0 c.in_ok-match_.ensures.reads.1 c.in_ok-left_parenthesis.left_parenthesis c.in_ok-left_parenthesis.ensures.reads.0 c.in_ok-left_parenthesis.ensures.reads.1 (view_expr c.in_ok-expr.expr) c.in_ok-expr.behind c.in_ok-expr.ensures.after c.in_ok-expr.ensures.inside c.in_ok-expr.ensures.settles c.in_ok-right_parenthesis.right_parenthesis c.in_ok-right_parenthesis.ensures.reads.0 c.in_ok-right_parenthesis.ensures.reads.1 c.in_ok-left_brace.left_brace c.in_ok-left_brace.ensures.reads.0 c.in_ok-left_brace.ensures.reads.1 (view_arm c.in_ok-first.first) c.in_ok-first.after c.in_ok-first.ensures.after c.in_ok-first.ensures.inside c.in_ok-first.ensures.settles (map view_arm c.in_ok-rest.rest.items) c.in_ok-rest.end c.in_ok-rest.ensures.after c.in_ok-rest.ensures.inside c.in_ok-rest.ensures.settles c.in_err-right_brace.field-0.0 (omega (arith, c.in_ok-rest.ensures.inside)) c.in_err-right_brace.ensures.reads)
+    rw (p.1, p.2) (match_core_right_brace_fails c.args.tokens.now c.args.at c.args.depth c.in_ok-match_.match_ c.in_ok-match_.ensures.reads.0 c.in_ok-match_.ensures.reads.1 c.in_ok-left_parenthesis.left_parenthesis c.in_ok-left_parenthesis.ensures.reads.0 c.in_ok-left_parenthesis.ensures.reads.1 (view_expr c.in_ok-expr.expr) c.in_ok-expr.behind c.in_ok-expr.ensures.after c.in_ok-expr.ensures.inside c.in_ok-expr.ensures.settles c.in_ok-right_parenthesis.right_parenthesis c.in_ok-right_parenthesis.ensures.reads.0 c.in_ok-right_parenthesis.ensures.reads.1 c.in_ok-left_brace.left_brace c.in_ok-left_brace.ensures.reads.0 c.in_ok-left_brace.ensures.reads.1 (view_arm c.in_ok-head.head) c.in_ok-head.after c.in_ok-head.ensures.after c.in_ok-head.ensures.inside c.in_ok-head.ensures.settles (map view_arm c.in_ok-rest.rest.items) c.in_ok-rest.end c.in_ok-rest.ensures.after c.in_ok-rest.ensures.inside c.in_ok-rest.ensures.settles c.in_err-right_brace.field-0.0 (omega (arith, c.in_ok-rest.ensures.inside)) c.in_err-right_brace.ensures.reads)
 
 pub match_core-returns : goal.match_core-returns
 match_core-returns t c = record {
-  settles = rw (match_view, c.in_ok-boxed.ensures.ok) (match_core_given c.args.tokens.now c.args.at c.args.depth c.in_ok-match_.match_ c.in_ok-match_.ensures.reads.0 c.in_ok-match_.ensures.reads.1 c.in_ok-left_parenthesis.left_parenthesis c.in_ok-left_parenthesis.ensures.reads.0 c.in_ok-left_parenthesis.ensures.reads.1 (view_expr c.in_ok-expr.expr) c.in_ok-expr.behind c.in_ok-expr.ensures.after c.in_ok-expr.ensures.inside c.in_ok-expr.ensures.settles c.in_ok-right_parenthesis.right_parenthesis c.in_ok-right_parenthesis.ensures.reads.0 c.in_ok-right_parenthesis.ensures.reads.1 c.in_ok-left_brace.left_brace c.in_ok-left_brace.ensures.reads.0 c.in_ok-left_brace.ensures.reads.1 (view_arm c.in_ok-first.first) c.in_ok-first.after c.in_ok-first.ensures.after c.in_ok-first.ensures.inside c.in_ok-first.ensures.settles (map view_arm c.in_ok-rest.rest.items) c.in_ok-rest.end c.in_ok-rest.ensures.after c.in_ok-rest.ensures.inside c.in_ok-rest.ensures.settles c.in_ok-right_brace.right_brace c.in_ok-right_brace.ensures.reads.0 c.in_ok-right_brace.ensures.reads.1);
-  after = omega (arith, c.in_ok-expr.ensures.after, c.in_ok-first.ensures.after, c.in_ok-rest.ensures.after);
+  settles = rw (match_view, c.in_ok-first.ensures.ok) (match_core_given c.args.tokens.now c.args.at c.args.depth c.in_ok-match_.match_ c.in_ok-match_.ensures.reads.0 c.in_ok-match_.ensures.reads.1 c.in_ok-left_parenthesis.left_parenthesis c.in_ok-left_parenthesis.ensures.reads.0 c.in_ok-left_parenthesis.ensures.reads.1 (view_expr c.in_ok-expr.expr) c.in_ok-expr.behind c.in_ok-expr.ensures.after c.in_ok-expr.ensures.inside c.in_ok-expr.ensures.settles c.in_ok-right_parenthesis.right_parenthesis c.in_ok-right_parenthesis.ensures.reads.0 c.in_ok-right_parenthesis.ensures.reads.1 c.in_ok-left_brace.left_brace c.in_ok-left_brace.ensures.reads.0 c.in_ok-left_brace.ensures.reads.1 (view_arm c.in_ok-head.head) c.in_ok-head.after c.in_ok-head.ensures.after c.in_ok-head.ensures.inside c.in_ok-head.ensures.settles (map view_arm c.in_ok-rest.rest.items) c.in_ok-rest.end c.in_ok-rest.ensures.after c.in_ok-rest.ensures.inside c.in_ok-rest.ensures.settles c.in_ok-right_brace.right_brace c.in_ok-right_brace.ensures.reads.0 c.in_ok-right_brace.ensures.reads.1);
+  after = omega (arith, c.in_ok-expr.ensures.after, c.in_ok-head.ensures.after, c.in_ok-rest.ensures.after);
   inside = c.in_ok-right_brace.ensures.reads.1;
   no_else = λ opens. absurd cc;
 }

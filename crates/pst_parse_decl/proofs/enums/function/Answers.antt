@@ -1,14 +1,13 @@
-use Rattle.pst_ast.specs.DeclarationView.{view_answer, view_parameters}
+use Rattle.pst_ast.specs.DeclarationView.{view_answer}
 use Rattle.pst_ast.specs.Limits.{counted}
 use Rattle.pst_parse_decl.proofs.enums.function.Goals as goal
 use Rattle.pst_parse_decl.specs.Choices.{optional}
-use Rattle.pst_parse_decl.specs.Families.{answer_family, function_family, mark_family, parameters_family}
-use Rattle.pst_parse_expr.specs.Constraints.{is_at, is_other}
+use Rattle.pst_parse_decl.specs.Families.{answer_family, function_family, function_rest_family, mark_family, view_function_rest}
+use Rattle.pst_parse_expr.specs.Constraints.{is_at}
 use Rattle.pst_reading.proofs.Reaching.{begin, step, mark_step, name_step, ends, fails, mark_fails, name_fails}
 use Rattle.pst_token.specs.declared.kind.Kind.TheVariants as kind
 use Rattle.std.proofs.Common.{arith, ◌+◌}
 use Rattle.std.proofs.lemmas.Result.{err_from_is_err_and}
-use Rattle.std.specs.Option.{option_map}
 
 pub returns-in_err-target : goal.returns-in_err-target
 returns-in_err-target c =
@@ -40,51 +39,15 @@ returns-in_err-name c =
     let r4 = step (function_family c.args.depth) c.args.tokens.now c.args.at c.args.at (answer_family c.args.depth) _ (c.in_ok-target.after_target + 1) (c.in_ok-target.after_target + 1) c.in_ok-answer.after_answer (view_answer c.in_ok-answer.answer) (omega (arith, c.in_ok-target.ensures.after)) (omega (arith, c.in_ok-answer.ensures.after)) c.in_ok-answer.ensures.settles r3 in
     rw (p.1, p.2) (name_fails (function_family c.args.depth) c.args.tokens.now c.args.at c.args.at (counted c.args.depth 0) _ c.in_ok-answer.after_answer c.in_err-name.field-0.0 c.in_ok-answer.ensures.inside c.in_err-name.ensures.reads r4)
 
-pub returns-in_err-left_parenthesis : goal.returns-in_err-left_parenthesis
-returns-in_err-left_parenthesis c =
-    let p = err_from_is_err_and c.from_residual-in_err-left_parenthesis.result c.from_residual-in_err-left_parenthesis.ensures.1 in
+pub returns-in_err-rest : goal.returns-in_err-rest
+returns-in_err-rest c =
+    let p = err_from_is_err_and c.from_residual-in_err-rest.result c.from_residual-in_err-rest.ensures.1 in
     let r1 = mark_step (function_family c.args.depth) c.args.tokens.now c.args.at c.args.at kind.Import (counted c.args.depth 0) _ c.args.at (c.args.at + 1) c.in_ok-import.import (omega arith) c.in_ok-import.ensures.reads.0 (begin (function_family c.args.depth) c.args.tokens.now c.args.at c.args.at) in
     let r2 = step (function_family c.args.depth) c.args.tokens.now c.args.at c.args.at (optional (is_at kind.Target) (mark_family kind.Target c.args.depth)) _ (c.args.at + 1) (c.args.at + 1) c.in_ok-target.after_target c.in_ok-target.target (omega arith) (omega (arith, c.in_ok-target.ensures.after)) c.in_ok-target.ensures.settles r1 in
     let r3 = mark_step (function_family c.args.depth) c.args.tokens.now c.args.at c.args.at kind.Function (counted c.args.depth 0) _ c.in_ok-target.after_target (c.in_ok-target.after_target + 1) c.in_ok-function.function (omega arith) c.in_ok-function.ensures.reads.0 r2 in
     let r4 = step (function_family c.args.depth) c.args.tokens.now c.args.at c.args.at (answer_family c.args.depth) _ (c.in_ok-target.after_target + 1) (c.in_ok-target.after_target + 1) c.in_ok-answer.after_answer (view_answer c.in_ok-answer.answer) (omega (arith, c.in_ok-target.ensures.after)) (omega (arith, c.in_ok-answer.ensures.after)) c.in_ok-answer.ensures.settles r3 in
     let r5 = name_step (function_family c.args.depth) c.args.tokens.now c.args.at c.args.at (counted c.args.depth 0) _ c.in_ok-answer.after_answer (c.in_ok-answer.after_answer + 1) c.in_ok-name.name (omega arith) c.in_ok-name.ensures.reads.0 r4 in
-    rw (p.1, p.2) (mark_fails (function_family c.args.depth) c.args.tokens.now c.args.at c.args.at kind.LeftParenthesis (counted c.args.depth 0) _ (c.in_ok-answer.after_answer + 1) c.in_err-left_parenthesis.field-0.0 (omega (arith, c.in_ok-name.ensures.reads.1)) c.in_err-left_parenthesis.ensures.reads r5)
-
-pub returns-in_err-parameters : goal.returns-in_err-parameters
-returns-in_err-parameters c =
-    let p = err_from_is_err_and c.from_residual-in_err-parameters.result c.from_residual-in_err-parameters.ensures.1 in
-    let r1 = mark_step (function_family c.args.depth) c.args.tokens.now c.args.at c.args.at kind.Import (counted c.args.depth 0) _ c.args.at (c.args.at + 1) c.in_ok-import.import (omega arith) c.in_ok-import.ensures.reads.0 (begin (function_family c.args.depth) c.args.tokens.now c.args.at c.args.at) in
-    let r2 = step (function_family c.args.depth) c.args.tokens.now c.args.at c.args.at (optional (is_at kind.Target) (mark_family kind.Target c.args.depth)) _ (c.args.at + 1) (c.args.at + 1) c.in_ok-target.after_target c.in_ok-target.target (omega arith) (omega (arith, c.in_ok-target.ensures.after)) c.in_ok-target.ensures.settles r1 in
-    let r3 = mark_step (function_family c.args.depth) c.args.tokens.now c.args.at c.args.at kind.Function (counted c.args.depth 0) _ c.in_ok-target.after_target (c.in_ok-target.after_target + 1) c.in_ok-function.function (omega arith) c.in_ok-function.ensures.reads.0 r2 in
-    let r4 = step (function_family c.args.depth) c.args.tokens.now c.args.at c.args.at (answer_family c.args.depth) _ (c.in_ok-target.after_target + 1) (c.in_ok-target.after_target + 1) c.in_ok-answer.after_answer (view_answer c.in_ok-answer.answer) (omega (arith, c.in_ok-target.ensures.after)) (omega (arith, c.in_ok-answer.ensures.after)) c.in_ok-answer.ensures.settles r3 in
-    let r5 = name_step (function_family c.args.depth) c.args.tokens.now c.args.at c.args.at (counted c.args.depth 0) _ c.in_ok-answer.after_answer (c.in_ok-answer.after_answer + 1) c.in_ok-name.name (omega arith) c.in_ok-name.ensures.reads.0 r4 in
-    let r6 = mark_step (function_family c.args.depth) c.args.tokens.now c.args.at c.args.at kind.LeftParenthesis (counted c.args.depth 0) _ (c.in_ok-answer.after_answer + 1) (c.in_ok-answer.after_answer + 2) c.in_ok-left_parenthesis.left_parenthesis (omega arith) c.in_ok-left_parenthesis.ensures.reads.0 r5 in
-    rw (p.1, p.2) (fails (function_family c.args.depth) c.args.tokens.now c.args.at c.args.at (optional (is_other kind.RightParenthesis) (parameters_family c.args.depth)) _ (c.in_ok-answer.after_answer + 2) (c.in_ok-answer.after_answer + 2) c.in_err-parameters.field-0.0 (omega (arith, c.in_ok-target.ensures.after, c.in_ok-answer.ensures.after)) c.in_err-parameters.ensures r6)
-
-pub returns-in_err-right_parenthesis : goal.returns-in_err-right_parenthesis
-returns-in_err-right_parenthesis c =
-    let p = err_from_is_err_and c.from_residual-in_err-right_parenthesis.result c.from_residual-in_err-right_parenthesis.ensures.1 in
-    let r1 = mark_step (function_family c.args.depth) c.args.tokens.now c.args.at c.args.at kind.Import (counted c.args.depth 0) _ c.args.at (c.args.at + 1) c.in_ok-import.import (omega arith) c.in_ok-import.ensures.reads.0 (begin (function_family c.args.depth) c.args.tokens.now c.args.at c.args.at) in
-    let r2 = step (function_family c.args.depth) c.args.tokens.now c.args.at c.args.at (optional (is_at kind.Target) (mark_family kind.Target c.args.depth)) _ (c.args.at + 1) (c.args.at + 1) c.in_ok-target.after_target c.in_ok-target.target (omega arith) (omega (arith, c.in_ok-target.ensures.after)) c.in_ok-target.ensures.settles r1 in
-    let r3 = mark_step (function_family c.args.depth) c.args.tokens.now c.args.at c.args.at kind.Function (counted c.args.depth 0) _ c.in_ok-target.after_target (c.in_ok-target.after_target + 1) c.in_ok-function.function (omega arith) c.in_ok-function.ensures.reads.0 r2 in
-    let r4 = step (function_family c.args.depth) c.args.tokens.now c.args.at c.args.at (answer_family c.args.depth) _ (c.in_ok-target.after_target + 1) (c.in_ok-target.after_target + 1) c.in_ok-answer.after_answer (view_answer c.in_ok-answer.answer) (omega (arith, c.in_ok-target.ensures.after)) (omega (arith, c.in_ok-answer.ensures.after)) c.in_ok-answer.ensures.settles r3 in
-    let r5 = name_step (function_family c.args.depth) c.args.tokens.now c.args.at c.args.at (counted c.args.depth 0) _ c.in_ok-answer.after_answer (c.in_ok-answer.after_answer + 1) c.in_ok-name.name (omega arith) c.in_ok-name.ensures.reads.0 r4 in
-    let r6 = mark_step (function_family c.args.depth) c.args.tokens.now c.args.at c.args.at kind.LeftParenthesis (counted c.args.depth 0) _ (c.in_ok-answer.after_answer + 1) (c.in_ok-answer.after_answer + 2) c.in_ok-left_parenthesis.left_parenthesis (omega arith) c.in_ok-left_parenthesis.ensures.reads.0 r5 in
-    let r7 = step (function_family c.args.depth) c.args.tokens.now c.args.at c.args.at (optional (is_other kind.RightParenthesis) (parameters_family c.args.depth)) _ (c.in_ok-answer.after_answer + 2) (c.in_ok-answer.after_answer + 2) c.in_ok-parameters.after_parameters (option_map view_parameters c.in_ok-parameters.parameters) (omega (arith, c.in_ok-target.ensures.after, c.in_ok-answer.ensures.after)) (omega (arith, c.in_ok-parameters.ensures.after)) c.in_ok-parameters.ensures.settles r6 in
-    rw (p.1, p.2) (mark_fails (function_family c.args.depth) c.args.tokens.now c.args.at c.args.at kind.RightParenthesis (counted c.args.depth 0) _ c.in_ok-parameters.after_parameters c.in_err-right_parenthesis.field-0.0 c.in_ok-parameters.ensures.inside c.in_err-right_parenthesis.ensures.reads r7)
-
-pub returns-in_err-semicolon : goal.returns-in_err-semicolon
-returns-in_err-semicolon c =
-    let p = err_from_is_err_and c.from_residual-in_err-semicolon.result c.from_residual-in_err-semicolon.ensures.1 in
-    let r1 = mark_step (function_family c.args.depth) c.args.tokens.now c.args.at c.args.at kind.Import (counted c.args.depth 0) _ c.args.at (c.args.at + 1) c.in_ok-import.import (omega arith) c.in_ok-import.ensures.reads.0 (begin (function_family c.args.depth) c.args.tokens.now c.args.at c.args.at) in
-    let r2 = step (function_family c.args.depth) c.args.tokens.now c.args.at c.args.at (optional (is_at kind.Target) (mark_family kind.Target c.args.depth)) _ (c.args.at + 1) (c.args.at + 1) c.in_ok-target.after_target c.in_ok-target.target (omega arith) (omega (arith, c.in_ok-target.ensures.after)) c.in_ok-target.ensures.settles r1 in
-    let r3 = mark_step (function_family c.args.depth) c.args.tokens.now c.args.at c.args.at kind.Function (counted c.args.depth 0) _ c.in_ok-target.after_target (c.in_ok-target.after_target + 1) c.in_ok-function.function (omega arith) c.in_ok-function.ensures.reads.0 r2 in
-    let r4 = step (function_family c.args.depth) c.args.tokens.now c.args.at c.args.at (answer_family c.args.depth) _ (c.in_ok-target.after_target + 1) (c.in_ok-target.after_target + 1) c.in_ok-answer.after_answer (view_answer c.in_ok-answer.answer) (omega (arith, c.in_ok-target.ensures.after)) (omega (arith, c.in_ok-answer.ensures.after)) c.in_ok-answer.ensures.settles r3 in
-    let r5 = name_step (function_family c.args.depth) c.args.tokens.now c.args.at c.args.at (counted c.args.depth 0) _ c.in_ok-answer.after_answer (c.in_ok-answer.after_answer + 1) c.in_ok-name.name (omega arith) c.in_ok-name.ensures.reads.0 r4 in
-    let r6 = mark_step (function_family c.args.depth) c.args.tokens.now c.args.at c.args.at kind.LeftParenthesis (counted c.args.depth 0) _ (c.in_ok-answer.after_answer + 1) (c.in_ok-answer.after_answer + 2) c.in_ok-left_parenthesis.left_parenthesis (omega arith) c.in_ok-left_parenthesis.ensures.reads.0 r5 in
-    let r7 = step (function_family c.args.depth) c.args.tokens.now c.args.at c.args.at (optional (is_other kind.RightParenthesis) (parameters_family c.args.depth)) _ (c.in_ok-answer.after_answer + 2) (c.in_ok-answer.after_answer + 2) c.in_ok-parameters.after_parameters (option_map view_parameters c.in_ok-parameters.parameters) (omega (arith, c.in_ok-target.ensures.after, c.in_ok-answer.ensures.after)) (omega (arith, c.in_ok-parameters.ensures.after)) c.in_ok-parameters.ensures.settles r6 in
-    let r8 = mark_step (function_family c.args.depth) c.args.tokens.now c.args.at c.args.at kind.RightParenthesis (counted c.args.depth 0) _ c.in_ok-parameters.after_parameters (c.in_ok-parameters.after_parameters + 1) c.in_ok-right_parenthesis.right_parenthesis (omega arith) c.in_ok-right_parenthesis.ensures.reads.0 r7 in
-    rw (p.1, p.2) (mark_fails (function_family c.args.depth) c.args.tokens.now c.args.at c.args.at kind.Semicolon (counted c.args.depth 0) _ (c.in_ok-parameters.after_parameters + 1) c.in_err-semicolon.field-0.0 (omega (arith, c.in_ok-right_parenthesis.ensures.reads.1)) c.in_err-semicolon.ensures.reads r8)
+    rw (p.1, p.2) (fails (function_family c.args.depth) c.args.tokens.now c.args.at c.args.at (function_rest_family c.args.depth) _ (c.in_ok-answer.after_answer + 1) (c.in_ok-answer.after_answer + 1) c.in_err-rest.field-0.0 (omega (arith, c.in_ok-target.ensures.after, c.in_ok-answer.ensures.after)) c.in_err-rest.ensures r5)
 
 pub returns : goal.returns
 returns c =
@@ -93,8 +56,5 @@ returns c =
     let r3 = mark_step (function_family c.args.depth) c.args.tokens.now c.args.at c.args.at kind.Function (counted c.args.depth 0) _ c.in_ok-target.after_target (c.in_ok-target.after_target + 1) c.in_ok-function.function (omega arith) c.in_ok-function.ensures.reads.0 r2 in
     let r4 = step (function_family c.args.depth) c.args.tokens.now c.args.at c.args.at (answer_family c.args.depth) _ (c.in_ok-target.after_target + 1) (c.in_ok-target.after_target + 1) c.in_ok-answer.after_answer (view_answer c.in_ok-answer.answer) (omega (arith, c.in_ok-target.ensures.after)) (omega (arith, c.in_ok-answer.ensures.after)) c.in_ok-answer.ensures.settles r3 in
     let r5 = name_step (function_family c.args.depth) c.args.tokens.now c.args.at c.args.at (counted c.args.depth 0) _ c.in_ok-answer.after_answer (c.in_ok-answer.after_answer + 1) c.in_ok-name.name (omega arith) c.in_ok-name.ensures.reads.0 r4 in
-    let r6 = mark_step (function_family c.args.depth) c.args.tokens.now c.args.at c.args.at kind.LeftParenthesis (counted c.args.depth 0) _ (c.in_ok-answer.after_answer + 1) (c.in_ok-answer.after_answer + 2) c.in_ok-left_parenthesis.left_parenthesis (omega arith) c.in_ok-left_parenthesis.ensures.reads.0 r5 in
-    let r7 = step (function_family c.args.depth) c.args.tokens.now c.args.at c.args.at (optional (is_other kind.RightParenthesis) (parameters_family c.args.depth)) _ (c.in_ok-answer.after_answer + 2) (c.in_ok-answer.after_answer + 2) c.in_ok-parameters.after_parameters (option_map view_parameters c.in_ok-parameters.parameters) (omega (arith, c.in_ok-target.ensures.after, c.in_ok-answer.ensures.after)) (omega (arith, c.in_ok-parameters.ensures.after)) c.in_ok-parameters.ensures.settles r6 in
-    let r8 = mark_step (function_family c.args.depth) c.args.tokens.now c.args.at c.args.at kind.RightParenthesis (counted c.args.depth 0) _ c.in_ok-parameters.after_parameters (c.in_ok-parameters.after_parameters + 1) c.in_ok-right_parenthesis.right_parenthesis (omega arith) c.in_ok-right_parenthesis.ensures.reads.0 r7 in
-    let r9 = mark_step (function_family c.args.depth) c.args.tokens.now c.args.at c.args.at kind.Semicolon (counted c.args.depth 0) _ (c.in_ok-parameters.after_parameters + 1) (c.in_ok-parameters.after_parameters + 2) c.in_ok-semicolon.semicolon (omega arith) c.in_ok-semicolon.ensures.reads.0 r8 in
-    record { settles = ends (function_family c.args.depth) c.args.tokens.now c.args.at c.args.at _ (c.in_ok-parameters.after_parameters + 2) r9; after = omega (arith, c.in_ok-target.ensures.after, c.in_ok-answer.ensures.after, c.in_ok-parameters.ensures.after); inside = (omega (arith, c.in_ok-semicolon.ensures.reads.1)) }
+    let r6 = step (function_family c.args.depth) c.args.tokens.now c.args.at c.args.at (function_rest_family c.args.depth) _ (c.in_ok-answer.after_answer + 1) (c.in_ok-answer.after_answer + 1) c.in_ok-rest.after_rest (view_function_rest c.in_ok-rest.rest) (omega (arith, c.in_ok-target.ensures.after, c.in_ok-answer.ensures.after)) (omega (arith, c.in_ok-rest.ensures.after)) c.in_ok-rest.ensures.settles r5 in
+    record { settles = ends (function_family c.args.depth) c.args.tokens.now c.args.at c.args.at _ c.in_ok-rest.after_rest r6; after = omega (arith, c.in_ok-target.ensures.after, c.in_ok-answer.ensures.after, c.in_ok-rest.ensures.after); inside = c.in_ok-rest.ensures.inside }
