@@ -1,3 +1,5 @@
 pub mod Fault
+pub mod Laws
 pub mod Names
+pub mod Places
 pub mod Table

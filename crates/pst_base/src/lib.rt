@@ -9,7 +9,7 @@ mod table;
 
 pub use items::Items;
 pub use memory::NoMemory;
-pub use position::Place;
+pub use position::{Place, places_are_ordered};
 pub use table::{NameId, Names};
 
 #[cfg(test)]

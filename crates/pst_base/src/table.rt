@@ -1,5 +1,7 @@
 //! The table of names.
-ghost use Rattle.std.specs.Prelude.{◌≡◌, ◌^◌, ◌-◌, ◌<◌, ◌↔◌, [], length, slice_get, IsTrue, IfOk, OnOk, OnErr};
+ghost use Rattle.std.specs.Prelude.{◌≡◌, ◌^◌, ◌-◌, ◌<◌, ◌↔◌, [], length, slice_get, false, IsTrue, IfOk, OnOk, OnErr, IfSome, IsNone};
+ghost use Rattle.std.specs.List.{list_any};
+ghost use Rattle.std.specs.Str.{bytes_eq};
 ghost use Rattle.pst_base.specs.Names.{with_text, AreDifferent};
 
 use crate::NoMemory;
@@ -57,6 +59,17 @@ impl Names {
         let owned = String::from_str(*self.texts.allocator(), text)?;
         let (index, _) = self.texts.insert_full(owned)?;
         Ok(NameId(index as u32))
+    }
+
+    /// The number of the text, where it is in the table. A look-up takes no memory.
+    pub fn find(&self, text: &str) -> Option<NameId>
+        ensures found { IfSome result (λ id. slice_get self.now id.0 ≡ Some text.now) }
+        ensures none { IsNone result ↔ (list_any (bytes_eq text.now) self.now ≡ false) }
+    {
+        match self.texts.get_index_of(text) {
+            Some(index) => Some(NameId(index as u32)),
+            None => None,
+        }
     }
 
     /// The text of the number.

@@ -8,7 +8,8 @@ use Rattle.pst_token.specs.Spelling.{spelling_of}
 use Rattle.pst_token.specs.Lexemes.{Lexeme, fixed, name, number, spelled, IsLexeme}
 use Rattle.pst_token.specs.Parts.{Part, blank, comment, lexeme, bytes_of, text_of, Stand}
 use Rattle.pst_token.specs.Tokens.{place_after, lexemes_after, IsTokenOf, AreTokensOf, token_of, AreTokens}
-use Rattle.pst_token.specs.Order.{IsBefore, AreRising}
+use Rattle.pst_base.specs.Places.{IsBefore}
+use Rattle.pst_token.specs.Order.{AreRising}
 use Rattle.pst_token.specs.Laws.{EndsOnce}
 use Rattle.pst_token.proofs.Places.{place_after-later, transitive}
 use Rattle.pst_token.proofs.Readings.{some_bytes}

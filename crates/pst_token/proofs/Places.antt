@@ -6,7 +6,8 @@ use Rattle.std.proofs.lemmas.List.{reverse-append}
 use Rattle.pst_base.specs.declared.position.Place.{Place}
 use Rattle.pst_token.specs.Parts.{is_line_feed}
 use Rattle.pst_token.specs.Tokens.{place_after}
-use Rattle.pst_token.specs.Order.{IsBefore, after_byte}
+use Rattle.pst_base.specs.Places.{IsBefore}
+use Rattle.pst_token.specs.Order.{after_byte}
 
 lines_push : (bytes : List ℕ) (b : ℕ) → 1 + count_by is_line_feed (bytes ++ b ∷ []) ≡ (1 + count_by is_line_feed bytes) + cond (is_line_feed b) 1 0
 lines_push bytes b = let more = sum_by_push (λ (x : ℕ). cond (is_line_feed x) 1 0) bytes b in omega arith

@@ -1,6 +1,7 @@
--- How places move on, and their order.
-use Rattle.std.specs.Prelude.{◌≡◌, ℕ, ◌+◌, ◌<◌, ◌⊎◌, if◌then◌else◌, List, [], ◌∷◌}
+-- How places move on.
+use Rattle.std.specs.Prelude.{ℕ, ◌+◌, if◌then◌else◌, List, [], ◌∷◌}
 use Rattle.pst_base.specs.declared.position.Place.{Place}
+use Rattle.pst_base.specs.Places.{IsBefore}
 use Rattle.pst_token.specs.Parts.{is_line_feed}
 
 -- the place after one byte more
@@ -9,11 +10,6 @@ after_byte place b = record place {
   line = place.line + (if is_line_feed b then 1 else 0);
   column = if is_line_feed b then 1 else place.column + 1;
 }
-
--- in an earlier file, or on an earlier line of the same one, or at an earlier column of that
-abbrev pub IsBefore : Place → Place → Type 0
-IsBefore p q =
-    (p.file < q.file) ⊎ ((p.file ≡ q.file) × ((p.line < q.line) ⊎ ((p.line ≡ q.line) × (p.column < q.column))))
 
 -- each place is before the next
 abbrev pub AreRising : List Place → Type 0
