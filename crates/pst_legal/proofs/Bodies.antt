@@ -1,5 +1,6 @@
 -- A body that ends or traps with some answered calls does the same with more of them, and leaves these.
-use Rattle.std.proofs.Common.{◌≡◌, ℕ, zero, suc, ◌+◌, ℤ, pos, negsuc, int_le, List, [], ◌∷◌, ◌++◌, Bool, true, false, ◌&&◌, nat_eq, nat_lt, if◌then◌else◌, Option, Some, None, slice_get, refl, sym, subst}
+use Rattle.std.proofs.Common.{◌≡◌, ℕ, zero, suc, ◌+◌, ℤ, pos, negsuc, int_le, List, [], ◌∷◌, ◌++◌, Bool, true, false, ◌&&◌, nat_eq, nat_lt, if◌then◌else◌, Option, Some, None, slice_get, map, refl, sym, subst}
+use Rattle.std.specs.List.{flat_map}
 use Rattle.std.specs.Option.{option_and_then}
 use Rattle.std.specs.Cmp.Lexicographic.{pointwise}
 use Rattle.std.specs.Ordering.{int_eq}
@@ -13,7 +14,7 @@ use Rattle.pst_scen.specs.declared.act.Act.{Act}
 use Rattle.pst_scen.specs.declared.scenario.Scenario.{Scenario}
 use Rattle.pst_legal.specs.Types.{type_of}
 use Rattle.pst_legal.specs.Laws.{IsOver, BodiesEndOnce}
-use Rattle.pst_legal.specs.Body.{Variable, State, Outcome, Goes, Traps, Asks, Strays, then_do, tick, most_counts, Place, value_now, variable, with_value, within, with_arguments, answered, tested, call_of, source, written, declared, assigned, run_turns, counted, in_turn, run_step, run_row, run_steps, BodyRun, Ended, Trap, if_none_left, run_of, steps_in, act_run}
+use Rattle.pst_legal.specs.Body.{State, Outcome, Goes, Traps, Asks, Strays, then_do, tick, most_counts, Place, value_now, with_value, within, with_arguments, answered, tested, call_of, source, written, declared, assigned, run_turns, counted, in_turn, run_step, run_row, run_steps, BodyRun, Ended, Trap, if_none_left, run_of, steps_in, ranges_in, steps_run, body_of, act_run}
 
 -- more answered calls behind those of a state
 abbrev extended : List Answered → State → State
@@ -100,10 +101,10 @@ declared_keeps : (more : List Answered) (p : Place) (state : State) (local : ℕ
 declared_keeps more p state local range None = λ h. refl
 declared_keeps more p state local range (Some from) = source_keeps more p state from _ (λ v next. written_keeps more local range v next)
 
-assigned_keeps : (more : List Answered) (p : Place) (state : State) (local : ℕ) (v : Option Variable) (from : SourceTree)
-    → Keeps more (assigned p state local v from) (assigned p (extended more state) local v from)
+assigned_keeps : (more : List Answered) (p : Place) (state : State) (local : ℕ) (range : Option Span) (from : SourceTree)
+    → Keeps more (assigned p state local range from) (assigned p (extended more state) local range from)
 assigned_keeps more p state local None from = λ h. refl
-assigned_keeps more p state local (Some v) from = source_keeps more p state from _ (λ z next. written_keeps more local v.range z next)
+assigned_keeps more p state local (Some range) from = source_keeps more p state from _ (λ v next. written_keeps more local range v next)
 
 turns_keep : (more : List Answered) (turn : ℕ → State → Outcome) → ((index : ℕ) (state : State) → Keeps more (turn index state) (turn index (extended more state)))
     → (index n : ℕ) (state : State) → Keeps more (run_turns turn index n state) (run_turns turn index n (extended more state))
@@ -119,7 +120,7 @@ counted_keeps more turn each state (negsuc n) = λ h. refl
 mutual
   step_keeps : (more : List Answered) (p : Place) (step : BodyStepTree) (state : State) → Keeps more (run_step p step state) (run_step p step (extended more state))
   step_keeps more p (Declare local range from) state = then_keeps more _ _ _ (tick_keeps more state) (λ begun. declared_keeps more p begun local range from)
-  step_keeps more p (Assign local from) state = then_keeps more _ _ _ (tick_keeps more state) (λ begun. assigned_keeps more p begun local (variable begun.locals local) from)
+  step_keeps more p (Assign local from) state = then_keeps more _ _ _ (tick_keeps more state) (λ begun. assigned_keeps more p begun local (slice_get p.ranges local) from)
   step_keeps more p (Call function ks) state = then_keeps more _ _ _ (tick_keeps more state) (λ begun. call_of_keeps more p begun function _ ks _ (λ v next h. refl))
   step_keeps more p (If condition holds fails) state =
       then_keeps more _ _ _ (tick_keeps more state)
@@ -164,16 +165,20 @@ ends more (Asks function arguments) other run second keeps is over two = absurd 
 ends more Strays other run second keeps is over two = absurd (nothing_is_some is)
 
 -- the run of a body of that type
-abbrev run_by : ModelTree → Scenario → Act → List Answered → Option ActionTree → Option BodyRun
-run_by m s act calls type =
-    option_and_then (λ t. run_of (run_steps (record { model = m; scenario = s; act = act; indices = [] }) (steps_in t.content) (record { locals = []; count = 0; left = calls }))) type
+abbrev pub run_by : ModelTree → Scenario → Act → List Answered → Option ActionTree → Option BodyRun
+run_by m s act calls type = option_and_then (λ t. body_of m s calls act (steps_in t.content)) type
+
+by_steps : (m : ModelTree) (s : Scenario) (act : Act) (calls more : List Answered) (steps : List BodyStepTree) (ranges : List Span) (run second : BodyRun)
+    → steps_run m s calls act steps ranges ≡ Some run → IsOver run → steps_run m s (calls ++ more) act steps ranges ≡ Some second → more ≡ []
+by_steps m s act calls more steps ranges run second is over two =
+    ends more _ _ run second
+    (steps_keep more (record { ranges = ranges; model = m; scenario = s; act = act; indices = [] }) steps (record { locals = map (λ range. pos 0) ranges; count = 0; left = calls })) is over two
 
 by_type : (m : ModelTree) (s : Scenario) (act : Act) (calls more : List Answered) (type : Option ActionTree) (run second : BodyRun)
     → run_by m s act calls type ≡ Some run → IsOver run → run_by m s act (calls ++ more) type ≡ Some second → more ≡ []
 by_type m s act calls more None run second is over two = absurd (nothing_is_some is)
 by_type m s act calls more (Some type) run second is over two =
-    ends more _ _ run second
-    (steps_keep more (record { model = m; scenario = s; act = act; indices = [] }) (steps_in type.content) (record { locals = []; count = 0; left = calls })) is over two
+    by_steps m s act calls more (steps_in type.content) (flat_map ranges_in (steps_in type.content)) run second is over two
 
 by_act : (m : ModelTree) (s : Scenario) (calls more : List Answered) (act : Option Act) (run second : BodyRun)
     → option_and_then (act_run m s calls) act ≡ Some run → IsOver run → option_and_then (act_run m s (calls ++ more)) act ≡ Some second → more ≡ []

@@ -1,8 +1,8 @@
 -- What the body of an atomic action does, given the answers of its calls.
 -- The statements are the standard's; the order of evaluation as written here, the traps and the limit on executed
 -- statements are this project's own.
-use Rattle.std.specs.Prelude.{ℕ, zero, suc, ◌+◌, ℤ, pos, negsuc, int_le, List, [], ◌∷◌, ◌++◌, map, ◌&&◌, nat_eq, nat_lt, if◌then◌else◌, Option, Some, None, slice_get}
-use Rattle.std.specs.List.{find}
+use Rattle.std.specs.Prelude.{ℕ, zero, suc, ◌+◌, ℤ, pos, negsuc, int_le, List, [], ◌∷◌, ◌++◌, map, ◌&&◌, nat_eq, nat_lt, if◌then◌else◌, Option, Some, None, slice_get, slice_set}
+use Rattle.std.specs.List.{flat_map}
 use Rattle.std.specs.Cmp.Lexicographic.{pointwise}
 use Rattle.std.specs.Option.{option_map, option_and_then}
 use Rattle.std.specs.Ordering.{int_eq}
@@ -17,15 +17,9 @@ use Rattle.pst_scen.specs.declared.scenario.Scenario.{Scenario}
 use Rattle.pst_legal.specs.Types.{type_of}
 use Rattle.pst_legal.specs.Slots.{value_of, act_slot}
 
--- a local, with the range of its type
-pub record Variable : Type 0 where
-  pub number : ℕ
-  pub range : Span
-  pub holds : ℤ
-
--- the locals, what was written last first; how many statements and turns have begun; and the answered calls that are left
+-- the values of all locals of the body, by number; how many statements and turns have begun; and the answered calls that are left
 pub record State : Type 0 where
-  pub locals : List Variable
+  pub locals : List ℤ
   pub count : ℕ
   pub left : List Answered
 
@@ -55,18 +49,16 @@ tick state = if nat_lt state.count most_counts then Goes (record state { count =
 
 -- ---- values
 
-abbrev pub variable : List Variable → ℕ → Option Variable
-variable locals number = find (λ v. nat_eq v.number number) locals
-
--- The action, its scenario and model, and the numbers of the turns that run, the outermost first.
+-- The action, its scenario and model, the ranges of its body's locals, and the numbers of the turns that run, the outermost first.
 pub record Place : Type 0 where
+  pub ranges : List Span
   pub model : ModelTree
   pub scenario : Scenario
   pub act : Act
   pub indices : List ℕ
 
-abbrev pub slot_value : Place → List Variable → SlotTree → Option ℤ
-slot_value p locals (Local local) = option_map (λ v. v.holds) (variable locals local)
+abbrev pub slot_value : Place → List ℤ → SlotTree → Option ℤ
+slot_value p locals (Local local) = slice_get locals local
 slot_value p locals (Index level) = option_map pos (slice_get p.indices level)
 slot_value p locals (Own field) = value_of (act_slot p.model p.scenario p.act (Own field))
 slot_value p locals (Object reference field) = value_of (act_slot p.model p.scenario p.act (Object reference field))
@@ -129,16 +121,17 @@ source p state (Answer function arguments) go = call p state function arguments 
 -- the local gets the value, if it is in the range
 abbrev pub written : ℕ → Span → ℤ → State → Outcome
 written local range v state =
-    within state range v (Goes (record state { locals = record { number = local; range = range; holds = v } ∷ state.locals }))
+    within state range v (Goes (record state { locals = slice_set state.locals local v }))
 
 -- a local without a value starts at 0
 abbrev pub declared : Place → State → ℕ → Span → Option SourceTree → Outcome
-declared p state local range None = Goes (record state { locals = record { number = local; range = range; holds = pos 0 } ∷ state.locals })
+declared p state local range None = Goes (record state { locals = slice_set state.locals local (pos 0) })
 declared p state local range (Some from) = source p state from (written local range)
 
-abbrev pub assigned : Place → State → ℕ → Option Variable → SourceTree → Outcome
+-- the local's range is that of its declaration, wherever that stands
+abbrev pub assigned : Place → State → ℕ → Option Span → SourceTree → Outcome
 assigned p state local None from = Strays
-assigned p state local (Some v) from = source p state from (written local v.range)
+assigned p state local (Some range) from = source p state from (written local range)
 
 abbrev pub run_turns : (ℕ → State → Outcome) → ℕ → ℕ → State → Outcome
 run_turns turn index zero state = Goes state
@@ -155,7 +148,7 @@ in_turn p index = record p { indices = p.indices ++ index ∷ [] }
 abbrev mutual
   pub run_step : Place → BodyStepTree → State → Outcome
   run_step p (Declare local range from) state = then_do (tick state) (λ begun. declared p begun local range from)
-  run_step p (Assign local from) state = then_do (tick state) (λ begun. assigned p begun local (variable begun.locals local) from)
+  run_step p (Assign local from) state = then_do (tick state) (λ begun. assigned p begun local (slice_get p.ranges local) from)
   run_step p (Call function arguments) state = then_do (tick state) (λ begun. call p begun function arguments (λ v next. Goes next))
   run_step p (If condition holds fails) state =
       then_do (tick state) (λ begun. with_value begun (value_now p begun condition) (λ v. if is_false v then run_row p fails begun else run_row p holds begun))
@@ -171,6 +164,19 @@ run_steps p [] state = Goes state
 run_steps p (step ∷ steps) state = then_do (run_step p step state) (run_steps p steps)
 
 -- ---- bodies
+
+-- the ranges of the locals that a step declares, in the order of the text
+abbrev mutual
+  pub ranges_in : BodyStepTree → List Span
+  ranges_in (Declare local range from) = range ∷ []
+  ranges_in (Assign local from) = []
+  ranges_in (Call function arguments) = []
+  ranges_in (If condition holds fails) = ranges_in_row holds ++ ranges_in_row fails
+  ranges_in (Repeat count body) = ranges_in_row body
+
+  pub ranges_in_row : BodyRow → List Span
+  ranges_in_row NoBody = []
+  ranges_in_row (MoreBody step steps) = ranges_in step ++ ranges_in_row steps
 
 -- What a body does, given a list of answered calls, where it makes exactly these calls.
 pub data BodyRun : Type 0 where
@@ -194,9 +200,16 @@ abbrev pub steps_in : ContentTree → List BodyStepTree
 steps_in (Atomic body) = body
 steps_in (Compound activity) = []
 
+-- the steps of the action's body, given the ranges of its locals, which all begin at 0
+abbrev pub steps_run : ModelTree → Scenario → List Answered → Act → List BodyStepTree → List Span → Option BodyRun
+steps_run m s calls act steps ranges =
+    run_of (run_steps (record { ranges = ranges; model = m; scenario = s; act = act; indices = [] }) steps (record { locals = map (λ range. pos 0) ranges; count = 0; left = calls }))
+
+abbrev pub body_of : ModelTree → Scenario → List Answered → Act → List BodyStepTree → Option BodyRun
+body_of m s calls act steps = steps_run m s calls act steps (flat_map ranges_in steps)
+
 abbrev pub act_run : ModelTree → Scenario → List Answered → Act → Option BodyRun
-act_run m s calls act =
-    option_and_then (λ type. run_of (run_steps (record { model = m; scenario = s; act = act; indices = [] }) (steps_in type.content) (record { locals = []; count = 0; left = calls }))) (type_of m act.action)
+act_run m s calls act = option_and_then (λ type. body_of m s calls act (steps_in type.content)) (type_of m act.action)
 
 -- The body of the action, given these answered calls; nothing where it makes other calls.
 abbrev pub body_run : ModelTree → Scenario → ℕ → List Answered → Option BodyRun
