@@ -20,3 +20,9 @@ mod RepeatsTried
 mod InstancesTried
 mod CoresTried
 mod ClaimValuesTried
+mod LocalsTried
+mod ReleasesTried
+mod RunsTried
+mod FillingsTried
+mod SuppliesTried
+mod HandlesTried

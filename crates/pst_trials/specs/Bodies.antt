@@ -30,7 +30,8 @@ model body = record {
   objects = [];
   instances = top;
   pools = [];
-  functions = record { name = name 1; parameters = int ∷ []; answer = Some int } ∷ record { name = name 2; parameters = bit ∷ []; answer = None } ∷ [];
+  functions = record { name = name 1; parameters = int ∷ []; answer = Some int } ∷ record { name = name 2; parameters = bit ∷ []; answer = None }
+      ∷ record { name = name 3; parameters = bit ∷ int ∷ []; answer = None } ∷ [];
   served = [];
 }
 

@@ -15,3 +15,9 @@ pub mod Repeats
 pub mod Instances
 pub mod Cores
 pub mod ClaimValues
+pub mod Doing
+pub mod Releases
+pub mod Runs
+pub mod Fillings
+pub mod Supplies
+pub mod Handles

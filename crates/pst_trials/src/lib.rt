@@ -18,8 +18,14 @@ ghost use Rattle.pst_trials.specs.Instances.{InstancesAreTried};
 ghost use Rattle.pst_trials.specs.Cores.{CoresAreTried};
 ghost use Rattle.pst_trials.specs.ClaimValues.{ClaimValuesAreTried};
 ghost use Rattle.pst_trials.specs.Bodies.{BodiesAreTried};
+ghost use Rattle.pst_trials.specs.Doing.{DoingIsTried, LocalsAreTried};
+ghost use Rattle.pst_trials.specs.Releases.{ReleasesAreTried};
+ghost use Rattle.pst_trials.specs.Runs.{RunsAreTried};
+ghost use Rattle.pst_trials.specs.Fillings.{FillingsAreTried};
+ghost use Rattle.pst_trials.specs.Supplies.{SuppliesAreTried};
+ghost use Rattle.pst_trials.specs.Handles.{HandlesAreTried};
 
-use pst_order::whole_is_sound;
+use pst_order::{blocks_are_one, must_is_kept, whole_is_sound};
 
 /// Two actions that lock, or share, the one instance of a resource, in parallel and in any order.
 pub fn locks_are_tried()
@@ -71,6 +77,45 @@ pub fn arrays_are_tried()
 /// Bodies, given the answers of their calls.
 pub fn bodies_are_tried()
     ensures { BodiesAreTried }
+{}
+
+/// Bodies: the order of evaluation, numbers of turns, and counts.
+pub fn doing_is_tried()
+    ensures { DoingIsTried }
+{}
+
+/// Locals of bodies, which are there from the beginning.
+pub fn locals_are_tried()
+    ensures { LocalsAreTried }
+{}
+
+/// What join forms release, branches, and parallel blocks.
+pub fn releases_are_tried()
+    ensures { ReleasesAreTried }
+{}
+
+/// Traces, and scenarios and beginnings that have no whole one.
+pub fn runs_are_tried()
+    ensures { RunsAreTried }
+{
+    whole_is_sound();
+    blocks_are_one();
+    must_is_kept();
+}
+
+/// Fills of activities, and values.
+pub fn fillings_are_tried()
+    ensures { FillingsAreTried }
+{}
+
+/// Sources, first objects, and the numbers of inferred actions.
+pub fn supplies_are_tried()
+    ensures { SuppliesAreTried }
+{}
+
+/// Handles behind traversals, levels of indices, joins of any branches, and groups of three.
+pub fn handles_are_tried()
+    ensures { HandlesAreTried }
 {}
 
 /// Why scenarios of the other trials have no plan.
