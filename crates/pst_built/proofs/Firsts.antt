@@ -18,7 +18,7 @@ use Rattle.pst_scen.specs.Conflicts.{Uses}
 use Rattle.pst_scen.specs.Scenarios.{reference_at, HasFirsts}
 use Rattle.pst_legal.specs.Types.{is_state_pool, has_kind}
 use Rattle.pst_legal.specs.SupplyReading.{is_state}
-use Rattle.pst_legal.specs.ValueReading.{refers_to, used_state_pools}
+use Rattle.pst_legal.specs.Blanks.{refers_to, used_state_pools}
 use Rattle.pst_built.proofs.Bares.{Bare, bare, bares, bare_at, bare_from, bare_of}
 use Rattle.pst_built.proofs.Members.{In, in_get, in_filter}
 use Rattle.pst_built.proofs.Spots.{at_act}

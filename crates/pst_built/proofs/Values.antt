@@ -4,11 +4,11 @@ use Rattle.pst_model.specs.ModelTree.{ModelTree}
 use Rattle.pst_scen.specs.declared.act.Act.{Act}
 use Rattle.pst_scen.specs.declared.scenario.First.{First}
 use Rattle.pst_scen.specs.declared.scenario.Scenario.{Scenario}
-use Rattle.pst_legal.specs.Reading.{value_number}
+use Rattle.pst_legal.specs.Blanks.{Blank, Instance, OfFirst, OfAct, OfOutput, OfClaim, used_state_pools, claim_blanks, value_blanks, options, option_value}
 use Rattle.pst_legal.specs.SupplyReading.{alter}
-use Rattle.pst_legal.specs.ValueReading.{Blank, Instance, OfFirst, OfAct, OfOutput, OfClaim, blanks, used_state_pools, more_values, first_with_value, empty_first, written, with_claim, act_with_value, with_output_value, with_claim_value, filled_with_value, options, read_blanks, read_values, with_firsts}
+use Rattle.pst_legal.specs.ValueReading.{more_values, first_with_value, empty_first, written, with_claim, act_with_value, with_output_value, with_claim_value, filled_with_value, read_blanks, read_values, with_firsts}
 use Rattle.pst_built.proofs.Bares.{bare, bares_in, bares, node_in, nodes_in, kind_in, kinds_in, alter_same}
-use Rattle.pst_built.proofs.Gives.{Gives, gives_seeded}
+use Rattle.pst_built.proofs.Gives.{Gives, gives_seeded, gives_then}
 
 -- the second scenario has the order of the first
 pub record IsSameOrder (s t : Scenario) : Type 0 where
@@ -37,14 +37,16 @@ altered s f n node kinds references = record {
   references = alter_same bares_in f references n s.actions;
 }
 
-written_keeps : (s : Scenario) (k : ℕ) (blank : Blank) → IsSameOrder s (written s k blank)
-written_keeps s k (Instance act claim pool) = altered s (with_claim claim pool k) act (λ x. refl) (λ x. refl) (λ x. refl)
-written_keeps s k (OfFirst pool field) = record { level = refl; nodes = refl; acts = refl; kinds = refl; references = refl }
-written_keeps s k (OfAct act field) = altered s (act_with_value (value_number field k)) act (λ x. refl) (λ x. refl) (λ x. refl)
-written_keeps s k (OfOutput act reference field) =
-    altered s (with_output_value reference (value_number field k)) act (λ x. refl) (λ x. refl)
-    (λ x. alter_same bare (filled_with_value (value_number field k)) (λ filled. refl) reference x.references)
-written_keeps s k (OfClaim act claim field) = altered s (with_claim_value claim (value_number field k)) act (λ x. refl) (λ x. refl) (λ x. refl)
+written_keeps : (m : ModelTree) (s : Scenario) (k : ℕ) (blank : Blank) → IsSameOrder s (written m k blank s)
+written_keeps m s k (Instance act claim) = altered s (with_claim m claim k) act (λ x. refl) (λ x. refl) (λ x. refl)
+written_keeps m s k (OfFirst pool field) = record { level = refl; nodes = refl; acts = refl; kinds = refl; references = refl }
+written_keeps m s k (OfAct act field) = altered s (act_with_value (option_value m s.actions (OfAct act field) k)) act (λ x. refl) (λ x. refl) (λ x. refl)
+written_keeps m s k (OfOutput act reference field) =
+    let v = option_value m s.actions (OfOutput act reference field) k in
+    altered s (with_output_value reference v) act (λ x. refl) (λ x. refl)
+    (λ x. alter_same bare (filled_with_value v) (λ filled. refl) reference x.references)
+written_keeps m s k (OfClaim act claim field) =
+    altered s (with_claim_value claim (option_value m s.actions (OfClaim act claim field) k)) act (λ x. refl) (λ x. refl) (λ x. refl)
 
 -- ---- first objects
 
@@ -59,12 +61,12 @@ pools_stay : (pool : ℕ) (v : ℤ) (firsts : List First) → map pool_in (map (
 pools_stay pool v [] = refl
 pools_stay pool v (first ∷ more) = ap₂ ◌∷◌ (by_test pool v first (nat_eq first.pool pool)) (pools_stay pool v more)
 
-written_firsts : (s : Scenario) (k : ℕ) (blank : Blank) → map pool_in (written s k blank).firsts ≡ map pool_in s.firsts
-written_firsts s k (Instance act claim pool) = refl
-written_firsts s k (OfFirst pool field) = pools_stay pool (value_number field k) s.firsts
-written_firsts s k (OfAct act field) = refl
-written_firsts s k (OfOutput act reference field) = refl
-written_firsts s k (OfClaim act claim field) = refl
+written_firsts : (m : ModelTree) (s : Scenario) (k : ℕ) (blank : Blank) → map pool_in (written m k blank s).firsts ≡ map pool_in s.firsts
+written_firsts m s k (Instance act claim) = refl
+written_firsts m s k (OfFirst pool field) = pools_stay pool (option_value m s.actions (OfFirst pool field) k) s.firsts
+written_firsts m s k (OfAct act field) = refl
+written_firsts m s k (OfOutput act reference field) = refl
+written_firsts m s k (OfClaim act claim field) = refl
 
 pools_of : (pools : List ℕ) → map pool_in (map empty_first pools) ≡ pools
 pools_of [] = refl
@@ -80,15 +82,17 @@ pub record IsValued (m : ModelTree) (s t : Scenario) : Type 0 where
 blanks_keep : (m : ModelTree) (seed : ℕ) (more : List Blank) (s t : Scenario) (place : ℕ) (left : List ℕ) → IsValued m s t → Gives (IsValued m s) (read_blanks m seed more t place left)
 blanks_keep m seed [] s t place left valued = valued
 blanks_keep m seed (blank ∷ more) s t place left valued =
-    gives_seeded (IsValued m s) seed (options m blank) (λ k read. read_blanks m seed more (written read k blank)) t place left
-    (λ k next rest. blanks_keep m seed more s (written t k blank) next rest (record {
-      same = same_after s t (written t k blank) valued.same (written_keeps t k blank);
-      firsts = written_firsts t k blank ∙ valued.firsts;
+    gives_seeded (IsValued m s) seed (options m t.actions blank) (λ k read. read_blanks m seed more (written m k blank read)) t place left
+    (λ k next rest. blanks_keep m seed more s (written m k blank t) next rest (record {
+      same = same_after s t (written m k blank t) valued.same (written_keeps m t k blank);
+      firsts = written_firsts m t k blank ∙ valued.firsts;
     }))
 
 pub values_keep : (m : ModelTree) (seed : ℕ) (s : Scenario) (place : ℕ) (left : List ℕ) → Gives (IsValued m s) (read_values m seed s place left)
 values_keep m seed s place left =
-    blanks_keep m seed (blanks m s.actions) s (with_firsts m s) place left (record {
+    gives_then (IsValued m s) (IsValued m s) _ (read_blanks m seed (value_blanks m s.actions))
+    (blanks_keep m seed (claim_blanks m s.actions) s (with_firsts m s) place left (record {
       same = record { level = refl; nodes = refl; acts = refl; kinds = refl; references = refl };
       firsts = pools_of (used_state_pools m s.actions);
-    })
+    }))
+    (λ t next rest valued. blanks_keep m seed (value_blanks m s.actions) s t next rest valued)

@@ -14,7 +14,7 @@ use Rattle.pst_scen.specs.declared.act.Act.{Act}
 use Rattle.pst_scen.specs.declared.scenario.Scenario.{Scenario}
 use Rattle.pst_legal.specs.Types.{type_of}
 use Rattle.pst_legal.specs.Laws.{IsOver, BodiesEndOnce}
-use Rattle.pst_legal.specs.Body.{State, Outcome, Goes, Traps, Asks, Strays, then_do, tick, most_counts, Place, value_now, with_value, within, with_arguments, answered, tested, call_of, source, written, declared, assigned, run_turns, counted, in_turn, run_step, run_row, run_steps, BodyRun, Ended, Trap, if_none_left, run_of, steps_in, ranges_in, steps_run, body_of, act_run}
+use Rattle.pst_legal.specs.Body.{State, Outcome, Goes, Traps, Asks, Strays, then_do, tick, most_counts, Place, value_now, with_value, within, with_arguments, answered, tested, call_of, source, stored, started, assigned, run_turns, counted, turned, run_step, run_row, run_steps, BodyRun, Ended, Trap, if_none_left, run_of, steps_in, ranges_in, steps_run, body_of, act_run}
 
 -- more answered calls behind those of a state
 abbrev extended : List Answered → State → State
@@ -93,11 +93,11 @@ source_keeps : (more : List Answered) (p : Place) (state : State) (from : Source
 source_keeps more p state (Value k) go each = value_keeps more state (value_now p state k) _ _ (λ v. each v state)
 source_keeps more p state (Answer function ks) go each = call_of_keeps more p state function _ ks go each
 
-written_keeps : (more : List Answered) (local : ℕ) (range : Span) (v : ℤ) (state : State) → Keeps more (written local range v state) (written local range v (extended more state))
+written_keeps : (more : List Answered) (local : ℕ) (range : Span) (v : ℤ) (state : State) → Keeps more (stored local range v state) (stored local range v (extended more state))
 written_keeps more local range v state = within_keeps more state range v _ _ (λ h. refl)
 
 declared_keeps : (more : List Answered) (p : Place) (state : State) (local : ℕ) (range : Span) (from : Option SourceTree)
-    → Keeps more (declared p state local range from) (declared p (extended more state) local range from)
+    → Keeps more (started p state local range from) (started p (extended more state) local range from)
 declared_keeps more p state local range None = λ h. refl
 declared_keeps more p state local range (Some from) = source_keeps more p state from _ (λ v next. written_keeps more local range v next)
 
@@ -127,7 +127,7 @@ mutual
       (λ begun. value_keeps more begun (value_now p begun condition) _ _ (λ v. by_test more (is_false v) _ _ _ _ (row_keeps more p fails begun) (row_keeps more p holds begun)))
   step_keeps more p (Repeat count body) state =
       then_keeps more _ _ _ (tick_keeps more state)
-      (λ begun. value_keeps more begun (value_now p begun count) _ _ (counted_keeps more _ (λ index. row_keeps more (in_turn p index) body) begun))
+      (λ begun. value_keeps more begun (value_now p begun count) _ _ (counted_keeps more _ (λ index. row_keeps more (turned p index) body) begun))
 
   row_keeps : (more : List Answered) (p : Place) (row : BodyRow) (state : State) → Keeps more (run_row p row state) (run_row p row (extended more state))
   row_keeps more p NoBody state = λ h. refl
@@ -165,25 +165,25 @@ ends more (Asks function arguments) other run second keeps is over two = absurd 
 ends more Strays other run second keeps is over two = absurd (nothing_is_some is)
 
 -- the run of a body of that type
-abbrev pub run_by : ModelTree → Scenario → Act → List Answered → Option ActionTree → Option BodyRun
-run_by m s act calls type = option_and_then (λ t. body_of m s calls act (steps_in t.content)) type
+abbrev pub run_by : ModelTree → Scenario → ℕ → Act → List Answered → Option ActionTree → Option BodyRun
+run_by m s a act calls type = option_and_then (λ t. body_of m s calls a act (steps_in t.content)) type
 
-by_steps : (m : ModelTree) (s : Scenario) (act : Act) (calls more : List Answered) (steps : List BodyStepTree) (ranges : List Span) (run second : BodyRun)
-    → steps_run m s calls act steps ranges ≡ Some run → IsOver run → steps_run m s (calls ++ more) act steps ranges ≡ Some second → more ≡ []
-by_steps m s act calls more steps ranges run second is over two =
+by_steps : (m : ModelTree) (s : Scenario) (a : ℕ) (act : Act) (calls more : List Answered) (steps : List BodyStepTree) (ranges : List Span) (run second : BodyRun)
+    → steps_run m s calls a act steps ranges ≡ Some run → IsOver run → steps_run m s (calls ++ more) a act steps ranges ≡ Some second → more ≡ []
+by_steps m s a act calls more steps ranges run second is over two =
     ends more _ _ run second
-    (steps_keep more (record { ranges = ranges; model = m; scenario = s; act = act; indices = [] }) steps (record { locals = map (λ range. pos 0) ranges; count = 0; left = calls })) is over two
+    (steps_keep more (record { ranges = ranges; model = m; scenario = s; number = a; act = act; indices = [] }) steps (record { locals = map (λ range. pos 0) ranges; count = 0; left = calls })) is over two
 
-by_type : (m : ModelTree) (s : Scenario) (act : Act) (calls more : List Answered) (type : Option ActionTree) (run second : BodyRun)
-    → run_by m s act calls type ≡ Some run → IsOver run → run_by m s act (calls ++ more) type ≡ Some second → more ≡ []
-by_type m s act calls more None run second is over two = absurd (nothing_is_some is)
-by_type m s act calls more (Some type) run second is over two =
-    by_steps m s act calls more (steps_in type.content) (flat_map ranges_in (steps_in type.content)) run second is over two
+by_type : (m : ModelTree) (s : Scenario) (a : ℕ) (act : Act) (calls more : List Answered) (type : Option ActionTree) (run second : BodyRun)
+    → run_by m s a act calls type ≡ Some run → IsOver run → run_by m s a act (calls ++ more) type ≡ Some second → more ≡ []
+by_type m s a act calls more None run second is over two = absurd (nothing_is_some is)
+by_type m s a act calls more (Some type) run second is over two =
+    by_steps m s a act calls more (steps_in type.content) (flat_map ranges_in (steps_in type.content)) run second is over two
 
-by_act : (m : ModelTree) (s : Scenario) (calls more : List Answered) (act : Option Act) (run second : BodyRun)
-    → option_and_then (act_run m s calls) act ≡ Some run → IsOver run → option_and_then (act_run m s (calls ++ more)) act ≡ Some second → more ≡ []
-by_act m s calls more None run second is over two = absurd (nothing_is_some is)
-by_act m s calls more (Some act) run second is over two = by_type m s act calls more (type_of m act.action) run second is over two
+by_act : (m : ModelTree) (s : Scenario) (a : ℕ) (calls more : List Answered) (act : Option Act) (run second : BodyRun)
+    → option_and_then (act_run m s calls a) act ≡ Some run → IsOver run → option_and_then (act_run m s (calls ++ more) a) act ≡ Some second → more ≡ []
+by_act m s a calls more None run second is over two = absurd (nothing_is_some is)
+by_act m s a calls more (Some act) run second is over two = by_type m s a act calls more (type_of m act.action) run second is over two
 
 pub bodies_end : BodiesEndOnce
-bodies_end m s a calls more run second is over two = by_act m s calls more (slice_get s.actions a) run second is over two
+bodies_end m s a calls more run second is over two = by_act m s a calls more (slice_get s.actions a) run second is over two

@@ -10,7 +10,7 @@ use Rattle.pst_scen.specs.declared.tree.Fill.{Fill}
 use Rattle.pst_scen.specs.declared.tree.Fill.TheVariants as fill
 use Rattle.pst_scen.specs.declared.act.Flow.{Flow}
 use Rattle.pst_scen.specs.declared.act.Flow.TheVariants.{BufferIn, BufferOut, StreamIn, StreamOut, StateIn, StateOut}
-use Rattle.pst_legal.specs.Types.{activity_of}
+use Rattle.pst_legal.specs.Types.{action_activity}
 use Rattle.pst_legal.specs.Slots.{compound_at, node_behind}
 
 -- an output of one action that is bound to an input of another
@@ -49,7 +49,7 @@ ties_in (Some activity) = activity.binds
 
 -- the binds of the activity of a node's compound action
 abbrev pub ties_at : ModelTree → List Node → ℕ → List Tie
-ties_at m nodes top = ties_in (option_and_then (activity_of m) (compound_at nodes top))
+ties_at m nodes top = ties_in (option_and_then (action_activity m) (compound_at nodes top))
 
 -- All references that the binds of the activities join, by node and by the text of the activity.
 abbrev pub bounds_of : ModelTree → List Node → List Bound

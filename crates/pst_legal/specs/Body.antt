@@ -1,5 +1,5 @@
 -- What the body of an atomic action does, given the answers of its calls.
--- The statements are the standard's; the order of evaluation as written here, the traps and the limit on executed
+-- The statements are the standard's; the order of evaluation as stored here, the traps and the limit on executed
 -- statements are this project's own.
 use Rattle.std.specs.Prelude.{ℕ, zero, suc, ◌+◌, ℤ, pos, negsuc, int_le, List, [], ◌∷◌, ◌++◌, map, ◌&&◌, nat_eq, nat_lt, if◌then◌else◌, Option, Some, None, slice_get, slice_set}
 use Rattle.std.specs.List.{flat_map}
@@ -9,13 +9,14 @@ use Rattle.std.specs.Ordering.{int_eq}
 use Rattle.pst_expr.specs.declared.ranges.Span.{Span}
 use Rattle.pst_expr.specs.Value.{value, is_false}
 use Rattle.pst_target.specs.declared.call.Call.{Call as Answered}
-use Rattle.pst_model.specs.ConstraintTree.{SlotTree, Own, Object, First, ClaimId, ClaimField, Prev, IsFirst, Id, Index, Local, Through, Outer, ConstraintTree}
+use Rattle.pst_model.specs.ConstraintTree.{SlotTree, Index, Local, ConstraintTree}
 use Rattle.pst_model.specs.BodyTree.{SourceTree, Value, Answer, BodyStepTree, Declare, Assign, Call, If, Repeat, BodyRow, NoBody, MoreBody}
 use Rattle.pst_model.specs.ModelTree.{ModelTree, FunctionTree, ContentTree, Atomic, Compound}
 use Rattle.pst_scen.specs.declared.act.Act.{Act}
 use Rattle.pst_scen.specs.declared.scenario.Scenario.{Scenario}
 use Rattle.pst_legal.specs.Types.{type_of}
-use Rattle.pst_legal.specs.Slots.{value_of, act_slot}
+use Rattle.pst_legal.specs.Standing.{value_of}
+use Rattle.pst_legal.specs.Slots.{act_slot}
 
 -- the values of all locals of the body, by number; how many statements and turns have begun; and the answered calls that are left
 pub record State : Type 0 where
@@ -49,27 +50,19 @@ tick state = if nat_lt state.count most_counts then Goes (record state { count =
 
 -- ---- values
 
--- The action, its scenario and model, the ranges of its body's locals, and the numbers of the turns that run, the outermost first.
+-- The action with its number, its scenario and model, the ranges of its body's locals, and the numbers of the turns that run, the outermost first.
 pub record Place : Type 0 where
   pub ranges : List Span
   pub model : ModelTree
   pub scenario : Scenario
+  pub number : ℕ
   pub act : Act
   pub indices : List ℕ
 
 abbrev pub slot_value : Place → List ℤ → SlotTree → Option ℤ
 slot_value p locals (Local local) = slice_get locals local
 slot_value p locals (Index level) = option_map pos (slice_get p.indices level)
-slot_value p locals (Own field) = value_of (act_slot p.model p.scenario p.act (Own field))
-slot_value p locals (Object reference field) = value_of (act_slot p.model p.scenario p.act (Object reference field))
-slot_value p locals (First reference) = value_of (act_slot p.model p.scenario p.act (First reference))
-slot_value p locals (ClaimId claim) = value_of (act_slot p.model p.scenario p.act (ClaimId claim))
-slot_value p locals (ClaimField claim field) = value_of (act_slot p.model p.scenario p.act (ClaimField claim field))
-slot_value p locals (Prev field) = None
-slot_value p locals IsFirst = None
-slot_value p locals Id = None
-slot_value p locals (Through handle slot) = None
-slot_value p locals (Outer slot) = None
+slot_value p locals slot = value_of (act_slot p.model p.scenario p.number p.act slot)
 
 abbrev pub value_now : Place → State → ConstraintTree → Option ℤ
 value_now p state k = value k.expression (map (slot_value p state.locals) k.slots)
@@ -119,19 +112,19 @@ source p state (Answer function arguments) go = call p state function arguments 
 -- ---- statements
 
 -- the local gets the value, if it is in the range
-abbrev pub written : ℕ → Span → ℤ → State → Outcome
-written local range v state =
+abbrev pub stored : ℕ → Span → ℤ → State → Outcome
+stored local range v state =
     within state range v (Goes (record state { locals = slice_set state.locals local v }))
 
 -- a local without a value starts at 0
-abbrev pub declared : Place → State → ℕ → Span → Option SourceTree → Outcome
-declared p state local range None = Goes (record state { locals = slice_set state.locals local (pos 0) })
-declared p state local range (Some from) = source p state from (written local range)
+abbrev pub started : Place → State → ℕ → Span → Option SourceTree → Outcome
+started p state local range None = Goes (record state { locals = slice_set state.locals local (pos 0) })
+started p state local range (Some from) = source p state from (stored local range)
 
 -- the local's range is that of its declaration, wherever that stands
 abbrev pub assigned : Place → State → ℕ → Option Span → SourceTree → Outcome
 assigned p state local None from = Strays
-assigned p state local (Some range) from = source p state from (written local range)
+assigned p state local (Some range) from = source p state from (stored local range)
 
 abbrev pub run_turns : (ℕ → State → Outcome) → ℕ → ℕ → State → Outcome
 run_turns turn index zero state = Goes state
@@ -142,18 +135,18 @@ abbrev pub counted : (ℕ → State → Outcome) → State → ℤ → Outcome
 counted turn state (pos n) = run_turns turn 0 n state
 counted turn state (negsuc n) = Traps 1 state.left
 
-abbrev pub in_turn : Place → ℕ → Place
-in_turn p index = record p { indices = p.indices ++ index ∷ [] }
+abbrev pub turned : Place → ℕ → Place
+turned p index = record p { indices = p.indices ++ index ∷ [] }
 
 abbrev mutual
   pub run_step : Place → BodyStepTree → State → Outcome
-  run_step p (Declare local range from) state = then_do (tick state) (λ begun. declared p begun local range from)
+  run_step p (Declare local range from) state = then_do (tick state) (λ begun. started p begun local range from)
   run_step p (Assign local from) state = then_do (tick state) (λ begun. assigned p begun local (slice_get p.ranges local) from)
   run_step p (Call function arguments) state = then_do (tick state) (λ begun. call p begun function arguments (λ v next. Goes next))
   run_step p (If condition holds fails) state =
       then_do (tick state) (λ begun. with_value begun (value_now p begun condition) (λ v. if is_false v then run_row p fails begun else run_row p holds begun))
   run_step p (Repeat count body) state =
-      then_do (tick state) (λ begun. with_value begun (value_now p begun count) (counted (λ index. run_row (in_turn p index) body) begun))
+      then_do (tick state) (λ begun. with_value begun (value_now p begun count) (counted (λ index. run_row (turned p index) body) begun))
 
   pub run_row : Place → BodyRow → State → Outcome
   run_row p NoBody state = Goes state
@@ -201,16 +194,18 @@ steps_in (Atomic body) = body
 steps_in (Compound activity) = []
 
 -- the steps of the action's body, given the ranges of its locals, which all begin at 0
-abbrev pub steps_run : ModelTree → Scenario → List Answered → Act → List BodyStepTree → List Span → Option BodyRun
-steps_run m s calls act steps ranges =
-    run_of (run_steps (record { ranges = ranges; model = m; scenario = s; act = act; indices = [] }) steps (record { locals = map (λ range. pos 0) ranges; count = 0; left = calls }))
+abbrev pub steps_run : ModelTree → Scenario → List Answered → ℕ → Act → List BodyStepTree → List Span → Option BodyRun
+steps_run m s calls a act steps ranges =
+    run_of
+    (run_steps (record { ranges = ranges; model = m; scenario = s; number = a; act = act; indices = [] }) steps
+    (record { locals = map (λ range. pos 0) ranges; count = 0; left = calls }))
 
-abbrev pub body_of : ModelTree → Scenario → List Answered → Act → List BodyStepTree → Option BodyRun
-body_of m s calls act steps = steps_run m s calls act steps (flat_map ranges_in steps)
+abbrev pub body_of : ModelTree → Scenario → List Answered → ℕ → Act → List BodyStepTree → Option BodyRun
+body_of m s calls a act steps = steps_run m s calls a act steps (flat_map ranges_in steps)
 
-abbrev pub act_run : ModelTree → Scenario → List Answered → Act → Option BodyRun
-act_run m s calls act = option_and_then (λ type. body_of m s calls act (steps_in type.content)) (type_of m act.action)
+abbrev pub act_run : ModelTree → Scenario → List Answered → ℕ → Act → Option BodyRun
+act_run m s calls a act = option_and_then (λ type. body_of m s calls a act (steps_in type.content)) (type_of m act.action)
 
 -- The body of the action, given these answered calls; nothing where it makes other calls.
 abbrev pub body_run : ModelTree → Scenario → ℕ → List Answered → Option BodyRun
-body_run m s a calls = option_and_then (act_run m s calls) (slice_get s.actions a)
+body_run m s a calls = option_and_then (act_run m s calls a) (slice_get s.actions a)

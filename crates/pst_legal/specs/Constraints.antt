@@ -16,8 +16,9 @@ use Rattle.pst_scen.specs.declared.scenario.Scenario.{Scenario}
 use Rattle.pst_legal.specs.Types.{type_of, pool_object, is_state_pool, is_output}
 use Rattle.pst_legal.specs.Pieces.{is_true}
 use Rattle.pst_scen.specs.Scenarios.{reference_at}
-use Rattle.pst_legal.specs.Standing.{StandsFor}
-use Rattle.pst_legal.specs.Slots.{Standing, value_of, bound_of, node_slot, act_slot, inline_slot, output_slot, resource_slot, first_object_slot}
+use Rattle.pst_legal.specs.Statements.{StandsFor}
+use Rattle.pst_legal.specs.Standing.{Standing, value_of, bound_of}
+use Rattle.pst_legal.specs.Slots.{node_slot, act_slot, inline_slot, output_slot, resource_slot, first_object_slot}
 
 -- an action of the scenario, with its type
 pub record IsActOfType (m : ModelTree) (s : Scenario) (a : ℕ) (act : Act) (type : ActionTree) : Type 0 where
@@ -32,15 +33,15 @@ pub data HasConstraint (m : ModelTree) (s : Scenario) : ConstraintTree → (Slot
       → Contains type.constraints k → HasConstraint m s k (node_slot m s n)
   -- of an atomic action
   OfAct : (a : ℕ) (act : Act) (type : ActionTree) (k : ConstraintTree)
-      → IsActOfType m s a act type → Contains type.constraints k → HasConstraint m s k (act_slot m s act)
+      → IsActOfType m s a act type → Contains type.constraints k → HasConstraint m s k (act_slot m s a act)
   -- of the object that an action writes
   OfOutput : (a r : ℕ) (filled : Filled) (object : ObjectTree) (k : ConstraintTree)
       → reference_at s.actions a r ≡ Some filled → is_output filled.flow ≡ true → pool_object m filled.pool ≡ Some object
-      → Contains object.constraints k → HasConstraint m s k (output_slot m s filled)
+      → Contains object.constraints k → HasConstraint m s k (output_slot m s a r filled)
   -- of the resource that an action claims
   OfClaim : (a c : ℕ) (act : Act) (type : ActionTree) (claim : Claim) (object : ObjectTree) (k : ConstraintTree)
       → IsActOfType m s a act type → slice_get type.claims c ≡ Some claim → slice_get m.objects claim.object ≡ Some object
-      → Contains object.constraints k → HasConstraint m s k (resource_slot m act c)
+      → Contains object.constraints k → HasConstraint m s k (resource_slot m a act c)
   -- of the first object of a state pool that an action refers to
   OfFirst : (a r : ℕ) (filled : Filled) (object : ObjectTree) (k : ConstraintTree)
       → reference_at s.actions a r ≡ Some filled → is_state_pool m filled.pool ≡ true → pool_object m filled.pool ≡ Some object

@@ -3,7 +3,7 @@ use Rattle.std.specs.Prelude.{◌≡◌, ◌≢◌, ℕ, ◌+◌, ◌<◌, ◌�
 use Rattle.pst_model.specs.ConstraintTree.{SlotTree, ConstraintTree}
 use Rattle.pst_model.specs.ModelTree.{ModelTree}
 use Rattle.pst_scen.specs.declared.scenario.Scenario.{Scenario}
-use Rattle.pst_legal.specs.Slots.{Standing}
+use Rattle.pst_legal.specs.Standing.{Standing}
 use Rattle.pst_legal.specs.Constraints.{HasConstraint, is_refused_at}
 use Rattle.pst_legal.specs.ValueReading.{Answer, Options, Dead, Whole, read}
 use Rattle.pst_legal.specs.Legal.{Legal}

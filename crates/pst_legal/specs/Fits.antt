@@ -10,7 +10,7 @@ use Rattle.pst_scen.specs.declared.act.Filled.{Filled}
 use Rattle.pst_scen.specs.declared.act.Claimed.{Claimed}
 use Rattle.pst_scen.specs.declared.scenario.First.{First}
 use Rattle.pst_scen.specs.declared.scenario.Scenario.{Scenario}
-use Rattle.pst_legal.specs.Types.{type_of, served, served_claim, reference_flow, reference_of, pool_object, is_output}
+use Rattle.pst_legal.specs.Types.{type_of, served, served_claim, reference_flow, action_reference, pool_object, is_output}
 use Rattle.pst_legal.specs.Growing.{nothing_yet, Look, with_look, most_levels, IsWithin}
 use Rattle.pst_legal.specs.Pieces.{Piece, Action, IsWay, IsValueOf}
 
@@ -54,7 +54,7 @@ AreObjectValues (Some object) values = AllZip IsValueOf object.fields values
 -- the reference of that number: its pool and its direction are the model's, and an output has its object's values
 pub record IsReferenceOf (m : ModelTree) (act : Act) (number : ℕ) (filled : Filled) : Type 0 where
   pub reference : Reference
-  pub is : reference_of m act.action number ≡ Some reference
+  pub is : action_reference m act.action number ≡ Some reference
   pub pool : served m act.action act.instance number ≡ Some filled.pool
   pub flow : reference_flow m reference ≡ Some filled.flow
   pub output : is_output filled.flow ≡ true → AreObjectValues (slice_get m.objects reference.object) filled.values

@@ -3,6 +3,8 @@ pub mod Growing
 pub mod Pieces
 pub mod Shape
 pub mod Fits
+pub mod Statements
+pub mod Blanks
 pub mod Standing
 pub mod Slots
 pub mod Constraints

@@ -96,9 +96,9 @@ mask (true ∷ bits) = 2 * mask bits + 1
 mask (false ∷ bits) = 2 * mask bits
 
 -- The branches that a block waits for, bit k for branch k: those that are named, or any n of all.
-abbrev pub IsJoin : Join → ℕ → ℕ → Type 0
-IsJoin (Fixed named) branches joined = joined ≡ named
-IsJoin (Choose n) branches joined = (bits : List Bool) × (length bits ≡ branches) × (count_by (λ b. b) bits ≡ n) × (joined ≡ mask bits)
+abbrev pub IsJoined : Join → ℕ → ℕ → Type 0
+IsJoined (Fixed named) branches joined = joined ≡ named
+IsJoined (Choose n) branches joined = (bits : List Bool) × (length bits ≡ branches) × (count_by (λ b. b) bits ≡ n) × (joined ≡ mask bits)
 
 -- any branch whose guard is absent or holds
 pub record IsSelectWay (c : Context) (branches : List BranchTree) (look : Look) (below : List Piece) : Type 0 where
@@ -126,7 +126,7 @@ IsStatementWay m c (Sequence steps) look below = (look ≡ Inner fill.Sequence) 
 IsStatementWay m c (Parallel steps) look below = (look ≡ Inner fill.Parallel) × (below ≡ statements c (steps_of steps))
 IsStatementWay m c (Schedule steps) look below = (look ≡ Inner fill.Schedule) × (below ≡ statements c (steps_of steps))
 IsStatementWay m c (Joined parallel join steps) look below =
-    (joined : ℕ) × IsJoin join (length (steps_of steps)) joined × (look ≡ Inner (fill.Joined parallel joined)) × (below ≡ statements c (steps_of steps))
+    (joined : ℕ) × IsJoined join (length (steps_of steps)) joined × (look ≡ Inner (fill.Joined parallel joined)) × (below ≡ statements c (steps_of steps))
 IsStatementWay m c (Select branches) look below = IsSelectWay c (branches_of branches) look below
 IsStatementWay m c (Repeat count body) look below =
     (n : ℕ) × (value_in c count ≡ Some (pos n)) × (look ≡ Inner fill.Repeat) × (below ≡ turns c body 0 n)

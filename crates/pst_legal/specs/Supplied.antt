@@ -89,9 +89,9 @@ named_after n (link.Act b q) = max n (b + 1)
 
 -- Each need stands in an action that has been named, and names one that has been named or the one with the next number;
 -- in the end so many are named.
-abbrev pub AreNumbered : List Linking → ℕ → ℕ → Type 0
-AreNumbered [] named total = named ≡ total
-AreNumbered (need ∷ needs) named total = (need.act < named) × NamesBelow (named + 1) need.link × AreNumbered needs (named_after named need.link) total
+abbrev pub AreNamedInTurn : List Linking → ℕ → ℕ → Type 0
+AreNamedInTurn [] named total = named ≡ total
+AreNamedInTurn (need ∷ needs) named total = (need.act < named) × NamesBelow (named + 1) need.link × AreNamedInTurn needs (named_after named need.link) total
 
 -- ---- supplied scenarios
 
@@ -101,4 +101,4 @@ pub record Supplied (m : ModelTree) (s : Scenario) : Type 0 where
   pub chains : (a r : ℕ) (filled : Filled) → reference_at s.actions a r ≡ Some filled → filled.flow ≡ StateOut → ComesFromFirst s.actions a r
   pub bound : (a r b q : ℕ) (filled : Filled) → reference_at s.actions a r ≡ Some filled → fixed_source (bounds_of m s.nodes) a r filled.flow ≡ Some (b, q) → filled.link ≡ link.Act b q
   pub inferred : (a : ℕ) (act : Act) → slice_get s.actions a ≡ Some act → act.node ≡ None → IsInferable m act
-  pub numbered : AreNumbered (linkings s.actions) (length (leaves_of s.nodes)) (length s.actions)
+  pub numbered : AreNamedInTurn (linkings s.actions) (length (leaves_of s.nodes)) (length s.actions)

@@ -25,8 +25,8 @@ activity_in (Atomic body) = None
 activity_in (Compound activity) = Some activity
 
 -- the activity of a compound action type
-abbrev pub activity_of : ModelTree → ℕ → Option ActivityTree
-activity_of m action = option_and_then (λ type. activity_in type.content) (type_of m action)
+abbrev pub action_activity : ModelTree → ℕ → Option ActivityTree
+action_activity m action = option_and_then (λ type. activity_in type.content) (type_of m action)
 
 -- the field of that number of an action type
 abbrev pub action_field : ModelTree → ℕ → ℕ → Option Field
@@ -37,12 +37,12 @@ abbrev pub object_field : ModelTree → ℕ → ℕ → Option Field
 object_field m object field = option_and_then (λ type. slice_get type.fields field) (slice_get m.objects object)
 
 -- the reference of that number of an action type
-abbrev pub reference_of : ModelTree → ℕ → ℕ → Option Reference
-reference_of m action reference = option_and_then (λ type. slice_get type.references reference) (type_of m action)
+abbrev pub action_reference : ModelTree → ℕ → ℕ → Option Reference
+action_reference m action reference = option_and_then (λ type. slice_get type.references reference) (type_of m action)
 
 -- the claim of that number of an action type
-abbrev pub claim_of : ModelTree → ℕ → ℕ → Option Claim
-claim_of m action claim = option_and_then (λ type. slice_get type.claims claim) (type_of m action)
+abbrev pub action_claim : ModelTree → ℕ → ℕ → Option Claim
+action_claim m action claim = option_and_then (λ type. slice_get type.claims claim) (type_of m action)
 
 -- the type of the objects of a pool
 abbrev pub pool_object : ModelTree → ℕ → Option ObjectTree

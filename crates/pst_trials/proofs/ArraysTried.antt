@@ -80,7 +80,7 @@ pub no_quotient : at (divided quotient) quotient three_and_zero ≡ None
 unfolding generator_at u32_at pcg32_seed word_bytes numbers_from
 no_quotient = refl
 
-pub quotient_refused : is_refused_at quotient (act_slot (divided quotient) (scenario three_and_zero) (act three_and_zero)) ≡ true
+pub quotient_refused : is_refused_at quotient (act_slot (divided quotient) (scenario three_and_zero) 0 (act three_and_zero)) ≡ true
 unfolding generator_at u32_at pcg32_seed word_bytes numbers_from
 quotient_refused = refl
 
@@ -176,12 +176,12 @@ legal_by fields constraints values are hold = record {
 
 -- one fact for each constraint of the action, of which some values may not be read yet
 each_of : (P : Property) (fields : List Field) (constraints : List ConstraintTree) (values : List ℤ)
-    → EachOf (P (act_slot (model fields constraints) (scenario values) (act values))) constraints → EachConstraint P (model fields constraints) (scenario values)
+    → EachOf (P (act_slot (model fields constraints) (scenario values) 0 (act values))) constraints → EachConstraint P (model fields constraints) (scenario values)
 each_of P fields constraints values facts =
     record { inlines = none_inline P (model fields constraints) (scenario values) (tt, tt); compounds = (tt, tt); acts = (facts, tt); claims = (tt, tt); outputs = (tt, tt); firsts = (tt, tt) }
 
 hold_by : (fields : List Field) (constraints : List ConstraintTree) (values : List ℤ)
-    → EachOf (HoldsAt (act_slot (model fields constraints) (scenario values) (act values))) constraints → Holds (model fields constraints) (scenario values)
+    → EachOf (HoldsAt (act_slot (model fields constraints) (scenario values) 0 (act values))) constraints → Holds (model fields constraints) (scenario values)
 hold_by fields constraints values facts = holds_by (model fields constraints) (scenario values) (each_of HoldsAt fields constraints values facts)
 
 -- a number from 0 to 15
@@ -216,7 +216,7 @@ Passes standing k = is_refused_at k standing ≡ false
 abbrev bytes : List Field
 bytes = field_to 255 ∷ field_to 255 ∷ []
 
-none_refused : (values : List ℤ) → EachOf (Passes (act_slot odd_and_even (scenario values) (act values))) (leaves 0 ∷ leaves 1 ∷ []) → NoneRefused odd_and_even (scenario values)
+none_refused : (values : List ℤ) → EachOf (Passes (act_slot odd_and_even (scenario values) 0 (act values))) (leaves 0 ∷ leaves 1 ∷ []) → NoneRefused odd_and_even (scenario values)
 none_refused values facts = each_constraint Passes odd_and_even (scenario values) (each_of Passes bytes (leaves 0 ∷ leaves 1 ∷ []) values facts)
 
 pub root_is_live : IsLive odd_and_even 0 1 0 (0 ∷ [])

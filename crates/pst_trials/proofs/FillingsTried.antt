@@ -14,7 +14,8 @@ use Rattle.pst_scen.specs.declared.act.Flow.TheVariants.{StateIn, StateOut}
 use Rattle.pst_scen.specs.declared.act.Link.TheVariants as link
 use Rattle.pst_scen.specs.declared.scenario.Scenario.{Scenario}
 use Rattle.pst_legal.specs.Types.{type_of, action_instances}
-use Rattle.pst_legal.specs.Slots.{Known, act_slot}
+use Rattle.pst_legal.specs.Standing.{Known}
+use Rattle.pst_legal.specs.Slots.{act_slot}
 use Rattle.pst_legal.specs.Constraints.{Holds, value_at, HasConstraint, OfFirst, OfAct}
 use Rattle.pst_legal.specs.Growing.{Look, Inner, Leaf, nothing_yet, with_look, most_levels}
 use Rattle.pst_legal.specs.Pieces.{Context, Piece, Action, Statement, Turning, holds_in, statements, IsContent, IsActionWay, IsSelectWay, IsStatementWay, IsMatchWay}

@@ -9,10 +9,10 @@ use Rattle.pst_scen.specs.Scenarios.{AreInPreorder}
 use Rattle.pst_scen.specs.Flows.{Streams, FromFirst, FromSecond}
 use Rattle.pst_scen.specs.Order.{Together, Itself, Linked}
 use Rattle.pst_scen.specs.Trace.{IsWholeGroup}
-use Rattle.pst_legal.specs.Standing.{StandsFor, AtTop, Below, InTurn}
+use Rattle.pst_legal.specs.Statements.{StandsFor, AtTop, Below, InTurn}
 use Rattle.pst_legal.specs.Slots.{inline_slot}
 use Rattle.pst_legal.specs.Constraints.{HasConstraint, Inline}
-use Rattle.pst_legal.specs.Pieces.{IsJoin, mask}
+use Rattle.pst_legal.specs.Pieces.{IsJoined, mask}
 use Rattle.pst_trials.specs.Parts.{number, constraint}
 use Rattle.pst_trials.specs.Handles.{nested, in_turns, turned, traversal, n_times, handled, handled_scenario, behind, left, three}
 use Rattle.pst_trials.proofs.Cases.{some_same, none_some, each_contained}
@@ -35,16 +35,16 @@ handled_has = Inline 1 0 1 None (behind ∷ []) [] behind (AtTop 1 0 2 0 (pos 3 
 
 -- ---- join forms
 
-pub none_of_two : IsJoin (Choose 0) 2 0
+pub none_of_two : IsJoined (Choose 0) 2 0
 none_of_two = (false ∷ false ∷ [], refl, refl, refl)
 
-pub both_of_two : IsJoin (Choose 2) 2 3
+pub both_of_two : IsJoined (Choose 2) 2 3
 both_of_two = (true ∷ true ∷ [], refl, refl, refl)
 
-pub second_of_three : IsJoin (Choose 1) 3 2
+pub second_of_three : IsJoined (Choose 1) 3 2
 second_of_three = (false ∷ true ∷ false ∷ [], refl, refl, refl)
 
-pub two_of_three : IsJoin (Choose 1) 3 3 → ⊥
+pub two_of_three : IsJoined (Choose 1) 3 3 → ⊥
 two_of_three ([], many, count, is) = cc many
 two_of_three (a ∷ [], many, count, is) = cc many
 two_of_three (a ∷ b ∷ [], many, count, is) = cc many
@@ -58,7 +58,7 @@ two_of_three (false ∷ false ∷ true ∷ [], many, count, is) = differ 3 4 ref
 two_of_three (false ∷ false ∷ false ∷ [], many, count, is) = differ 3 0 refl is
 two_of_three (a ∷ b ∷ c ∷ d ∷ more, many, count, is) = cc many
 
-pub three_of_two : (joined : ℕ) → IsJoin (Choose 3) 2 joined → ⊥
+pub three_of_two : (joined : ℕ) → IsJoined (Choose 3) 2 joined → ⊥
 three_of_two joined ([], many, count, is) = cc many
 three_of_two joined (a ∷ [], many, count, is) = cc many
 three_of_two joined (true ∷ true ∷ [], many, count, is) = differ 2 3 refl count

@@ -7,7 +7,7 @@ use Rattle.pst_scen.specs.declared.scenario.Scenario.{Scenario}
 use Rattle.pst_scen.specs.declared.event.Event.TheVariants.{End}
 use Rattle.pst_scen.specs.Order.{Must}
 use Rattle.pst_scen.specs.Trace.{MayCome, Starts, IsLegalTrace, IsWhole}
-use Rattle.pst_legal.specs.Supplied.{AreNumbered, linkings}
+use Rattle.pst_legal.specs.Supplied.{AreNamedInTurn, linkings}
 use Rattle.pst_legal.specs.Legal.{Legal}
 use Rattle.pst_legal.specs.ValueReading.{Dead, Whole, read}
 use Rattle.pst_trials.specs.Parts.{input, output, act_of, filled, scenario_of, start, places}
@@ -59,7 +59,7 @@ unfolding generator_at u32_at pcg32_seed word_bytes numbers_from
 dead_without [] = refl
 dead_without (digit ∷ more) = dead_if (nat_lt digit 0) _ _ (let least : 0 ≤ digit = omega arith in le-ltb digit 0 least)
 
-pub numbered : AreNumbered (linkings scenario.actions) 1 2
+pub numbered : AreNamedInTurn (linkings scenario.actions) 1 2
 numbered = (lit< tt, lit< tt, refl)
 
 in_order : IsPreorder scenario.nodes

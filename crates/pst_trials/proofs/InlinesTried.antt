@@ -3,8 +3,9 @@ use Rattle.std.specs.Prelude.{◌≡◌, ℕ, pos, List, [], ◌∷◌, Option, 
 use Rattle.pst_model.specs.ConstraintTree.{ConstraintTree, Own, Through, Outer}
 use Rattle.pst_model.specs.ActivityTree.{StepTree, Traverse}
 use Rattle.pst_scen.specs.declared.tree.Fill.TheVariants as fill
-use Rattle.pst_legal.specs.Standing.{handle_node}
-use Rattle.pst_legal.specs.Slots.{Known, Between, node_slot, inline_slot}
+use Rattle.pst_legal.specs.Statements.{handle_node}
+use Rattle.pst_legal.specs.Standing.{Known, Unread}
+use Rattle.pst_legal.specs.Slots.{node_slot, inline_slot}
 use Rattle.pst_legal.specs.Constraints.{HasConstraint, Holds, value_at}
 use Rattle.pst_legal.specs.First.{IsLive}
 use Rattle.pst_legal.specs.ValueReading.{Whole, read}
@@ -16,10 +17,10 @@ use Rattle.pst_rng.specs.Words.{generator_at}
 use Rattle.pst_expr.specs.Spans.{numbers_from}
 use Rattle.pst_trials.specs.Inlines.{is_next, is_nine, is_outer, entry, model, scenario, filling, choices, begun}
 use Rattle.pst_legal.specs.Constraints.{OfCompound, Inline}
-use Rattle.pst_legal.specs.Standing.{IsBranch, AtTop as AtTopStatement}
+use Rattle.pst_legal.specs.Statements.{IsBranch, AtTop as AtTopStatement}
 use Rattle.pst_scen.specs.declared.tree.Fill.{Fill}
 use Rattle.pst_model.specs.ActivityTree.{ActivityTree}
-use Rattle.pst_legal.specs.Types.{activity_of}
+use Rattle.pst_legal.specs.Types.{action_activity}
 use Rattle.pst_trials.proofs.Cases.{Each, some_same}
 use Rattle.pst_trials.proofs.Legality.{HoldsAt, EachInline, StandsAtTop, stands_at_top}
 use Rattle.std.proofs.Common.{sym, subst, lit<, true≢false, Contains, slice_get}
@@ -50,11 +51,11 @@ pub no_handle_yet : handle_node model begun.nodes 0 1 0 ≡ None
 unfolding generator_at u32_at pcg32_seed word_bytes numbers_from
 no_handle_yet = refl
 
-pub handle_unread : node_slot model begun 0 (Through 0 (Own 0)) ≡ Between (span 0 15)
+pub handle_unread : node_slot model begun 0 (Through 0 (Own 0)) ≡ Unread (span 0 15)
 unfolding generator_at u32_at pcg32_seed word_bytes numbers_from
 handle_unread = refl
 
-pub own_unread : node_slot model begun 0 (Own 0) ≡ Between (span 0 15)
+pub own_unread : node_slot model begun 0 (Own 0) ≡ Unread (span 0 15)
 unfolding generator_at u32_at pcg32_seed word_bytes numbers_from
 own_unread = refl
 
@@ -125,7 +126,7 @@ inlines : EachInline HoldsAt model filling
 inlines n top action handle inline indices k stands contained =
     let t : StandsAtTop model filling.nodes top n (Traverse action handle inline) indices = stands_at_top model filling.nodes (tt, ((refl, (refl, (refl, tt))), tt)) top n (Traverse action handle inline) indices stands in
     let root : (top ≡ 0) × (t.action ≡ 1) = subst (IsRoot top) t.compound (each (λ n node. IsRoot n node.fill) filling.nodes ((refl, refl), (tt, (tt, (tt, tt)))) top t.node t.is_node) in
-    let same : activity ≡ t.activity = some_same activity t.activity (subst (λ a. activity_of model a ≡ Some t.activity) root.1 t.has) in
+    let same : activity ≡ t.activity = some_same activity t.activity (subst (λ a. action_activity model a ≡ Some t.activity) root.1 t.has) in
     let is : slice_get steps t.index ≡ Some (Traverse action handle inline) = subst (λ (a : ActivityTree). slice_get a.steps t.index ≡ Some (Traverse action handle inline)) (sym same) t.is in
     let branch : IsBranch filling.nodes 0 t.index n = subst (λ top. IsBranch filling.nodes top t.index n) root.0 t.branch in
     let holds : HoldsAt (inline_slot model filling n 0 []) k =

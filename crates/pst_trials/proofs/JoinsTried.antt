@@ -38,7 +38,7 @@ use Rattle.pst_legal.specs.Growing.{nothing_yet, most_levels, Leaf}
 use Rattle.pst_legal.specs.Pieces.{Action, IsActionWay}
 use Rattle.pst_legal.specs.Fits.{Fills, FillsRoot}
 use Rattle.pst_model.specs.declared.activity.Join.{Join}
-use Rattle.pst_legal.specs.Pieces.{IsJoin}
+use Rattle.pst_legal.specs.Pieces.{IsJoined}
 use Rattle.std.proofs.Common.{None}
 use Rattle.pst_model.specs.ActivityTree.{StepTree}
 
@@ -275,7 +275,7 @@ way block action below = each_below (λ action. IsActionWay (model block) action
     third : IsActionWay (model block) 2 (Some 0) (Leaf 2 0) []
     third = record { type = _; is = refl; instance = 0; inside = (0, lit< tt, refl); content = (refl, refl) }
 
-fills_of : (join : Join) (joined : ℕ) → IsJoin join 2 joined → Fills (model (Joined true join branches)) most_levels (Action 3 None) None (nothing_yet 0) (scenario (fill.Joined true joined))
+fills_of : (join : Join) (joined : ℕ) → IsJoined join 2 joined → Fills (model (Joined true join branches)) most_levels (Action 3 None) None (nothing_yet 0) (scenario (fill.Joined true joined))
 fills_of join joined is_join = (
   _,
   _,
@@ -287,7 +287,7 @@ fills_of join joined is_join = (
   ),
 )
 
-root_of : (join : Join) (joined : ℕ) → IsJoin join 2 joined → FillsRoot (model (Joined true join branches)) 3 (scenario (fill.Joined true joined))
+root_of : (join : Join) (joined : ℕ) → IsJoined join 2 joined → FillsRoot (model (Joined true join branches)) 3 (scenario (fill.Joined true joined))
 root_of join joined is_join = record {
   tree = scenario (fill.Joined true joined);
   fills = fills_of join joined is_join;

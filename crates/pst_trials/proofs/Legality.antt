@@ -16,11 +16,12 @@ use Rattle.pst_scen.specs.declared.act.Link.TheVariants as link
 use Rattle.pst_scen.specs.declared.scenario.Scenario.{Scenario}
 use Rattle.std.specs.Option.{option_map}
 use Rattle.pst_scen.specs.Tree.{StandsUnder, AtTop, Below}
-use Rattle.pst_legal.specs.Types.{type_of, activity_in, activity_of, pool_object, is_state_pool, is_output}
+use Rattle.pst_legal.specs.Types.{type_of, activity_in, action_activity, pool_object, is_state_pool, is_output}
 use Rattle.pst_scen.specs.Conflicts.{Uses}
 use Rattle.pst_scen.specs.Scenarios.{reference_at, AreInPreorder, IsLinkOf, IsStream, AreLinked, HasFirsts}
-use Rattle.pst_legal.specs.Standing.{IsBranch, StandsFor, AtTop as AtTopStatement, Below as BelowStatement, InTurn, step_below}
-use Rattle.pst_legal.specs.Slots.{Standing, node_slot, act_slot, inline_slot, output_slot, resource_slot, first_object_slot}
+use Rattle.pst_legal.specs.Statements.{IsBranch, StandsFor, AtTop as AtTopStatement, Below as BelowStatement, InTurn, step_below}
+use Rattle.pst_legal.specs.Standing.{Standing}
+use Rattle.pst_legal.specs.Slots.{node_slot, act_slot, inline_slot, output_slot, resource_slot, first_object_slot}
 use Rattle.pst_legal.specs.Pieces.{is_true}
 use Rattle.pst_legal.specs.Constraints.{HasConstraint, OfCompound, OfAct, OfOutput, OfClaim, OfFirst, Inline, value_at, Holds}
 use Rattle.pst_legal.specs.Binds.{Bound, fixed_source}
@@ -314,14 +315,14 @@ abbrev pub CompoundHolds : Property → ModelTree → Scenario → ℕ → Fill 
 CompoundHolds P m s n (fill.Compound action instance fields) = OnSome (λ type. EachOf (P (node_slot m s n)) type.constraints) (type_of m action)
 CompoundHolds P m s n _ = Unit {0}
 
-abbrev pub ActHolds : Property → ModelTree → Scenario → Act → Type 0
-ActHolds P m s act = OnSome (λ type. EachOf (P (act_slot m s act)) type.constraints) (type_of m act.action)
+abbrev pub ActHolds : Property → ModelTree → Scenario → ℕ → Act → Type 0
+ActHolds P m s a act = OnSome (λ type. EachOf (P (act_slot m s a act)) type.constraints) (type_of m act.action)
 
-abbrev pub ClaimsHold : Property → ModelTree → Act → Type 0
-ClaimsHold P m act = OnSome (λ type. Each (λ c claim. OnSome (λ object. EachOf (P (resource_slot m act c)) object.constraints) (slice_get m.objects claim.object)) type.claims) (type_of m act.action)
+abbrev pub ClaimsHold : Property → ModelTree → ℕ → Act → Type 0
+ClaimsHold P m a act = OnSome (λ type. Each (λ c claim. OnSome (λ object. EachOf (P (resource_slot m a act c)) object.constraints) (slice_get m.objects claim.object)) type.claims) (type_of m act.action)
 
-abbrev pub OutputHolds : Property → ModelTree → Scenario → Filled → Type 0
-OutputHolds P m s filled = When (is_output filled.flow) (OnSome (λ object. EachOf (P (output_slot m s filled)) object.constraints) (pool_object m filled.pool))
+abbrev pub OutputHolds : Property → ModelTree → Scenario → ℕ → ℕ → Filled → Type 0
+OutputHolds P m s a r filled = When (is_output filled.flow) (OnSome (λ object. EachOf (P (output_slot m s a r filled)) object.constraints) (pool_object m filled.pool))
 
 abbrev pub FirstHolds : Property → ModelTree → Scenario → Filled → Type 0
 FirstHolds P m s filled = When (is_state_pool m filled.pool) (OnSome (λ object. EachOf (P (first_object_slot m s filled.pool)) object.constraints) (pool_object m filled.pool))
@@ -336,9 +337,9 @@ EachInline P m s =
 pub record EachConstraint (P : Property) (m : ModelTree) (s : Scenario) : Type 0 where
   pub inlines : EachInline P m s
   pub compounds : Each (λ n node. CompoundHolds P m s n node.fill) s.nodes
-  pub acts : Each (λ a act. ActHolds P m s act) s.actions
-  pub claims : Each (λ a act. ClaimsHold P m act) s.actions
-  pub outputs : Each (λ a act. Each (λ r filled. OutputHolds P m s filled) act.references) s.actions
+  pub acts : Each (λ a act. ActHolds P m s a act) s.actions
+  pub claims : Each (λ a act. ClaimsHold P m a act) s.actions
+  pub outputs : Each (λ a act. Each (λ r filled. OutputHolds P m s a r filled) act.references) s.actions
   pub firsts : Each (λ a act. Each (λ r filled. FirstHolds P m s filled) act.references) s.actions
 
 no_inline : (k : ConstraintTree) (inline : List ConstraintTree) → inline ≡ [] → Contains inline k → ⊥
@@ -355,21 +356,21 @@ each_constraint P m s all _ _ (OfCompound n action instance fields node type k i
     (on_some (λ type. EachOf (P (node_slot m s n)) type.constraints) (type_of m action) type
     (subst (CompoundHolds P m s n) compound (each (λ n node. CompoundHolds P m s n node.fill) s.nodes all.compounds n node is)) of_type) k contained
 each_constraint P m s all _ _ (OfAct a act type k is contained) =
-    each_contained (P (act_slot m s act)) type.constraints
-    (on_some (λ type. EachOf (P (act_slot m s act)) type.constraints) (type_of m act.action) type
-    (each (λ a act. ActHolds P m s act) s.actions all.acts a act is.is) is.of_type) k contained
+    each_contained (P (act_slot m s a act)) type.constraints
+    (on_some (λ type. EachOf (P (act_slot m s a act)) type.constraints) (type_of m act.action) type
+    (each (λ a act. ActHolds P m s a act) s.actions all.acts a act is.is) is.of_type) k contained
 each_constraint P m s all _ _ (OfOutput a r filled object k is output has contained) =
-    each_contained (P (output_slot m s filled)) object.constraints
-    (on_some (λ object. EachOf (P (output_slot m s filled)) object.constraints) (pool_object m filled.pool) object
-    (due (is_output filled.flow) (OnSome (λ object. EachOf (P (output_slot m s filled)) object.constraints) (pool_object m filled.pool)) output
-    (each_reference (λ a r filled. OutputHolds P m s filled) s.actions all.outputs a r filled is)) has) k contained
+    each_contained (P (output_slot m s a r filled)) object.constraints
+    (on_some (λ object. EachOf (P (output_slot m s a r filled)) object.constraints) (pool_object m filled.pool) object
+    (due (is_output filled.flow) (OnSome (λ object. EachOf (P (output_slot m s a r filled)) object.constraints) (pool_object m filled.pool)) output
+    (each_reference (λ a r filled. OutputHolds P m s a r filled) s.actions all.outputs a r filled is)) has) k contained
 each_constraint P m s all _ _ (OfClaim a c act type claim object k is is_claim is_object contained) =
-    let claims : Each (λ c claim. OnSome (λ object. EachOf (P (resource_slot m act c)) object.constraints) (slice_get m.objects claim.object)) type.claims =
-    on_some (λ type. Each (λ c claim. OnSome (λ object. EachOf (P (resource_slot m act c)) object.constraints) (slice_get m.objects claim.object)) type.claims) (type_of m act.action) type
-    (each (λ a act. ClaimsHold P m act) s.actions all.claims a act is.is) is.of_type in
-    each_contained (P (resource_slot m act c)) object.constraints
-    (on_some (λ object. EachOf (P (resource_slot m act c)) object.constraints) (slice_get m.objects claim.object) object
-    (each (λ c claim. OnSome (λ object. EachOf (P (resource_slot m act c)) object.constraints) (slice_get m.objects claim.object)) type.claims claims c claim is_claim) is_object) k contained
+    let claims : Each (λ c claim. OnSome (λ object. EachOf (P (resource_slot m a act c)) object.constraints) (slice_get m.objects claim.object)) type.claims =
+    on_some (λ type. Each (λ c claim. OnSome (λ object. EachOf (P (resource_slot m a act c)) object.constraints) (slice_get m.objects claim.object)) type.claims) (type_of m act.action) type
+    (each (λ a act. ClaimsHold P m a act) s.actions all.claims a act is.is) is.of_type in
+    each_contained (P (resource_slot m a act c)) object.constraints
+    (on_some (λ object. EachOf (P (resource_slot m a act c)) object.constraints) (slice_get m.objects claim.object) object
+    (each (λ c claim. OnSome (λ object. EachOf (P (resource_slot m a act c)) object.constraints) (slice_get m.objects claim.object)) type.claims claims c claim is_claim) is_object) k contained
 each_constraint P m s all _ _ (OfFirst a r filled object k is state has contained) =
     each_contained (P (first_object_slot m s filled.pool)) object.constraints
     (on_some (λ object. EachOf (P (first_object_slot m s filled.pool)) object.constraints) (pool_object m filled.pool) object
@@ -430,7 +431,7 @@ pub record StandsAtTop (m : ModelTree) (nodes : List Node) (top n : ℕ) (step :
   pub node : Node
   pub is_node : slice_get nodes top ≡ Some node
   pub compound : node.fill ≡ fill.Compound action instance fields
-  pub has : activity_of m action ≡ Some activity
+  pub has : action_activity m action ≡ Some activity
   pub branch : IsBranch nodes top index n
   pub is : slice_get activity.steps index ≡ Some step
   pub traverse : is_traverse step ≡ true

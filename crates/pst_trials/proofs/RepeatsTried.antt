@@ -4,8 +4,9 @@ use Rattle.pst_expr.specs.declared.tree.BinaryOp.TheVariants.{Sub}
 use Rattle.pst_model.specs.ConstraintTree.{Index}
 use Rattle.pst_model.specs.ActivityTree.{Repeat, If, NoStep}
 use Rattle.pst_scen.specs.declared.tree.Fill.TheVariants as fill
-use Rattle.pst_legal.specs.Slots.{Known, inline_slot}
-use Rattle.pst_legal.specs.Standing.{StandsFor}
+use Rattle.pst_legal.specs.Standing.{Known}
+use Rattle.pst_legal.specs.Slots.{inline_slot}
+use Rattle.pst_legal.specs.Statements.{StandsFor}
 use Rattle.pst_legal.specs.Constraints.{HasConstraint, value_at}
 use Rattle.pst_scen.specs.Order.{Before}
 use Rattle.pst_legal.specs.ValueReading.{Dead, Whole, read}
@@ -17,7 +18,7 @@ use Rattle.pst_rng.specs.Words.{generator_at}
 use Rattle.pst_expr.specs.Spans.{numbers_from}
 use Rattle.pst_trials.specs.Repeats.{plain, second_turn, turn_value, traversal, body, model, three, scenario, two_turns}
 use Rattle.pst_legal.specs.Constraints.{Inline}
-use Rattle.pst_legal.specs.Standing.{AtTop, Below, InTurn}
+use Rattle.pst_legal.specs.Statements.{AtTop, Below, InTurn}
 use Rattle.pst_scen.specs.Tree.{AtTop as UnderTop, Below as UnderBelow}
 use Rattle.std.proofs.Common.{lit<}
 use Rattle.pst_trials.proofs.Traces.{no_joins}

@@ -6,7 +6,8 @@ use Rattle.pst_scen.specs.declared.act.Flow.TheVariants.{StateIn, StateOut}
 use Rattle.pst_scen.specs.declared.act.Link.TheVariants as link
 use Rattle.pst_scen.specs.declared.scenario.Scenario.{Scenario}
 use Rattle.pst_scen.specs.declared.event.Event.TheVariants.{End}
-use Rattle.pst_legal.specs.Slots.{Known, Lacking, act_slot, output_slot, first_object_slot}
+use Rattle.pst_legal.specs.Standing.{Known, Lacking}
+use Rattle.pst_legal.specs.Slots.{act_slot, output_slot, first_object_slot}
 use Rattle.pst_legal.specs.Constraints.{HasConstraint}
 use Rattle.pst_scen.specs.Order.{Must}
 use Rattle.pst_scen.specs.Conflicts.{Conflict}
@@ -67,15 +68,15 @@ pub options : places one 2 1 1 choices ≡ Some 1 ∷ Some 1 ∷ Some 2 ∷ Some
 unfolding generator_at u32_at pcg32_seed word_bytes numbers_from
 options = refl
 
-pub written_isn't_first : output_slot one filling (written (pos 1)) IsFirst ≡ Known (pos 0)
+pub written_isn't_first : output_slot one filling 1 0 (written (pos 1)) IsFirst ≡ Known (pos 0)
 unfolding generator_at u32_at pcg32_seed word_bytes numbers_from
 written_isn't_first = refl
 
-pub written_follows : output_slot one filling (written (pos 1)) (Prev 0) ≡ Known (pos 0)
+pub written_follows : output_slot one filling 1 0 (written (pos 1)) (Prev 0) ≡ Known (pos 0)
 unfolding generator_at u32_at pcg32_seed word_bytes numbers_from
 written_follows = refl
 
-pub written_value : output_slot one filling (written (pos 1)) (Own 0) ≡ Known (pos 1)
+pub written_value : output_slot one filling 1 0 (written (pos 1)) (Own 0) ≡ Known (pos 1)
 unfolding generator_at u32_at pcg32_seed word_bytes numbers_from
 written_value = refl
 
@@ -87,7 +88,7 @@ pub first_follows_nothing : first_object_slot one filling 0 (Prev 0) ≡ Lacking
 unfolding generator_at u32_at pcg32_seed word_bytes numbers_from
 first_follows_nothing = refl
 
-pub read_value : act_slot one filling reader (Object 0 0) ≡ Known (pos 1)
+pub read_value : act_slot one filling 0 reader (Object 0 0) ≡ Known (pos 1)
 unfolding generator_at u32_at pcg32_seed word_bytes numbers_from
 read_value = refl
 
@@ -133,13 +134,13 @@ then_the_writer = refl
 
 -- ---- the constraints of the scenario
 
-pub written_has : HasConstraint one filling one_more (output_slot one filling (written (pos 1)))
+pub written_has : HasConstraint one filling one_more (output_slot one filling 1 0 (written (pos 1)))
 written_has = OfOutput 1 0 (written (pos 1)) state one_more refl refl refl (1, lit< tt, refl)
 
 pub first_has : HasConstraint one filling at_first (first_object_slot one filling 0)
 first_has = OfFirst 1 0 (written (pos 1)) state at_first refl refl refl (0, lit< tt, refl)
 
-pub reader_has : HasConstraint one filling is_one (act_slot one filling reader)
+pub reader_has : HasConstraint one filling is_one (act_slot one filling 0 reader)
 reader_has = OfAct 0 reader _ is_one (record { is = refl; of_type = refl }) (0, lit< tt, refl)
 
 pub another_first : Legal one 2 (scenario (pos 1) (pos 2)) → ⊥

@@ -5,7 +5,7 @@ use Rattle.pst_scen.specs.declared.event.Event.{Event}
 use Rattle.pst_scen.specs.declared.event.Event.TheVariants.{Start, End}
 use Rattle.pst_scen.specs.Order.{Must, Together}
 use Rattle.pst_scen.specs.Trace.{MayCome, Starts, IsWholeGroup, IsLegalTrace, IsWhole}
-use Rattle.pst_legal.specs.Supplied.{AreNumbered, linkings}
+use Rattle.pst_legal.specs.Supplied.{AreNamedInTurn, linkings}
 use Rattle.pst_legal.specs.ValueReading.{Whole, read}
 use Rattle.pst_trials.specs.Parts.{places}
 use Rattle.std.proofs.Common.{◌≡◌, ◌<◌, inl, inr, false, true, nat_eq, refl, sym, lit<, true≢false, get_or, Contains, not-suc-le-zero}
@@ -43,7 +43,7 @@ options = refl
 in_order : IsPreorder scenario.nodes
 in_order = preorder_by scenario.nodes (refl, (refl, (refl, tt)))
 
-pub numbered : AreNumbered (linkings scenario.actions) 2 4
+pub numbered : AreNamedInTurn (linkings scenario.actions) 2 4
 numbered = (lit< tt, lit< tt, (lit< tt, lit< tt, (lit< tt, lit< tt, (lit< tt, lit< tt, refl))))
 
 -- the first two members of a group of two are in order

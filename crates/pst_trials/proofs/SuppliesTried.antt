@@ -12,7 +12,7 @@ use Rattle.pst_scen.specs.declared.scenario.Scenario.{Scenario}
 use Rattle.pst_scen.specs.Flows.{Refers, Reads}
 use Rattle.pst_scen.specs.Conflicts.{Uses}
 use Rattle.pst_scen.specs.Scenarios.{AreLinked, HasFirsts}
-use Rattle.pst_legal.specs.Supplied.{linkings, AreNumbered, is_source_for, IsSource, ArePreviousOnce}
+use Rattle.pst_legal.specs.Supplied.{linkings, AreNamedInTurn, is_source_for, IsSource, ArePreviousOnce}
 use Rattle.pst_trials.specs.Parts.{act_of, filled}
 use Rattle.pst_trials.specs.Supplies.{consumer, producer, shared, elsewhere, reading, first, rivals}
 use Rattle.pst_trials.proofs.Cases.{each_contained, some_same, false_true}
@@ -20,16 +20,16 @@ use Rattle.pst_trials.proofs.Orders.{each_refers}
 use Rattle.pst_trials.proofs.Traces.{here}
 use Rattle.pst_trials.proofs.Legality.{differ}
 
-pub in_order : AreNumbered (linkings (consumer 2 ∷ consumer 3 ∷ producer ∷ producer ∷ [])) 2 4
+pub in_order : AreNamedInTurn (linkings (consumer 2 ∷ consumer 3 ∷ producer ∷ producer ∷ [])) 2 4
 in_order = (lit< tt, lit< tt, (lit< tt, lit< tt, refl))
 
-pub other_order : AreNumbered (linkings (consumer 3 ∷ consumer 2 ∷ producer ∷ producer ∷ [])) 2 4 → ⊥
+pub other_order : AreNamedInTurn (linkings (consumer 3 ∷ consumer 2 ∷ producer ∷ producer ∷ [])) 2 4 → ⊥
 other_order n = let high : 3 < 3 = n.1 in omega (arith, high)
 
-pub with_one : AreNumbered (linkings (consumer 2 ∷ consumer 2 ∷ producer ∷ [])) 2 3
+pub with_one : AreNamedInTurn (linkings (consumer 2 ∷ consumer 2 ∷ producer ∷ [])) 2 3
 with_one = (lit< tt, lit< tt, (lit< tt, lit< tt, refl))
 
-pub not_needed : AreNumbered (linkings (consumer 1 ∷ producer ∷ producer ∷ [])) 1 3 → ⊥
+pub not_needed : AreNamedInTurn (linkings (consumer 1 ∷ producer ∷ producer ∷ [])) 1 3 → ⊥
 not_needed n = differ 2 3 refl n.2
 
 act_same : (a q b r : ℕ) → link.Act a q ≡ link.Act b r → a ≡ b

@@ -35,7 +35,7 @@ scenario values = scenario_of 0 (record { parent = None; fill = fill.Leaf 0 } �
 
 -- the value of a constraint of the action at these values
 abbrev pub at : ModelTree → ConstraintTree → List ℤ → Option ℤ
-at m k values = value_at k (act_slot m (scenario values) (act values))
+at m k values = value_at k (act_slot m (scenario values) 0 (act values))
 
 -- ---- rand bit[4] a[3];
 
@@ -115,7 +115,7 @@ pub record ArraysAreTried : Type 0 where
   -- a quotient by 0 has no value, and a constraint without a value doesn't hold
   pub no_quotient : at (divided quotient) quotient three_and_zero ≡ None
   pub quotient_fails : Holds (divided quotient) (scenario three_and_zero) → ⊥
-  pub quotient_refused : is_refused_at quotient (act_slot (divided quotient) (scenario three_and_zero) (act three_and_zero)) ≡ true
+  pub quotient_refused : is_refused_at quotient (act_slot (divided quotient) (scenario three_and_zero) 0 (act three_and_zero)) ≡ true
   pub guarded_value : at (divided guarded) guarded three_and_zero ≡ Some (pos 1)
   pub guarded_reads : read (divided guarded) 0 1 0 (0 ∷ 12 ∷ 0 ∷ []) ≡ Whole (scenario three_and_zero)
   pub guarded_is_legal : Legal (divided guarded) 0 (scenario three_and_zero)

@@ -8,7 +8,9 @@ use Rattle.pst_model.specs.ModelTree.{ModelTree, ObjectTree}
 use Rattle.pst_scen.specs.declared.tree.Fill.TheVariants as fill
 use Rattle.pst_scen.specs.declared.act.Act.{Act}
 use Rattle.pst_scen.specs.declared.scenario.Scenario.{Scenario}
-use Rattle.pst_legal.specs.Slots.{Known, Lacking, Between, act_slot, resource_slot}
+use Rattle.pst_legal.specs.Blanks.{Instance, OfClaim as OfClaimBlank}
+use Rattle.pst_legal.specs.Standing.{Known, Lacking, Open}
+use Rattle.pst_legal.specs.Slots.{act_slot, resource_slot}
 use Rattle.pst_legal.specs.Constraints.{HasConstraint, value_at}
 use Rattle.pst_legal.specs.First.{IsLive}
 use Rattle.pst_legal.specs.ValueReading.{Whole, read}
@@ -60,21 +62,21 @@ pub record ClaimValuesAreTried : Type 0 where
   pub reads : read model 0 1 0 (0 ∷ 0 ∷ 6 ∷ []) ≡ Whole filling
   pub options : places model 0 1 0 (0 ∷ 0 ∷ 6 ∷ []) ≡ Some 1 ∷ Some 2 ∷ Some 16 ∷ []
   -- what the slots stand for, before the claim is read, before its value is, and then
-  pub instance_open : act_slot model (scenario_with unread) unread (ClaimId 0) ≡ Between (span 0 1)
-  pub field_open : act_slot model (scenario_with unread) unread (ClaimField 0 0) ≡ Between (span 0 15)
-  pub own_open : resource_slot model unread 0 Id ≡ Between (span 0 1)
-  pub instance_known : act_slot model (scenario_with (act 1 [])) (act 1 []) (ClaimId 0) ≡ Known (pos 1)
-  pub field_still_open : resource_slot model (act 1 []) 0 (Own 0) ≡ Between (span 0 15)
-  pub own_known : resource_slot model (act 1 (pos 6 ∷ [])) 0 Id ≡ Known (pos 1)
-  pub field_known : act_slot model filling (act 1 (pos 6 ∷ [])) (ClaimField 0 0) ≡ Known (pos 6)
-  pub no_second_claim : act_slot model filling (act 1 (pos 6 ∷ [])) (ClaimId 1) ≡ Lacking
+  pub instance_open : act_slot model (scenario_with unread) 0 unread (ClaimId 0) ≡ Open (Instance 0 0) (span 0 1)
+  pub field_open : act_slot model (scenario_with unread) 0 unread (ClaimField 0 0) ≡ Open (OfClaimBlank 0 0 0) (span 0 15)
+  pub own_open : resource_slot model 0 unread 0 Id ≡ Open (Instance 0 0) (span 0 1)
+  pub instance_known : act_slot model (scenario_with (act 1 [])) 0 (act 1 []) (ClaimId 0) ≡ Known (pos 1)
+  pub field_still_open : resource_slot model 0 (act 1 []) 0 (Own 0) ≡ Open (OfClaimBlank 0 0 0) (span 0 15)
+  pub own_known : resource_slot model 0 (act 1 (pos 6 ∷ [])) 0 Id ≡ Known (pos 1)
+  pub field_known : act_slot model filling 0 (act 1 (pos 6 ∷ [])) (ClaimField 0 0) ≡ Known (pos 6)
+  pub no_second_claim : act_slot model filling 0 (act 1 (pos 6 ∷ [])) (ClaimId 1) ≡ Lacking
   -- the resource's constraint is there before the claim is read
-  pub has_unread : HasConstraint model (scenario_with unread) five_more (resource_slot model unread 0)
-  pub has : HasConstraint model filling five_more (resource_slot model (act 1 (pos 6 ∷ [])) 0)
-  pub six : value_at five_more (resource_slot model (act 1 (pos 6 ∷ [])) 0) ≡ Some (pos 1)
-  pub seven : value_at five_more (resource_slot model (act 1 (pos 7 ∷ [])) 0) ≡ Some (pos 0)
-  pub second : value_at is_second (act_slot model filling (act 1 (pos 6 ∷ []))) ≡ Some (pos 1)
-  pub above : value_at above_five (act_slot model filling (act 1 (pos 6 ∷ []))) ≡ Some (pos 1)
+  pub has_unread : HasConstraint model (scenario_with unread) five_more (resource_slot model 0 unread 0)
+  pub has : HasConstraint model filling five_more (resource_slot model 0 (act 1 (pos 6 ∷ [])) 0)
+  pub six : value_at five_more (resource_slot model 0 (act 1 (pos 6 ∷ [])) 0) ≡ Some (pos 1)
+  pub seven : value_at five_more (resource_slot model 0 (act 1 (pos 7 ∷ [])) 0) ≡ Some (pos 0)
+  pub second : value_at is_second (act_slot model filling 0 (act 1 (pos 6 ∷ []))) ≡ Some (pos 1)
+  pub above : value_at above_five (act_slot model filling 0 (act 1 (pos 6 ∷ []))) ≡ Some (pos 1)
   -- the claim of instance 0 is refused before its value is read, that of instance 1 is not
   pub first_is_refused : IsLive model 0 1 0 (0 ∷ 1 ∷ []) → ⊥
   pub second_is_live : IsLive model 0 1 0 (0 ∷ 0 ∷ [])

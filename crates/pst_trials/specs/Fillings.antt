@@ -14,7 +14,8 @@ use Rattle.pst_scen.specs.declared.act.Flow.TheVariants.{StateIn, StateOut}
 use Rattle.pst_scen.specs.declared.act.Link.{Link}
 use Rattle.pst_scen.specs.declared.act.Link.TheVariants as link
 use Rattle.pst_scen.specs.declared.scenario.Scenario.{Scenario}
-use Rattle.pst_legal.specs.Slots.{Known, act_slot}
+use Rattle.pst_legal.specs.Standing.{Known}
+use Rattle.pst_legal.specs.Slots.{act_slot}
 use Rattle.pst_legal.specs.Constraints.{Holds, value_at}
 use Rattle.pst_legal.specs.Growing.{Look, Inner, Leaf, nothing_yet, most_levels}
 use Rattle.pst_legal.specs.Pieces.{Context, Piece, Action, Statement, IsActionWay, IsSelectWay, IsStatementWay, IsMatchWay}
@@ -122,12 +123,12 @@ pub record FillingsAreTried : Type 0 where
   -- a resource instance behind the last
   pub no_instance : IsClaimOf locking (act_claims 0 (Some 0) (claimed true 1 ∷ [])) 0 (claim true 0) (claimed true 1) → ⊥
   -- `initial` after an input of the first object, after another input, and after an output
-  pub initial_of_first : act_slot stated (read_and_write link.Initial) (reader link.Initial) (First 0) ≡ Known (pos 1)
-  pub initial_of_written : act_slot stated (read_and_write (link.Act 1 0)) (reader (link.Act 1 0)) (First 0) ≡ Known (pos 0)
-  pub initial_of_output : act_slot stated (read_and_write link.Initial) writer (First 0) ≡ Known (pos 0)
+  pub initial_of_first : act_slot stated (read_and_write link.Initial) 0 (reader link.Initial) (First 0) ≡ Known (pos 1)
+  pub initial_of_written : act_slot stated (read_and_write (link.Act 1 0)) 0 (reader (link.Act 1 0)) (First 0) ≡ Known (pos 0)
+  pub initial_of_output : act_slot stated (read_and_write link.Initial) 1 writer (First 0) ≡ Known (pos 0)
   -- `prev` of a first object
   pub no_previous : Holds stated (read_and_write link.Initial) → ⊥
   -- a sum that isn't a value, and the greatest that is
-  pub no_sum : value_at beyond (act_slot wide (alone 9223372036854775807) (widest 9223372036854775807)) ≡ None
-  pub a_sum : value_at beyond (act_slot wide (alone 9223372036854775806) (widest 9223372036854775806)) ≡ Some (pos 1)
+  pub no_sum : value_at beyond (act_slot wide (alone 9223372036854775807) 0 (widest 9223372036854775807)) ≡ None
+  pub a_sum : value_at beyond (act_slot wide (alone 9223372036854775806) 0 (widest 9223372036854775806)) ≡ Some (pos 1)
   pub beyond_fails : Holds wide (alone 9223372036854775807) → ⊥

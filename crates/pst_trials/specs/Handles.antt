@@ -17,10 +17,11 @@ use Rattle.pst_scen.specs.declared.scenario.Scenario.{Scenario}
 use Rattle.pst_scen.specs.Scenarios.{AreInPreorder, HasLeavesFirst}
 use Rattle.pst_scen.specs.Order.{Together}
 use Rattle.pst_scen.specs.Trace.{IsWholeGroup}
-use Rattle.pst_legal.specs.Standing.{StandsFor}
-use Rattle.pst_legal.specs.Slots.{Known, node_slot, inline_slot}
+use Rattle.pst_legal.specs.Statements.{StandsFor}
+use Rattle.pst_legal.specs.Standing.{Known}
+use Rattle.pst_legal.specs.Slots.{node_slot, inline_slot}
 use Rattle.pst_legal.specs.Constraints.{HasConstraint, value_at}
-use Rattle.pst_legal.specs.Pieces.{IsJoin}
+use Rattle.pst_legal.specs.Pieces.{IsJoined}
 use Rattle.pst_trials.specs.Parts.{name, number, by, constraint, field_to, input, output, bare, atomic, atomic_with, compound, top, pool_of, serve, traverse, traverse_by, act_of, act_with, filled, root_node, node, scenario_of}
 
 -- v == i * .. with the numbers of two turns
@@ -86,11 +87,11 @@ pub record HandlesAreTried : Type 0 where
   pub handled_fails : value_at behind (inline_slot handled (handled_scenario (pos 4)) 1 0 []) ≡ Some (pos 0)
   pub handled_initial : node_slot handled (handled_scenario (pos 3)) 1 (Through 0 (First 0)) ≡ Known (pos 1)
   -- any n of the branches
-  pub none_of_two : IsJoin (Choose 0) 2 0
-  pub both_of_two : IsJoin (Choose 2) 2 3
-  pub second_of_three : IsJoin (Choose 1) 3 2
-  pub two_of_three : IsJoin (Choose 1) 3 3 → ⊥
-  pub three_of_two : (joined : ℕ) → IsJoin (Choose 3) 2 joined → ⊥
+  pub none_of_two : IsJoined (Choose 0) 2 0
+  pub both_of_two : IsJoined (Choose 2) 2 3
+  pub second_of_three : IsJoined (Choose 1) 3 2
+  pub two_of_three : IsJoined (Choose 1) 3 3 → ⊥
+  pub three_of_two : (joined : ℕ) → IsJoined (Choose 3) 2 joined → ⊥
   -- a subtree that has been left isn't entered again
   pub left_is_left : AreInPreorder left → ⊥
   -- a group of three

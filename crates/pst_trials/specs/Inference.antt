@@ -11,7 +11,7 @@ use Rattle.pst_scen.specs.declared.event.Event.{Event}
 use Rattle.pst_scen.specs.declared.event.Event.TheVariants.{End}
 use Rattle.pst_scen.specs.Order.{Must}
 use Rattle.pst_scen.specs.Trace.{MayCome, Starts, IsLegalTrace, IsWhole}
-use Rattle.pst_legal.specs.Supplied.{AreNumbered, linkings}
+use Rattle.pst_legal.specs.Supplied.{AreNamedInTurn, linkings}
 use Rattle.pst_legal.specs.Legal.{Legal}
 use Rattle.pst_legal.specs.ValueReading.{Dead, Whole, read}
 use Rattle.pst_trials.specs.Parts.{bare, atomic, compound, top, pool_of, serve, traverse, input, output, act_of, filled, root_node, node, scenario_of, start, places}
@@ -47,7 +47,7 @@ pub record InferenceIsTried : Type 0 where
   pub one_option_each : places model 2 1 1 (0 ∷ 0 ∷ 0 ∷ []) ≡ Some 1 ∷ Some 1 ∷ Some 1 ∷ []
   -- where no action may be inferred the need has no option
   pub dead_without : (more : List ℕ) → read model 2 1 0 (0 ∷ 0 ∷ more) ≡ Dead
-  pub numbered : AreNumbered (linkings scenario.actions) 1 2
+  pub numbered : AreNamedInTurn (linkings scenario.actions) 1 2
   -- the producer comes first
   pub order : Must scenario 1 0
   pub not_back : Must scenario 0 1 → ⊥

@@ -7,8 +7,9 @@ use Rattle.pst_model.specs.ActivityTree.{Traverse}
 use Rattle.pst_model.specs.ModelTree.{ModelTree, ActionTree}
 use Rattle.pst_scen.specs.declared.tree.Fill.TheVariants as fill
 use Rattle.pst_scen.specs.declared.scenario.Scenario.{Scenario}
-use Rattle.pst_legal.specs.Standing.{handle_node}
-use Rattle.pst_legal.specs.Slots.{Known, Between, node_slot, inline_slot}
+use Rattle.pst_legal.specs.Statements.{handle_node}
+use Rattle.pst_legal.specs.Standing.{Known, Unread}
+use Rattle.pst_legal.specs.Slots.{node_slot, inline_slot}
 use Rattle.pst_legal.specs.Constraints.{HasConstraint, Holds, value_at}
 use Rattle.pst_legal.specs.First.{IsLive}
 use Rattle.pst_legal.specs.ValueReading.{Whole, read}
@@ -68,8 +69,8 @@ pub record InlinesAreTried : Type 0 where
   pub outer_value : inline_slot model filling 3 0 [] (Outer (Own 0)) ≡ Known (pos 2)
   -- before it is there, what the handle traverses has its declared values
   pub no_handle_yet : handle_node model begun.nodes 0 1 0 ≡ None
-  pub handle_unread : node_slot model begun 0 (Through 0 (Own 0)) ≡ Between (span 0 15)
-  pub own_unread : node_slot model begun 0 (Own 0) ≡ Between (span 0 15)
+  pub handle_unread : node_slot model begun 0 (Through 0 (Own 0)) ≡ Unread (span 0 15)
+  pub own_unread : node_slot model begun 0 (Own 0) ≡ Unread (span 0 15)
   -- which constraints there are, and their values
   pub handle_has : HasConstraint model filling is_next (node_slot model filling 0)
   pub nine_has : HasConstraint model filling is_nine (inline_slot model filling 2 0 [])

@@ -7,8 +7,9 @@ use Rattle.pst_model.specs.ActivityTree.{StepTree, Traverse, Sequence, Repeat, I
 use Rattle.pst_model.specs.ModelTree.{ModelTree}
 use Rattle.pst_scen.specs.declared.tree.Fill.TheVariants as fill
 use Rattle.pst_scen.specs.declared.scenario.Scenario.{Scenario}
-use Rattle.pst_legal.specs.Slots.{Known, inline_slot}
-use Rattle.pst_legal.specs.Standing.{StandsFor}
+use Rattle.pst_legal.specs.Standing.{Known}
+use Rattle.pst_legal.specs.Slots.{inline_slot}
+use Rattle.pst_legal.specs.Statements.{StandsFor}
 use Rattle.pst_legal.specs.Constraints.{HasConstraint, value_at}
 use Rattle.pst_legal.specs.Fits.{FillsRoot}
 use Rattle.pst_scen.specs.Order.{Before}

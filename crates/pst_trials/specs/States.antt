@@ -16,7 +16,8 @@ use Rattle.pst_scen.specs.declared.act.Link.TheVariants as link
 use Rattle.pst_scen.specs.declared.scenario.Scenario.{Scenario}
 use Rattle.pst_scen.specs.declared.event.Event.{Event}
 use Rattle.pst_scen.specs.declared.event.Event.TheVariants.{End}
-use Rattle.pst_legal.specs.Slots.{Known, Lacking, act_slot, output_slot, first_object_slot}
+use Rattle.pst_legal.specs.Standing.{Known, Lacking}
+use Rattle.pst_legal.specs.Slots.{act_slot, output_slot, first_object_slot}
 use Rattle.pst_legal.specs.Constraints.{HasConstraint, value_at}
 use Rattle.pst_scen.specs.Order.{Must}
 use Rattle.pst_scen.specs.Conflicts.{Conflict}
@@ -80,13 +81,13 @@ choices = 0 ∷ 0 ∷ 1 ∷ 0 ∷ 0 ∷ 1 ∷ []
 
 -- the value of a constraint of the written object, of the first object, and of the reader
 abbrev pub of_written : ConstraintTree → ℤ → ℤ → Option ℤ
-of_written k first x = value_at k (output_slot one (scenario first x) (written x))
+of_written k first x = value_at k (output_slot one (scenario first x) 1 0 (written x))
 
 abbrev pub of_first : ConstraintTree → ℤ → ℤ → Option ℤ
 of_first k first x = value_at k (first_object_slot one (scenario first x) 0)
 
 abbrev pub of_reader : ConstraintTree → ℤ → ℤ → Option ℤ
-of_reader k first x = value_at k (act_slot one (scenario first x) reader)
+of_reader k first x = value_at k (act_slot one (scenario first x) 0 reader)
 
 abbrev pub writer_first : List Event
 writer_first = start 1 0 ∷ End 1 ∷ start 0 0 ∷ End 0 ∷ []
@@ -115,15 +116,15 @@ pub record StatesAreTried : Type 0 where
   pub reads : read one 2 1 1 choices ≡ Whole filling
   pub options : places one 2 1 1 choices ≡ Some 1 ∷ Some 1 ∷ Some 2 ∷ Some 1 ∷ Some 4 ∷ Some 4 ∷ []
   -- which constraints there are, and where
-  pub written_has : HasConstraint one filling one_more (output_slot one filling (written (pos 1)))
+  pub written_has : HasConstraint one filling one_more (output_slot one filling 1 0 (written (pos 1)))
   pub first_has : HasConstraint one filling at_first (first_object_slot one filling 0)
-  pub reader_has : HasConstraint one filling is_one (act_slot one filling reader)
-  pub written_isn't_first : output_slot one filling (written (pos 1)) IsFirst ≡ Known (pos 0)
-  pub written_follows : output_slot one filling (written (pos 1)) (Prev 0) ≡ Known (pos 0)
-  pub written_value : output_slot one filling (written (pos 1)) (Own 0) ≡ Known (pos 1)
+  pub reader_has : HasConstraint one filling is_one (act_slot one filling 0 reader)
+  pub written_isn't_first : output_slot one filling 1 0 (written (pos 1)) IsFirst ≡ Known (pos 0)
+  pub written_follows : output_slot one filling 1 0 (written (pos 1)) (Prev 0) ≡ Known (pos 0)
+  pub written_value : output_slot one filling 1 0 (written (pos 1)) (Own 0) ≡ Known (pos 1)
   pub first_is_first : first_object_slot one filling 0 IsFirst ≡ Known (pos 1)
   pub first_follows_nothing : first_object_slot one filling 0 (Prev 0) ≡ Lacking
-  pub read_value : act_slot one filling reader (Object 0 0) ≡ Known (pos 1)
+  pub read_value : act_slot one filling 0 reader (Object 0 0) ≡ Known (pos 1)
   -- and their values
   pub written_by_one : of_written one_more (pos 0) (pos 1) ≡ Some (pos 1)
   pub written_by_two : of_written one_more (pos 0) (pos 2) ≡ Some (pos 0)

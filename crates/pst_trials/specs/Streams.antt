@@ -10,7 +10,7 @@ use Rattle.pst_scen.specs.declared.event.Event.{Event}
 use Rattle.pst_scen.specs.declared.event.Event.TheVariants.{Start, End}
 use Rattle.pst_scen.specs.Order.{Must, Together}
 use Rattle.pst_scen.specs.Trace.{MayCome, Starts, IsWholeGroup, IsLegalTrace, IsWhole}
-use Rattle.pst_legal.specs.Supplied.{AreNumbered, linkings}
+use Rattle.pst_legal.specs.Supplied.{AreNamedInTurn, linkings}
 use Rattle.pst_legal.specs.ValueReading.{Dead, Whole, read}
 use Rattle.pst_trials.specs.Parts.{compound, traverse, traverse_by, act_of, filled, root_node, node, scenario_of, places}
 use Rattle.pst_trials.specs.Inference.{flow_model}
@@ -46,7 +46,7 @@ pub record StreamsAreTried : Type 0 where
   -- the source of the first need is the other action's end or a new action; of the second it is a new action
   pub reads : read model 2 1 2 (0 ∷ 0 ∷ 0 ∷ 0 ∷ 0 ∷ []) ≡ Whole scenario
   pub options : places model 2 1 2 (0 ∷ 0 ∷ 0 ∷ 0 ∷ 0 ∷ []) ≡ Some 1 ∷ Some 1 ∷ Some 1 ∷ Some 2 ∷ Some 1 ∷ []
-  pub numbered : AreNumbered (linkings scenario.actions) 2 4
+  pub numbered : AreNamedInTurn (linkings scenario.actions) 2 4
   pub together : Together scenario 0 2
   pub group : IsWholeGroup scenario (0 ∷ 2 ∷ [])
   pub not_alone : MayCome scenario 2 [] (Starts (0 ∷ []) (0 ∷ [])) → ⊥

@@ -9,7 +9,7 @@ use Rattle.pst_scen.specs.declared.act.Link.TheVariants as link
 use Rattle.pst_scen.specs.declared.scenario.First.{First}
 use Rattle.pst_scen.specs.declared.scenario.Scenario.{Scenario}
 use Rattle.pst_scen.specs.Scenarios.{AreLinked, HasFirsts}
-use Rattle.pst_legal.specs.Supplied.{linkings, AreNumbered, IsSource, ArePreviousOnce}
+use Rattle.pst_legal.specs.Supplied.{linkings, AreNamedInTurn, IsSource, ArePreviousOnce}
 use Rattle.pst_trials.specs.Parts.{act_of, filled, root_node, node, scenario_of}
 
 abbrev pub consumer : ℕ → Act
@@ -40,11 +40,11 @@ rivals = act_of 0 (Some 1) (filled StateOut [] link.Initial ∷ []) ∷ act_of 0
 
 pub record SuppliesAreTried : Type 0 where
   -- two consumers, with two producers in this order, in the other, and with one
-  pub in_order : AreNumbered (linkings (consumer 2 ∷ consumer 3 ∷ producer ∷ producer ∷ [])) 2 4
-  pub other_order : AreNumbered (linkings (consumer 3 ∷ consumer 2 ∷ producer ∷ producer ∷ [])) 2 4 → ⊥
-  pub with_one : AreNumbered (linkings (consumer 2 ∷ consumer 2 ∷ producer ∷ [])) 2 3
+  pub in_order : AreNamedInTurn (linkings (consumer 2 ∷ consumer 3 ∷ producer ∷ producer ∷ [])) 2 4
+  pub other_order : AreNamedInTurn (linkings (consumer 3 ∷ consumer 2 ∷ producer ∷ producer ∷ [])) 2 4 → ⊥
+  pub with_one : AreNamedInTurn (linkings (consumer 2 ∷ consumer 2 ∷ producer ∷ [])) 2 3
   -- a producer that nobody needs
-  pub not_needed : AreNumbered (linkings (consumer 1 ∷ producer ∷ producer ∷ [])) 1 3 → ⊥
+  pub not_needed : AreNamedInTurn (linkings (consumer 1 ∷ producer ∷ producer ∷ [])) 1 3 → ⊥
   -- a stream to two
   pub one_to_one : AreLinked shared → ⊥
   -- a source in another pool
