@@ -6,7 +6,7 @@ use Rattle.std.proofs.lemmas.List.{drop_all}
 use Rattle.pst_scen.specs.declared.event.Event.{Event}
 use Rattle.pst_scen.specs.declared.event.Event.TheVariants.{Start}
 use Rattle.pst_scen.specs.Trace.{IsHeld, starts_of}
-use Rattle.pst_scen.specs.Plan.{places_from, members, AreNumbered}
+use Rattle.pst_scen.specs.Plan.{places_from, members, AreGroupsNumbered}
 use Rattle.pst_book.specs.Tables.{IsNext}
 use Rattle.pst_book.specs.Books.{AreIdle, AreSoMany, AreStarted}
 use Rattle.pst_book.proofs.Elements.{cons_first}
@@ -174,7 +174,7 @@ places_between groups i k group l m n = by_steps (k - i) i (omega (arith, l)) n
         ∙ by_steps j (i + 1) (omega (arith, e)) (λ x a b. n x (omega (arith, a)) b)
 
 -- the members of a group begin with its number
-pub members_begin : (groups : List ℕ) (group : ℕ) → AreNumbered groups → group < length groups → members groups group ≡ places_from (drop group groups) group group
+pub members_begin : (groups : List ℕ) (group : ℕ) → AreGroupsNumbered groups → group < length groups → members groups group ≡ places_from (drop group groups) group group
 members_begin groups group numbered l =
     ap (λ xs. places_from xs 0 group) (sym (drop_none groups))
     ∙ places_between groups 0 group group (omega arith) (omega (arith, l)) (λ x a b e. let k = numbered.least x (omega (arith, b, l)) in omega (arith, k, e, b))

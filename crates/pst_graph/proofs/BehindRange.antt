@@ -6,7 +6,7 @@ use Rattle.pst_scen.specs.declared.tree.Node.{Node}
 use Rattle.pst_scen.specs.Tree.{IsChild, StandsUnder, IsSequence}
 use Rattle.pst_graph.specs.Over.{IsLeafOf, Over, IsFree}
 use Rattle.pst_graph.specs.Squares.{Adds, IsInRow}
-use Rattle.pst_graph.specs.Tables.{AreNumbered, IsEnd, AreLeaves, IsBehind, StandsBefore, leaf_count}
+use Rattle.pst_graph.specs.Tables.{AreNodesNumbered, IsEnd, AreLeaves, IsBehind, StandsBefore, leaf_count}
 use Rattle.pst_graph.proofs.Adding.{adds_none, adds_as, adds_then}
 use Rattle.pst_graph.proofs.Climbs.{one_parent, up, over_here, over_up, over_root}
 use Rattle.pst_graph.proofs.Awaits.{leaf_within}
@@ -20,7 +20,7 @@ module _ (nodes : List Node) (leaf n sequence : ℕ) (child : IsChild nodes n se
   pub behind_kept : (d : ℕ) → IsBehind nodes leaf n d → Over nodes (IsFree nodes sequence) leaf → ⊥
   behind_kept d h = subst (λ (q : ℕ). Over nodes (IsFree nodes q) leaf → ⊥) (one_parent nodes n h.awaited.sequence sequence h.awaited.is_child child) h.awaited.kept
 
-  module _ (numbered : AreNumbered nodes) (leaves : List ℕ) (are : AreLeaves nodes leaves (length nodes)) (end last : ℕ) (is_end : IsEnd nodes n end) (is_last : IsEnd nodes sequence last) (end_in : end ≤ length nodes) (last_in : last ≤ length nodes) where
+  module _ (numbered : AreNodesNumbered nodes) (leaves : List ℕ) (are : AreLeaves nodes leaves (length nodes)) (end last : ℕ) (is_end : IsEnd nodes n end) (is_last : IsEnd nodes sequence last) (end_in : end ≤ length nodes) (last_in : last ≤ length nodes) where
     pub behind_range : (d : ℕ) → IsBehind nodes leaf n d → (leaf_count nodes end ≤ d) × (d < leaf_count nodes last)
     behind_range d h =
         let same : h.awaited.sequence ≡ sequence = one_parent nodes n h.awaited.sequence sequence h.awaited.is_child child in
@@ -69,7 +69,7 @@ module _ (nodes : List Node) (leaf n sequence : ℕ) (child : IsChild nodes n se
         }
 
 -- an action has one leaf
-pub same_leaf : (nodes : List Node) (act m n : ℕ) → AreNumbered nodes → IsLeafOf nodes act m → IsLeafOf nodes act n → m ≡ n
+pub same_leaf : (nodes : List Node) (act m n : ℕ) → AreNodesNumbered nodes → IsLeafOf nodes act m → IsLeafOf nodes act n → m ≡ n
 same_leaf nodes act m n numbered first second = go (cases_lt m n) (cases_lt n m)
   where
     apart : (x y : ℕ) → IsLeafOf nodes act x → IsLeafOf nodes act y → x < y → ⊥
@@ -115,14 +115,14 @@ module _ (nodes : List Node) (a leaf : ℕ) where
       adds_none rows (IsInRow (Above at) a) (λ c d h. over_root nodes (λ n. IsBehind nodes leaf n d) at none (λ has. none has.awaited.sequence has.awaited.is_child) h.related)
 
 -- where an action's leaf is known, its row is what stands behind it
-pub before_row : (nodes : List Node) (old new : Rows) (a leaf : ℕ) → AreNumbered nodes → IsLeafOf nodes a leaf → Adds old new (IsInRow (λ c d. Over nodes (λ n. IsBehind nodes leaf n d) leaf) a) → Adds old new (IsInRow (StandsBefore nodes) a)
+pub before_row : (nodes : List Node) (old new : Rows) (a leaf : ℕ) → AreNodesNumbered nodes → IsLeafOf nodes a leaf → Adds old new (IsInRow (λ c d. Over nodes (λ n. IsBehind nodes leaf n d) leaf) a) → Adds old new (IsInRow (StandsBefore nodes) a)
 before_row nodes old new a leaf numbered is_leaf added =
     adds_as old new (IsInRow (λ c d. Over nodes (λ n. IsBehind nodes leaf n d) leaf) a) (IsInRow (StandsBefore nodes) a) added
     (λ c d c_in d_in h. record { first = h.first; related = record { leaf = leaf; of_act = subst (λ (x : ℕ). IsLeafOf nodes x leaf) (sym h.first) is_leaf; over = h.related } })
     (λ c d c_in d_in h. record { first = h.first; related = subst (λ (m : ℕ). Over nodes (λ n. IsBehind nodes m n d) m) (same_leaf nodes a h.related.leaf leaf numbered (subst (λ (x : ℕ). IsLeafOf nodes x h.related.leaf) h.first h.related.of_act) is_leaf) h.related.over })
 
 -- an action without a leaf has no row
-pub no_row : (nodes : List Node) (old : Rows) (leaves : List ℕ) (a : ℕ) → AreNumbered nodes → AreLeaves nodes leaves (length nodes) → length leaves ≤ a → Adds old old (IsInRow (StandsBefore nodes) a)
+pub no_row : (nodes : List Node) (old : Rows) (leaves : List ℕ) (a : ℕ) → AreNodesNumbered nodes → AreLeaves nodes leaves (length nodes) → length leaves ≤ a → Adds old old (IsInRow (StandsBefore nodes) a)
 no_row nodes old leaves a numbered are more =
     adds_none old (IsInRow (StandsBefore nodes) a)
     (λ c d h.

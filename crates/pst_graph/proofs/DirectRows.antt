@@ -19,7 +19,7 @@ use Rattle.pst_graph.specs.Over.{IsLeafOf}
 use Rattle.pst_graph.specs.Acts.{LinksOrder, ByBuffer, BySource, ByPrevious, ByReader}
 use Rattle.pst_graph.specs.Grouping.{MustDirectly}
 use Rattle.pst_graph.specs.Squares.{IsBlank, Adds}
-use Rattle.pst_graph.specs.Tables.{AreNumbered, AreLeaves, StandsBefore, leaf_count}
+use Rattle.pst_graph.specs.Tables.{AreNodesNumbered, AreLeaves, StandsBefore, leaf_count}
 use Rattle.pst_graph.specs.Named.{NamesEarlier, IsNamingIn, IsNamed}
 use Rattle.pst_graph.specs.Listed.{IsReplacing}
 use Rattle.pst_graph.specs.Links.{HasLink}
@@ -42,7 +42,7 @@ leaves_fit s leaves linked are = go (cases_lt (length s.actions) (leaf_count s.n
         let low = linked.leaves_in (get_or leaves (length s.actions) 0) (length s.actions) leaf.node leaf.is leaf.of_act in
         absurd (omega (arith, low))
 
-never_itself : (s : Scenario) (a b : ℕ) → AreNumbered s.nodes → StandsBefore s.nodes a b → a ≢ b
+never_itself : (s : Scenario) (a b : ℕ) → AreNodesNumbered s.nodes → StandsBefore s.nodes a b → a ≢ b
 never_itself s a b numbered h same =
     let behind = h.over.has in
     let await = behind.awaited in

@@ -10,7 +10,7 @@ use Rattle.pst_scen.specs.Scenarios.{leaf_of}
 use Rattle.pst_scen.specs.Order.{Before}
 use Rattle.pst_order.specs.Built.{IsBuilt}
 use Rattle.pst_graph.specs.Over.{IsLeafOf}
-use Rattle.pst_graph.specs.Tables.{is_leaf, leaf_count, AreNumbered, StandsBefore}
+use Rattle.pst_graph.specs.Tables.{is_leaf, leaf_count, AreNodesNumbered, StandsBefore}
 use Rattle.pst_graph.proofs.Climbs.{same_some}
 use Rattle.pst_graph.proofs.Awaits.{leaf_inside, before_by_leaves}
 
@@ -81,7 +81,7 @@ numbered_from (x ∷ xs) i k numbers n act leaf = go (λ k numbers. numbered_fro
     go rest (inl own) = let parts = under_leaf x xs i k own.0 own.1 numbers in follow_leaf x xs i k own.0 own.1 parts.0 (rest (k + 1) parts.1) n act leaf
     go rest (inr none) = follow_other x xs i k none.0 (rest k (under_other x xs i k none.1 numbers)) n act leaf
 
-pub built_numbered : (s : Scenario) → IsBuilt s → AreNumbered s.nodes
+pub built_numbered : (s : Scenario) → IsBuilt s → AreNodesNumbered s.nodes
 built_numbered s built =
     record {
       preorder = built.preorder;

@@ -9,7 +9,7 @@ use Rattle.pst_scen.specs.declared.tree.Fill.{Fill}
 use Rattle.pst_scen.specs.declared.tree.Fill.TheVariants.{Compound, Leaf, Sequence, Parallel, Schedule, Joined, Select, Repeat, Turn, If, Match}
 use Rattle.pst_graph.specs.Over.{IsLeafOf}
 use Rattle.pst_graph.proofs.Climbs.{same_some}
-use Rattle.pst_graph.specs.Tables.{is_leaf, leaf_count, AreNumbered, AreLeaves}
+use Rattle.pst_graph.specs.Tables.{is_leaf, leaf_count, AreNodesNumbered, AreLeaves}
 
 pub leaf_fill : (fill : Fill) → is_leaf fill ≡ true → (act : ℕ) × (fill ≡ Leaf act)
 leaf_fill (Leaf act) is = (act, refl)
@@ -31,7 +31,7 @@ pub leaf_same : (nodes : List Node) (n : ℕ) (d : Node) → n < length nodes �
 leaf_same nodes n d within is = grind (arith, common_steps)
 
 -- a leaf of the list after the ones before it
-pub leaf_pushed : (nodes : List Node) (leaves : List ℕ) (n : ℕ) (d : Node) → AreNumbered nodes → n < length nodes → AreLeaves nodes leaves n → is_leaf (get_or nodes n d).fill ≡ true → AreLeaves nodes (leaves ++ n ∷ []) (n + 1)
+pub leaf_pushed : (nodes : List Node) (leaves : List ℕ) (n : ℕ) (d : Node) → AreNodesNumbered nodes → n < length nodes → AreLeaves nodes leaves n → is_leaf (get_or nodes n d).fill ≡ true → AreLeaves nodes (leaves ++ n ∷ []) (n + 1)
 leaf_pushed nodes leaves n d numbered within before is =
     record { many = length_push leaves n ∙ ap (λ (k : ℕ). k + 1) before.many ∙ sym (leaf_more nodes n d within is); each = λ act below. each act below (cases_lt act (length leaves)) }
   where

@@ -2,11 +2,11 @@
 use Rattle.std.proofs.Common.{◌≡◌, ◌≤◌, ◌<◌, ℕ, List, length, get_or, subst, arith}
 use Rattle.pst_scen.specs.declared.scenario.Scenario.{Scenario}
 use Rattle.pst_scen.specs.Order.{Itself}
-use Rattle.pst_scen.specs.Plan.{AreNumbered}
+use Rattle.pst_scen.specs.Plan.{AreGroupsNumbered}
 use Rattle.pst_scen.specs.Plans.{IsGroupNumber}
 use Rattle.pst_graph.proofs.Grouped.{same_group}
 
-pub are_numbered : (s : Scenario) (groups : List ℕ) → length groups ≡ length s.actions → ((a : ℕ) → a < length s.actions → IsGroupNumber s a (get_or groups a 0)) → AreNumbered groups
+pub are_numbered : (s : Scenario) (groups : List ℕ) → length groups ≡ length s.actions → ((a : ℕ) → a < length s.actions → IsGroupNumber s a (get_or groups a 0)) → AreGroupsNumbered groups
 are_numbered s groups many numbers = record { least = least; member = member }
   where
     within : (a : ℕ) → a < length groups → a < length s.actions

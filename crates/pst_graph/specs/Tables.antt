@@ -26,7 +26,7 @@ abbrev pub leaf_count : List Node → ℕ → ℕ
 leaf_count nodes n = count_by (λ node. is_leaf node.fill) (take n nodes)
 
 -- The nodes stand in preorder, and the leaves have their actions' numbers in that order.
-pub record AreNumbered (nodes : List Node) : Type 0 where
+pub record AreNodesNumbered (nodes : List Node) : Type 0 where
   pub preorder : AreInPreorder nodes
   pub parents : IsPreorder nodes
   pub leaves : (n act : ℕ) → IsLeafOf nodes act n → act ≡ leaf_count nodes n

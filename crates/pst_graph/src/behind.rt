@@ -3,7 +3,7 @@ ghost use Rattle.std.specs.Prelude.{◌≡◌, ◌≤◌, ◌<◌, ◌^◌, ◌�
 ghost use Rattle.pst_scen.specs.Tree.{IsChild};
 ghost use Rattle.pst_graph.specs.Over.{Over, IsLeafOf};
 ghost use Rattle.pst_graph.specs.Squares.{Adds, IsInRow};
-ghost use Rattle.pst_graph.specs.Tables.{AreNumbered, IsBehind, StandsBefore, leaf_count};
+ghost use Rattle.pst_graph.specs.Tables.{AreNodesNumbered, IsBehind, StandsBefore, leaf_count};
 ghost use Rattle.pst_graph.specs.Tabled.{AreTables};
 
 use crate::before::is_released;
@@ -23,7 +23,7 @@ fn add_behind(
     n: usize,
     sequence: usize,
 )
-    requires numbered { AreNumbered nodes.now }
+    requires numbered { AreNodesNumbered nodes.now }
     requires tables { AreTables nodes.now tables.now }
     requires size { leaf_count nodes.now (length nodes.now) ≤ square.old.size }
     requires a_in { a < square.old.size }
@@ -46,7 +46,7 @@ fn add_behind(
 
 /// Adds the pairs of the action with those that stand behind it.
 fn add_row(square: &mut Square, nodes: &[Node], tables: &Tables, a: u32, leaf: usize)
-    requires numbered { AreNumbered nodes.now }
+    requires numbered { AreNodesNumbered nodes.now }
     requires tables { AreTables nodes.now tables.now }
     requires size { leaf_count nodes.now (length nodes.now) ≤ square.old.size }
     requires a_in { a < square.old.size }
@@ -62,7 +62,7 @@ fn add_row(square: &mut Square, nodes: &[Node], tables: &Tables, a: u32, leaf: u
 
 /// Adds the pairs of the action, where it has a leaf, with those that stand behind it.
 fn add_row_of(square: &mut Square, nodes: &[Node], tables: &Tables, a: u32)
-    requires numbered { AreNumbered nodes.now }
+    requires numbered { AreNodesNumbered nodes.now }
     requires tables { AreTables nodes.now tables.now }
     requires size { leaf_count nodes.now (length nodes.now) ≤ square.old.size }
     requires a_in { a < square.old.size }
@@ -78,7 +78,7 @@ fn add_row_of(square: &mut Square, nodes: &[Node], tables: &Tables, a: u32)
 /// Adds the pairs of which the first stands in an earlier statement of a sequence than the second,
 /// and isn't released in that sequence.
 pub(crate) fn add_behinds(square: &mut Square, nodes: &[Node], tables: &Tables, count: u32)
-    requires numbered { AreNumbered nodes.now }
+    requires numbered { AreNodesNumbered nodes.now }
     requires tables { AreTables nodes.now tables.now }
     requires size { leaf_count nodes.now (length nodes.now) ≤ square.old.size }
     requires count { square.old.size ≡ count }

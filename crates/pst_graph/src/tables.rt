@@ -1,6 +1,6 @@
 //! Tables of the nodes of a filled-in activity, by which those behind a node are found at once.
 ghost use Rattle.std.specs.Prelude.{◌≡◌, ◌≤◌, ◌<◌, ◌+◌, ◌^◌, ◌↔◌, ℕ, length, get_or, IsTrue, IfOk};
-ghost use Rattle.pst_graph.specs.Tables.{is_leaf, leaf_count, AreNumbered, AreEnds, AreEndsFrom, AreCounts, AreLeaves};
+ghost use Rattle.pst_graph.specs.Tables.{is_leaf, leaf_count, AreNodesNumbered, AreEnds, AreEndsFrom, AreCounts, AreLeaves};
 ghost use Rattle.pst_graph.specs.Tabled.{AreTables};
 ghost use Rattle.pst_scen.specs.Laws.{IsPreorder};
 
@@ -49,7 +49,7 @@ fn widen(ends: &mut Vec<u32>, nodes: &[Node], n: usize)
 /// For each node the number of the first one behind those under it.
 fn ends_of(alloc: Global, nodes: &[Node]) -> Result<Vec<u32>, NoMemory>
     requires small { length nodes.now < 2 ^ 31 }
-    requires numbered { AreNumbered nodes.now }
+    requires numbered { AreNodesNumbered nodes.now }
     ensures { IfOk result (λ ends. AreEnds nodes.now ends.items) }
 {
     let mut ends = own_ends(alloc, nodes.len() as u32)?;
@@ -81,7 +81,7 @@ fn counts_of(alloc: Global, nodes: &[Node]) -> Result<Vec<u32>, NoMemory>
 /// Appends the node, where it is a leaf.
 fn push_leaf(leaves: &mut Vec<u32>, nodes: &[Node], n: usize) -> Result<(), NoMemory>
     requires small { length nodes.now < 2 ^ 31 }
-    requires numbered { AreNumbered nodes.now }
+    requires numbered { AreNodesNumbered nodes.now }
     requires n_in { n < length nodes.now }
     requires before { AreLeaves nodes.now leaves.old.items n }
     ensures { IfOk result (λ u. AreLeaves nodes.now leaves.new.items (n + 1)) }
@@ -95,7 +95,7 @@ fn push_leaf(leaves: &mut Vec<u32>, nodes: &[Node], n: usize) -> Result<(), NoMe
 /// For each action of a leaf its node.
 fn leaves_of(alloc: Global, nodes: &[Node]) -> Result<Vec<u32>, NoMemory>
     requires small { length nodes.now < 2 ^ 31 }
-    requires numbered { AreNumbered nodes.now }
+    requires numbered { AreNodesNumbered nodes.now }
     ensures { IfOk result (λ leaves. AreLeaves nodes.now leaves.items (length nodes.now)) }
 {
     let mut leaves = Vec::new(alloc);
@@ -120,7 +120,7 @@ impl Tables {
     /// The tables of the nodes.
     pub(crate) fn new(alloc: Global, nodes: &[Node]) -> Result<Tables, NoMemory>
         requires small { length nodes.now < 2 ^ 31 }
-        requires numbered { AreNumbered nodes.now }
+        requires numbered { AreNodesNumbered nodes.now }
         ensures { IfOk result (AreTables nodes.now) }
     {
         let ends = ends_of(alloc, nodes)?;

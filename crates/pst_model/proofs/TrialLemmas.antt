@@ -9,7 +9,7 @@ use Rattle.pst_model.specs.ConstraintTree.{Own}
 use Rattle.pst_model.specs.ModelTree.{ActionTree}
 use Rattle.pst_model.specs.SoundConstraint.{IsSoundConstraint}
 use Rattle.pst_model.specs.SoundSlots.{IsConstraintSlot}
-use Rattle.pst_model.specs.Preorder.{StandsUnder, AtTop, IsParent, IsSubtree}
+use Rattle.pst_model.specs.Preorder.{LiesUnder, AtTop, IsParent, IsSubtree}
 use Rattle.pst_model.specs.Served.{IsServed, ComesBefore}
 use Rattle.pst_model.specs.Sound.{IsSound, IsSoundField, IsSoundAction}
 use Rattle.pst_model.specs.Trials.{lone, action, field, own, span, root}
@@ -46,16 +46,16 @@ parents_of : (n : ℕ) (part : Part) → slice_get (root 0 ∷ []) n ≡ Some pa
 parents_of zero part e = subst (λ (p : Part). IsParent 0 p.parent) (same_some (root 0) part e) refl
 parents_of (suc n) part e = absurd cc
 
-at_most : (m : ℕ) → StandsUnder (root 0 ∷ []) 0 m → m ≤ 0
+at_most : (m : ℕ) → LiesUnder (root 0 ∷ []) 0 m → m ≤ 0
 at_most m under = go m (up (root 0 ∷ []) 0 m under)
   where
-    go : (m : ℕ) → (0 ≡ m) ⊎ ((parent : ℕ) × (part : Part) × (slice_get (root 0 ∷ []) m ≡ Some part) × (part.parent ≡ Some parent) × StandsUnder (root 0 ∷ []) 0 parent) → m ≤ 0
+    go : (m : ℕ) → (0 ≡ m) ⊎ ((parent : ℕ) × (part : Part) × (slice_get (root 0 ∷ []) m ≡ Some part) × (part.parent ≡ Some parent) × LiesUnder (root 0 ∷ []) 0 parent) → m ≤ 0
     go m (inl same) = omega (arith, same)
     go zero (inr more) = omega arith
     go (suc m) (inr (parent, part, is, of_parent, above)) = absurd cc
 
 whole_tree : IsSubtree (root 0 ∷ []) 0 0
-whole_tree = record { within = omega arith; exactly = λ m. (λ under. (omega arith, at_most m under), λ between. subst (λ (k : ℕ). StandsUnder (root 0 ∷ []) 0 k) (let most = between.1 in omega (arith, most)) AtTop) }
+whole_tree = record { within = omega arith; exactly = λ m. (λ under. (omega arith, at_most m under), λ between. subst (λ (k : ℕ). LiesUnder (root 0 ∷ []) 0 k) (let most = between.1 in omega (arith, most)) AtTop) }
 
 subtrees_of : (n : ℕ) (part : Part) → slice_get (root 0 ∷ []) n ≡ Some part → IsSubtree (root 0 ∷ []) n part.last
 subtrees_of zero part e = subst (λ (p : Part). IsSubtree (root 0 ∷ []) 0 p.last) (same_some (root 0) part e) whole_tree

@@ -3,9 +3,9 @@ use Rattle.std.proofs.Common.{◌≡◌, ◌<◌, ◌≤◌, ◌+◌, ◌↔◌,
 use Rattle.std.proofs.lemmas.Option.{slice_get-get_or, slice_get-map, slice_get_read}
 use Rattle.std.proofs.lemmas.Bool.{cases_lt}
 use Rattle.pst_model.specs.declared.model.Part.{Part}
-use Rattle.pst_model.specs.Preorder.{StandsUnder, AtTop, Below, IsParent}
+use Rattle.pst_model.specs.Preorder.{LiesUnder, AtTop, Below, IsParent}
 
-pub up : (parts : List Part) (top n : ℕ) → StandsUnder parts top n → (top ≡ n) ⊎ ((parent : ℕ) × (part : Part) × (slice_get parts n ≡ Some part) × (part.parent ≡ Some parent) × StandsUnder parts top parent)
+pub up : (parts : List Part) (top n : ℕ) → LiesUnder parts top n → (top ≡ n) ⊎ ((parent : ℕ) × (part : Part) × (slice_get parts n ≡ Some part) × (part.parent ≡ Some parent) × LiesUnder parts top parent)
 up parts top _ AtTop = inl refl
 up parts top _ (Below n parent part is in_parent under) = inr (parent, part, is, in_parent, under)
 
@@ -13,15 +13,15 @@ pub same_some : {X : Type 0} (x y : X) → Some x ≡ Some y → x ≡ y
 same_some x y e = ap (λ o. elim o [ Some z ↦ z | None ↦ x ]) e
 
 -- below the top, an instance stands under it where its parent does
-pub by_parent : (parts : List Part) (top n parent : ℕ) (d : Part) → n < length parts → (top ≡ n → ⊥) → ((get_or parts n d).parent ≡ Some parent) → (StandsUnder parts top parent ↔ StandsUnder parts top n)
+pub by_parent : (parts : List Part) (top n parent : ℕ) (d : Part) → n < length parts → (top ≡ n → ⊥) → ((get_or parts n d).parent ≡ Some parent) → (LiesUnder parts top parent ↔ LiesUnder parts top n)
 by_parent parts top n parent d within different has = (λ under. Below n parent (get_or parts n d) (slice_get-get_or parts n d within) has under, λ under. go (up parts top n under))
   where
-    go : (top ≡ n) ⊎ ((other : ℕ) × (part : Part) × (slice_get parts n ≡ Some part) × (part.parent ≡ Some other) × StandsUnder parts top other) → StandsUnder parts top parent
+    go : (top ≡ n) ⊎ ((other : ℕ) × (part : Part) × (slice_get parts n ≡ Some part) × (part.parent ≡ Some other) × LiesUnder parts top other) → LiesUnder parts top parent
     go (inl same) = absurd (different same)
     go (inr (other, part, is, of_other, under)) =
         let part_is : part ≡ get_or parts n d = same_some part (get_or parts n d) (sym is ∙ slice_get-get_or parts n d within) in
         let parent_is : other ≡ parent = same_some other parent (sym of_other ∙ ap (λ (p : Part). p.parent) part_is ∙ has) in
-        subst (λ (p : ℕ). StandsUnder parts top p) parent_is under
+        subst (λ (p : ℕ). LiesUnder parts top p) parent_is under
 
 pub parent_below : (parts : List Part) (n parent : ℕ) (d : Part) → ((m : ℕ) (part : Part) → slice_get parts m ≡ Some part → IsParent m part.parent) → n < length parts → ((get_or parts n d).parent ≡ Some parent) → parent < n
 parent_below parts n parent d parents within has = subst (λ (o : Option ℕ). IsParent n o) has (parents n (get_or parts n d) (slice_get-get_or parts n d within))

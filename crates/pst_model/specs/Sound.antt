@@ -14,7 +14,7 @@ use Rattle.pst_model.specs.SoundConstraint.{IsSoundConstraint}
 use Rattle.pst_model.specs.SoundSlots.{IsConstraintSlot, IsObjectSlot, IsOfKind}
 use Rattle.pst_model.specs.SoundActivity.{IsSoundActivity}
 use Rattle.pst_model.specs.SoundBody.{IsSoundBody}
-use Rattle.pst_model.specs.Preorder.{IsPreorder}
+use Rattle.pst_model.specs.Preorder.{IsInstanceTree}
 use Rattle.pst_model.specs.Served.{IsInOrder, IsSoundServe, IsServedWhole}
 
 pub record IsSoundField (field : Field) : Type 0 where
@@ -66,7 +66,7 @@ pub record IsSound (model : ModelTree) : Type 0 where
   pub actions : All (IsSoundAction model) model.actions
   pub objects : All IsSoundObject model.objects
   pub few_instances : length model.instances ≤ most_instances
-  pub instances : IsPreorder model.instances
+  pub instances : IsInstanceTree model.instances
   pub pools : All (IsSoundPool model) model.pools
   pub functions : All IsSoundFunction model.functions
   pub order : IsInOrder model.served

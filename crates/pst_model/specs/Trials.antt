@@ -13,7 +13,7 @@ use Rattle.pst_model.specs.SoundConstraint.{IsBelow}
 use Rattle.pst_model.specs.SoundSlots.{IsConditionSlot}
 use Rattle.pst_model.specs.SoundActivity.{IsJoin, AreApart, IsSoundBranch, IsSoundStep}
 use Rattle.pst_model.specs.Traversals.{IsSteady}
-use Rattle.pst_model.specs.Preorder.{IsPreorder}
+use Rattle.pst_model.specs.Preorder.{IsInstanceTree}
 use Rattle.pst_model.specs.Sound.{IsSound}
 
 abbrev name : NameId
@@ -68,4 +68,4 @@ pub record AreTrials : Type 0 where
   -- an action that there isn't
   pub no_action : IsSoundStep lone action [] 0 (Traverse 1 None []) → ⊥
   -- a root that ends behind the last instance
-  pub beyond : IsPreorder (root 1 ∷ []) → ⊥
+  pub beyond : IsInstanceTree (root 1 ∷ []) → ⊥

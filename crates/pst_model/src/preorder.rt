@@ -1,7 +1,7 @@
 // Whether component instances stand in preorder.
 ghost use Rattle.std.specs.Prelude.{◌≡◌, ℕ, ◌≤◌, ◌<◌, length, slice_get, Some, IsTrue, ◌↔◌};
 ghost use Rattle.pst_model.specs.declared.model.Part.{Part};
-ghost use Rattle.pst_model.specs.Preorder.{StandsUnder, IsParent, IsSubtree, IsPreorder};
+ghost use Rattle.pst_model.specs.Preorder.{LiesUnder, IsParent, IsSubtree, IsInstanceTree};
 
 use crate::model::Part;
 
@@ -28,10 +28,10 @@ fn have_parents(parts: &[Part]) -> bool
 }
 
 // Whether an instance is the top one, or stands below it.
-fn stands_under(parts: &[Part], top: usize, n: usize) -> bool
+fn lies_under(parts: &[Part], top: usize, n: usize) -> bool
     requires parents { (n : ℕ) (part : Part) → slice_get parts.now n ≡ Some part → IsParent n part.parent }
     requires within { n < length parts.now }
-    ensures { IsTrue result ↔ StandsUnder parts.now top n }
+    ensures { IsTrue result ↔ LiesUnder parts.now top n }
 {
     let mut at = n;
     while at != top {
@@ -47,12 +47,12 @@ fn stands_under(parts: &[Part], top: usize, n: usize) -> bool
 fn is_placed(parts: &[Part], top: usize, last: usize, n: usize) -> bool
     requires parents { (n : ℕ) (part : Part) → slice_get parts.now n ≡ Some part → IsParent n part.parent }
     requires within { n < length parts.now }
-    ensures { IsTrue result ↔ (StandsUnder parts.now top n ↔ (top ≤ n) × (n ≤ last)) }
+    ensures { IsTrue result ↔ (LiesUnder parts.now top n ↔ (top ≤ n) × (n ≤ last)) }
 {
     if top <= n && n <= last {
-        stands_under(parts, top, n)
+        lies_under(parts, top, n)
     } else {
-        !stands_under(parts, top, n)
+        !lies_under(parts, top, n)
     }
 }
 
@@ -88,7 +88,7 @@ fn have_subtrees(parts: &[Part]) -> bool
 
 // Whether the instances stand in preorder.
 pub fn is_preorder(parts: &[Part]) -> bool
-    ensures { IsTrue result ↔ IsPreorder parts.now }
+    ensures { IsTrue result ↔ IsInstanceTree parts.now }
 {
     have_parents(parts) && have_subtrees(parts)
 }

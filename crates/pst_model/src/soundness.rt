@@ -2,7 +2,7 @@
 ghost use Rattle.std.specs.Prelude.{◌≡◌, ◌≤◌, IsTrue, ◌↔◌, All, map, length};
 ghost use Rattle.pst_model.specs.Limits.{most_instances};
 ghost use Rattle.pst_model.specs.ModelView.{view_model, view_action, view_object, view_function};
-ghost use Rattle.pst_model.specs.Preorder.{IsPreorder};
+ghost use Rattle.pst_model.specs.Preorder.{IsInstanceTree};
 ghost use Rattle.pst_model.specs.Served.{IsInOrder, IsSoundServe, IsServedWhole, pool_in};
 ghost use Rattle.pst_model.specs.Sound.{IsSound, IsSoundAction, IsSoundObject, IsSoundPool, IsSoundFunction};
 
@@ -42,7 +42,7 @@ fn are_objects(objects: &[ObjectType]) -> bool
 
 // Whether there are few component instances, in preorder.
 fn are_instances(model: &Model) -> bool
-    ensures { IsTrue result ↔ (length model.now.instances.items ≤ most_instances) × IsPreorder model.now.instances.items }
+    ensures { IsTrue result ↔ (length model.now.instances.items ≤ most_instances) × IsInstanceTree model.now.instances.items }
 {
     model.instances.len() <= MOST_INSTANCES && is_preorder(model.instances.as_slice())
 }

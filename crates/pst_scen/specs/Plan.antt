@@ -10,7 +10,7 @@ pub record Entries : Type 0 where
   pub conflict : Rows
 
 -- a group's number is its least member
-pub record AreNumbered (groups : List ℕ) : Type 0 where
+pub record AreGroupsNumbered (groups : List ℕ) : Type 0 where
   pub least : (a : ℕ) → a < length groups → get_or groups a 0 ≤ a
   pub member : (a : ℕ) → a < length groups → get_or groups (get_or groups a 0) 0 ≡ get_or groups a 0
 

@@ -1,7 +1,7 @@
 //! Plans: the groups and the order of a scenario's actions, and their conflicts.
 ghost use Rattle.std.specs.Prelude.{◌≡◌, ◌≤◌, ◌<◌, ◌↔◌, ◌^◌, ◌+◌, ◌≢◌, ℕ, length, get_or, IsTrue, IfOk};
 ghost use Rattle.pst_scen.specs.Rows.{IsSquare, Has};
-ghost use Rattle.pst_scen.specs.Plan.{AreNumbered, AreSized, AreCounts, member_count, widest};
+ghost use Rattle.pst_scen.specs.Plan.{AreGroupsNumbered, AreSized, AreCounts, member_count, widest};
 
 use crate::rows::Rows;
 use pst_base::NoMemory;
@@ -20,13 +20,13 @@ pub struct Plan {
 
 impl Model for Plan {
     ghost use Rattle.std.specs.Prelude.{◌≡◌};
-    ghost use Rattle.pst_scen.specs.Plan.{Entries, AreNumbered, AreSized, widest};
+    ghost use Rattle.pst_scen.specs.Plan.{Entries, AreGroupsNumbered, AreSized, widest};
 
     ghost Value = { Entries };
 
     ghost view = { λ p. record { groups = p.groups.items; must = p.must; conflict = p.conflict } };
 
-    ghost invariant = { λ p. AreNumbered p.groups.items × AreSized p.groups.items p.must p.conflict × (p.width ≡ widest p.groups.items) };
+    ghost invariant = { λ p. AreGroupsNumbered p.groups.items × AreSized p.groups.items p.must p.conflict × (p.width ≡ widest p.groups.items) };
 }
 
 /// The number of members of a group.
@@ -71,7 +71,7 @@ fn count_one(counts: &mut Vec<u32>, group: u32)
 
 /// The number of members of each group, by the group's number.
 fn count_members(alloc: Global, groups: &[u32]) -> Result<Vec<u32>, NoMemory>
-    requires numbered { AreNumbered groups.now }
+    requires numbered { AreGroupsNumbered groups.now }
     requires few { length groups.now < 2 ^ 32 }
     ensures { IfOk result (λ counts. AreCounts groups.now (length groups.now) counts.items) }
 {
@@ -93,7 +93,7 @@ fn counted(groups: &[u32], counts: &[u32], group: u32) -> u32
 
 /// The number of members of the widest group, counted in one pass over the groups.
 fn counted_width(alloc: Global, groups: &[u32]) -> Result<u32, NoMemory>
-    requires numbered { AreNumbered groups.now }
+    requires numbered { AreGroupsNumbered groups.now }
     requires few { length groups.now < 2 ^ 32 }
     ensures { IfOk result (λ width. width ≡ widest groups.now) }
 {
@@ -112,7 +112,7 @@ impl Plan {
     /// The plan with these groups and squares. A group's number is its least member. The widest
     /// group is counted here, in time that grows with the square of the number of actions.
     pub fn of_rows(groups: Vec<u32>, must: Rows, conflict: Rows) -> Plan
-        requires numbered { AreNumbered groups.items }
+        requires numbered { AreGroupsNumbered groups.items }
         requires sized { AreSized groups.items must conflict }
         ensures { result ≡ record { groups = groups.items; must = must; conflict = conflict } }
     {
@@ -133,7 +133,7 @@ impl Plan {
         must: Rows,
         conflict: Rows,
     ) -> Result<Plan, NoMemory>
-        requires numbered { AreNumbered groups.items }
+        requires numbered { AreGroupsNumbered groups.items }
         requires sized { AreSized groups.items must conflict }
         ensures { IfOk result (λ plan. plan ≡ record { groups = groups.items; must = must; conflict = conflict }) }
     {
@@ -149,7 +149,7 @@ impl Plan {
     /// The number of actions. The number of each group is its least member.
     pub fn len(&self) -> u32
         ensures is { result ≡ length self.now.groups }
-        ensures numbered { AreNumbered self.now.groups }
+        ensures numbered { AreGroupsNumbered self.now.groups }
     {
         self.must.size
     }

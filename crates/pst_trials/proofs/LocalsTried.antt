@@ -7,7 +7,7 @@ use Rattle.pst_model.specs.ModelTree.{ModelTree, ActionTree, FunctionTree}
 use Rattle.pst_model.specs.SoundConstraint.{IsSoundConstraint}
 use Rattle.pst_model.specs.SoundSlots.{IsBodySlot}
 use Rattle.pst_model.specs.SoundBody.{EachBodyStep, IsSoundBodyStep, IsSoundBody, IsBodyExpression}
-use Rattle.pst_model.specs.Preorder.{StandsUnder, AtTop, Below, IsParent, IsSubtree}
+use Rattle.pst_model.specs.Preorder.{LiesUnder, AtTop, Below, IsParent, IsSubtree}
 use Rattle.pst_model.specs.Served.{IsServed, IsSoundServe}
 use Rattle.pst_model.specs.Sound.{IsSound, IsSoundAction, IsSoundFunction, IsSoundObject, IsSoundPool, IsSoundField, IsSoundReference, IsSoundClaim}
 use Rattle.pst_legal.specs.Shape.{HasShape}
@@ -45,13 +45,13 @@ sound_action = record {
   content = body;
 }
 
-at_most : (n : ℕ) → StandsUnder top 0 n → n ≤ 0
+at_most : (n : ℕ) → LiesUnder top 0 n → n ≤ 0
 at_most _ AtTop = lit≤ tt
 at_most zero (Below _ parent part is in_parent under) = lit≤ tt
 at_most (suc n) (Below _ parent part is in_parent under) = absurd (none_some part is)
 
 whole_tree : IsSubtree top 0 0
-whole_tree = record { within = lit< tt; exactly = λ n. ((λ under. ((let z : 0 ≤ n = omega arith in z), at_most n under)), (λ between. subst (StandsUnder top 0) (let most = between.1 in omega (arith, most)) AtTop)) }
+whole_tree = record { within = lit< tt; exactly = λ n. ((λ under. ((let z : 0 ≤ n = omega arith in z), at_most n under)), (λ between. subst (LiesUnder top 0) (let most = between.1 in omega (arith, most)) AtTop)) }
 
 pub sound : IsSound m
 sound = record {

@@ -12,7 +12,7 @@ use Rattle.pst_base.specs.Names.{with_text}
 use Rattle.pst_scen.specs.declared.scenario.Scenario.{Scenario}
 use Rattle.pstim.specs.declared.parsing.Declaration.{Declaration}
 use Rattle.pstim.specs.Straight.{names_of, IsAtomic, AreAtomic, HaveDifferentNames, PerformsIn}
-use Rattle.pstim.specs.Numbering.{AreNumbered, HasNumber, LacksOne}
+use Rattle.pstim.specs.Numbering.{AreDeclarationsNumbered, HasNumber, LacksOne}
 
 same_bytes : (xs : List ℕ) → bytes_eq xs xs ≡ true
 same_bytes xs = (bytes_eq-Decides xs xs).1 refl
@@ -109,8 +109,8 @@ names_of-more all i d below is =
 
 -- one more declaration has its number
 pub numbered_more : (all : List Declaration) (i : ℕ) (d : Declaration) (old new : List (List ℕ)) → i < length all → d ≡ get_or all i d
-    → AreNumbered (take i all) old → new ≡ old ++ d.name ∷ [] → ((k : ℕ) → slice_get old k ≡ Some d.name → ⊥)
-    → AreNumbered (take (i + 1) all) new
+    → AreDeclarationsNumbered (take i all) old → new ≡ old ++ d.name ∷ [] → ((k : ℕ) → slice_get old k ≡ Some d.name → ⊥)
+    → AreDeclarationsNumbered (take (i + 1) all) new
 numbered_more all i d old new below is before added fresh =
     let more = names_of-more all i d below is in
     let none : (k : ℕ) → slice_get (names_of (take i all)) k ≡ Some d.name → ⊥ = λ k h. fresh k (ap (λ names. slice_get names k) before.are ∙ h) in
@@ -138,7 +138,7 @@ read_at xs i x below is = slice_get-get_or xs i x below ∙ ap Some (sym is)
 
 -- two declarations of one name
 pub numbered_twice : (all : List Declaration) (i k : ℕ) (d : Declaration) (names : List (List ℕ)) → i < length all → d ≡ get_or all i d
-    → AreNumbered (take i all) names → slice_get names k ≡ Some d.name → HaveDifferentNames all → ⊥
+    → AreDeclarationsNumbered (take i all) names → slice_get names k ≡ Some d.name → HaveDifferentNames all → ⊥
 numbered_twice all i k d names below is before there different =
     let first = named_before all i k d.name (ap (λ ns. slice_get ns k) (sym before.are) ∙ there) in
     let lower : k < i = first.0 in
@@ -146,12 +146,12 @@ numbered_twice all i k d names below is before there different =
     omega arith
 
 -- an atomic action has a number
-pub atomic_numbered : (all : List Declaration) (names : List (List ℕ)) (name : List ℕ) → AreNumbered all names → (atomic : IsAtomic all name) → slice_get names atomic.number ≡ Some name
+pub atomic_numbered : (all : List Declaration) (names : List (List ℕ)) (name : List ℕ) → AreDeclarationsNumbered all names → (atomic : IsAtomic all name) → slice_get names atomic.number ≡ Some name
 atomic_numbered all names name numbered atomic =
     ap (λ ns. slice_get ns atomic.number) numbered.are ∙ name_at all atomic.number atomic.declaration atomic.there ∙ ap Some atomic.named
 
 -- a number is that of a declaration
-pub number_below : (all : List Declaration) (names : List (List ℕ)) (name : List ℕ) (k : ℕ) → AreNumbered all names → slice_get names k ≡ Some name → k < length all
+pub number_below : (all : List Declaration) (names : List (List ℕ)) (name : List ℕ) (k : ℕ) → AreDeclarationsNumbered all names → slice_get names k ≡ Some name → k < length all
 number_below all names name k numbered h =
     let within : k < length names = slice_get_within names k name h in
     let long : length names ≡ length all = ap length numbered.are ∙ length-map all (λ (e : Declaration). e.name) in
@@ -165,7 +165,7 @@ flipped false false h = absurd (cc)
 
 -- whether the declaration at the number of a name has an activity tells whether its action is atomic
 pub atomic_by : (all : List Declaration) (old new : List (List ℕ)) (name : List ℕ) (k : ℕ) (d : Declaration)
-    → AreNumbered all old → HasNumber old new name k → slice_get all k ≡ Some d
+    → AreDeclarationsNumbered all old → HasNumber old new name k → slice_get all k ≡ Some d
     → MatchBool (not (is_some d.activity)) (IsAtomic all name × (new ≡ old)) (IsAtomic all name → ⊥)
 atomic_by all old new name k d numbered has there = by_activity d.activity refl
   where

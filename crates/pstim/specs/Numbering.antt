@@ -4,7 +4,7 @@ use Rattle.pstim.specs.declared.parsing.Declaration.{Declaration}
 use Rattle.pstim.specs.Straight.{names_of, HaveDifferentNames}
 
 -- the table has the names of the actions in order, and they are different
-pub record AreNumbered (actions : List Declaration) (names : List (List ℕ)) : Type 0 where
+pub record AreDeclarationsNumbered (actions : List Declaration) (names : List (List ℕ)) : Type 0 where
   pub are : names ≡ names_of actions
   pub different : HaveDifferentNames actions
 

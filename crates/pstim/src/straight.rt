@@ -5,7 +5,7 @@ ghost use Rattle.std.specs.Str.{bytes_eq};
 ghost use Rattle.pst_scen.specs.declared.scenario.Scenario.{Scenario as AnyScenario};
 ghost use Rattle.pstim.specs.declared.parsing.Declaration.{Declaration as AnyDeclaration};
 ghost use Rattle.pstim.specs.Straight.{names_of, IsNumberOf, IsAtomic, AreAtomic, AreSound, HaveDifferentNames, HasScenario, IsScenarioOf, PerformsIn};
-ghost use Rattle.pstim.specs.Numbering.{AreNumbered, HasNumber, LacksOne};
+ghost use Rattle.pstim.specs.Numbering.{AreDeclarationsNumbered, HasNumber, LacksOne};
 
 use crate::parsing::Declaration;
 use crate::scenario::{atomic_scenario, compound_scenario};
@@ -33,7 +33,7 @@ fn adds(names: &mut Names, name: &str) -> Result<bool, NoMemory>
 fn number_types(alloc: Global, all: &[Declaration]) -> Result<Option<Names>, NoMemory>
     requires { length all.now < 2 ^ 32 - 1 }
     ensures { IfOk result (λ names. MatchOption names (HaveDifferentNames all.now → ⊥)
-        (λ names. AreNumbered all.now names)) }
+        (λ names. AreDeclarationsNumbered all.now names)) }
 {
     let mut names = Names::new(alloc);
     for declaration in all {
@@ -62,7 +62,7 @@ fn number_of(names: &mut Names, name: &str) -> Result<Option<u32>, NoMemory>
 
 /// Whether the action of this name is declared without an activity.
 fn is_atomic(all: &[Declaration], names: &mut Names, name: &str) -> Result<bool, NoMemory>
-    requires numbered { AreNumbered all.now names.old }
+    requires numbered { AreDeclarationsNumbered all.now names.old }
     requires few { length all.now < 2 ^ 32 - 1 }
     ensures { IfOk result (λ atomic. MatchBool atomic
         (IsAtomic all.now name.now × (names.new ≡ names.old)) (IsAtomic all.now name.now → ⊥)) }
@@ -75,7 +75,7 @@ fn is_atomic(all: &[Declaration], names: &mut Names, name: &str) -> Result<bool,
 
 /// Whether the actions of these names are declared without activities.
 fn are_atomic(all: &[Declaration], names: &mut Names, performed: &[Text]) -> Result<bool, NoMemory>
-    requires numbered { AreNumbered all.now names.old }
+    requires numbered { AreDeclarationsNumbered all.now names.old }
     requires few { length all.now < 2 ^ 32 - 1 }
     ensures { IfOk result (λ atomic. MatchBool atomic
         (AreAtomic all.now performed.now × (names.new ≡ names.old)) (AreAtomic all.now performed.now → ⊥)) }
@@ -94,7 +94,7 @@ fn performs_atomic(
     names: &mut Names,
     declaration: &Declaration,
 ) -> Result<bool, NoMemory>
-    requires numbered { AreNumbered all.now names.old }
+    requires numbered { AreDeclarationsNumbered all.now names.old }
     requires few { length all.now < 2 ^ 32 - 1 }
     ensures { IfOk result (λ atomic. MatchBool atomic
         (((performed : List (List ℕ)) → declaration.now.activity ≡ Some performed → AreAtomic all.now performed) × (names.new ≡ names.old))
@@ -108,7 +108,7 @@ fn performs_atomic(
 
 /// Whether what activities perform is declared without activities.
 fn are_sound(all: &[Declaration], names: &mut Names) -> Result<bool, NoMemory>
-    requires numbered { AreNumbered all.now names.old }
+    requires numbered { AreDeclarationsNumbered all.now names.old }
     requires few { length all.now < 2 ^ 32 - 1 }
     ensures { IfOk result (λ sound. MatchBool sound
         (AreSound all.now × (names.new ≡ names.old)) (AreSound all.now → ⊥)) }
@@ -157,7 +157,7 @@ fn scenario_at(
     names: &mut Names,
     number: usize,
 ) -> Result<Option<Scenario>, NoMemory>
-    requires numbered { AreNumbered all.now names.old }
+    requires numbered { AreDeclarationsNumbered all.now names.old }
     requires few { length all.now < 2 ^ 32 - 1 }
     requires there { number < length all.now }
     ensures { IfOk result (λ found. MatchOption found

@@ -1,6 +1,6 @@
 use Rattle.std.proofs.Common.{◌≡◌, ◌<◌, ◌∙◌, ℕ, length, refl, subst, sym, ap, arith, ⊎_elim}
 use Rattle.std.proofs.lemmas.Bool.{cases_lt, cases_eq}
-use Rattle.pst_scen.specs.Plan.{Entries, AreNumbered}
+use Rattle.pst_scen.specs.Plan.{Entries, AreGroupsNumbered}
 use Rattle.pst_book.specs.Books.{MayJoin}
 use Rattle.pst_book.proofs.Loops.{not_true}
 use Rattle.pst_book.proofs.open.all_may_join.Goals as goal
@@ -11,7 +11,7 @@ many e f = f ∙ ap (λ (v : Entries). length v.groups) e
 
 pub members-init : goal.members-init
 members-init c =
-    let numbered = subst (λ (p : Entries). AreNumbered p.groups) c.plan.ensures c.len-count.ensures.numbered in
+    let numbered = subst (λ (p : Entries). AreGroupsNumbered p.groups) c.plan.ensures c.len-count.ensures.numbered in
     record {
       here = λ l. c.requires.number;
       passed = λ a l e. let k = numbered.least a (let g = c.requires.group_in in omega (arith, l, g)) in absurd (omega (arith, k, e, l));

@@ -1,5 +1,5 @@
 use Rattle.std.proofs.Common.{◌≡◌, ◌<◌, ◌∙◌, ◌∷◌, ℕ, List, drop, length, subst, ap, arith}
-use Rattle.pst_scen.specs.Plan.{Entries, AreNumbered, places_from, members}
+use Rattle.pst_scen.specs.Plan.{Entries, AreGroupsNumbered, places_from, members}
 use Rattle.pst_book.proofs.Starting.{members_begin, places_next, places_end}
 use Rattle.pst_book.proofs.open.count_members.Goals as goal
 
@@ -10,7 +10,7 @@ many e f = f ∙ ap (λ (v : Entries). length v.groups) e
 pub members-init : goal.members-init
 members-init c =
     let groups = c.args.run.now.plan.groups in
-    let numbered = subst (λ (p : Entries). AreNumbered p.groups) c.plan.ensures c.len-count.ensures.numbered in
+    let numbered = subst (λ (p : Entries). AreGroupsNumbered p.groups) c.plan.ensures c.len-count.ensures.numbered in
     let e : length (members groups c.args.group) ≡ length (places_from (drop c.args.group groups) c.args.group c.args.group) = ap (λ (xs : List ℕ). length xs) (members_begin groups c.args.group numbered c.requires.group_in) in
     record {
       here = λ l. c.requires.number;

@@ -2,7 +2,7 @@ use Rattle.std.proofs.Common.{◌≡◌, ◌+◌, ◌<◌, ◌≤◌, ◌∙◌,
 use Rattle.std.specs.Prelude.{nat_lt}
 use Rattle.pst_scen.specs.declared.event.Event.{Event}
 use Rattle.pst_scen.specs.Trace.{Started, IsHeld}
-use Rattle.pst_scen.specs.Plan.{Entries, AreNumbered, members}
+use Rattle.pst_scen.specs.Plan.{Entries, AreGroupsNumbered, members}
 use Rattle.pst_book.specs.Books.{AreStarted}
 use Rattle.pst_book.specs.Tables.{RunView, IsNext}
 use Rattle.pst_book.proofs.Pushes.{started_push, held_push}
@@ -18,7 +18,7 @@ pub members-init : goal.members-init
 members-init c =
     let run = c.args.run.now in
     let r = c.requires in
-    let numbered = subst (λ (p : Entries). AreNumbered p.groups) c.plan.ensures c.len-all.ensures.numbered in
+    let numbered = subst (λ (p : Entries). AreGroupsNumbered p.groups) c.plan.ensures c.len-all.ensures.numbered in
     record {
       plan = refl;
       lanes = refl;

@@ -1,16 +1,16 @@
 use Rattle.std.proofs.Common.{List, sym, subst}
 use Rattle.pst_scen.specs.declared.tree.Node.{Node}
 use Rattle.pst_graph.specs.Squares.{Adds}
-use Rattle.pst_graph.specs.Tables.{AreNumbered, StandsBefore}
+use Rattle.pst_graph.specs.Tables.{AreNodesNumbered, StandsBefore}
 use Rattle.pst_graph.proofs.LeafNumbers.{built_numbered}
 use Rattle.pst_graph.proofs.DirectRows.{causes_added}
 use Rattle.pst_graph.proofs.rows.add_causes.Goals as goal
 
 pub new-requires-clause-numbered : goal.new-requires-clause-numbered
-new-requires-clause-numbered c = subst (λ (nodes : List Node). AreNumbered nodes) (sym c.as_slice-nodes.ensures) (built_numbered c.args.scenario.now c.requires.built)
+new-requires-clause-numbered c = subst (λ (nodes : List Node). AreNodesNumbered nodes) (sym c.as_slice-nodes.ensures) (built_numbered c.args.scenario.now c.requires.built)
 
 pub add_behinds-requires-clause-numbered : goal.add_behinds-requires-clause-numbered
-add_behinds-requires-clause-numbered c = subst (λ (nodes : List Node). AreNumbered nodes) (sym c.as_slice-nodes.ensures) (built_numbered c.args.scenario.now c.requires.built)
+add_behinds-requires-clause-numbered c = subst (λ (nodes : List Node). AreNodesNumbered nodes) (sym c.as_slice-nodes.ensures) (built_numbered c.args.scenario.now c.requires.built)
 
 pub returns : goal.returns
 returns c =

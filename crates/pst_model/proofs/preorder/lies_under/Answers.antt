@@ -1,8 +1,8 @@
 use Rattle.std.proofs.Common.{◌≡◌, ◌<◌, ℕ, subst, refl, arith}
 use Rattle.std.proofs.lemmas.Bool.Decides.{nat_tests}
-use Rattle.pst_model.specs.Preorder.{StandsUnder, AtTop}
+use Rattle.pst_model.specs.Preorder.{LiesUnder, AtTop}
 use Rattle.pst_model.proofs.Under.{by_parent, parent_below}
-use Rattle.pst_model.proofs.preorder.stands_under.Goals as goal
+use Rattle.pst_model.proofs.preorder.lies_under.Goals as goal
 
 pub loop-at-preserved : goal.loop-at-preserved
 loop-at-preserved c =
@@ -15,4 +15,4 @@ loop-at-preserved c =
 pub returns : goal.returns
 returns c =
     let same : c.args.top ≡ c.loop-at.at = grind (arith, nat_tests, c.loop-at-test.false) in
-    (λ t. c.loop-at.invariant.same.0 (subst (λ (k : ℕ). StandsUnder c.args.parts.now c.args.top k) same AtTop), λ u. refl)
+    (λ t. c.loop-at.invariant.same.0 (subst (λ (k : ℕ). LiesUnder c.args.parts.now c.args.top k) same AtTop), λ u. refl)

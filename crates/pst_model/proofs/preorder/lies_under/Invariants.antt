@@ -1,6 +1,6 @@
 use Rattle.std.proofs.Common.{◌<◌, ◌↔◌, length}
-use Rattle.pst_model.specs.Preorder.{StandsUnder}
-use Rattle.pst_model.proofs.preorder.stands_under.Given as goal
+use Rattle.pst_model.specs.Preorder.{LiesUnder}
+use Rattle.pst_model.proofs.preorder.lies_under.Given as goal
 
 abbrev pub decreases-loop-at : goal.decreases-loop-at
 decreases-loop-at l = l.at
@@ -8,5 +8,5 @@ decreases-loop-at l = l.at
 abbrev pub invariant-loop-at : goal.invariant-loop-at
 invariant-loop-at l = record {
   within : l.at < length l.parts;
-  same : StandsUnder l.parts l.top l.at ↔ StandsUnder l.parts l.top l.fn.n;
+  same : LiesUnder l.parts l.top l.at ↔ LiesUnder l.parts l.top l.fn.n;
 }
