@@ -17,4 +17,5 @@ pub mod SupplyReading
 pub mod ValueReading
 pub mod First
 pub mod Body
+pub mod Runs
 pub mod Laws

@@ -3,6 +3,7 @@ pub mod Flows
 pub mod Order
 pub mod Conflicts
 pub mod Trace
+pub mod Judging
 pub mod Laws
 pub mod Rows
 pub mod Plan

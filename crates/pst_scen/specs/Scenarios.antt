@@ -105,3 +105,12 @@ pub record IsScenario (s : Scenario) : Type 0 where
 pub record IsSmall (s : Scenario) : Type 0 where
   pub acts : length s.actions < 2 ^ 31
   pub nodes : length s.nodes < 2 ^ 31
+
+-- What each call on a scenario asks for: its numbers have 31 bits, each node's parent stands before it, a leaf and its action
+-- name each other, and a link that names a reference of an action names one that there is.
+pub record IsWellFormed (s : Scenario) : Type 0 where
+  pub small : IsSmall s
+  pub parents : (n parent : ℕ) (node : Node) → slice_get s.nodes n ≡ Some node → node.parent ≡ Some parent → parent < n
+  pub leaves : (n a : ℕ) (node : Node) → slice_get s.nodes n ≡ Some node → node.fill ≡ fill.Leaf a → (act : Act) × (slice_get s.actions a ≡ Some act) × (act.node ≡ Some n)
+  pub acts : (a n : ℕ) (act : Act) → slice_get s.actions a ≡ Some act → act.node ≡ Some n → (node : Node) × (slice_get s.nodes n ≡ Some node) × (node.fill ≡ fill.Leaf a)
+  pub links : (a r b q : ℕ) (filled : Filled) → reference_at s.actions a r ≡ Some filled → filled.link ≡ link.Act b q → (other : Filled) × (reference_at s.actions b q ≡ Some other)
