@@ -9,7 +9,7 @@ ghost use Rattle.pst_ast.specs.ActivitySpelling.{spell_activity, spell_arm, spel
 use crate::marks::{kind_of_together_word, push_mark, push_name, push_optional_mark};
 use crate::spell_constraint::add_constraint;
 use crate::spell_expression::{add_expr, add_ranges};
-use crate::spell_shared::{add_label, add_names, add_optional_label, add_type_name};
+use crate::spell_shared::{add_label, add_names, add_repeat, add_type_name, add_word_and_expr};
 use pst_ast::{
     ActivityNode, ArmLabel, ArmNode, BindNode, BranchNode, CoreNode, EndNode, GuardNode, JoinNode,
     NextEnd, OtherEnds, StatementNode, WeightNode, WithNode,
@@ -114,11 +114,14 @@ fn add_core(tokens: &mut Vec<Token>, core: &CoreNode) -> Result<(), NoMemory>
             right_parenthesis,
             statement,
         } => {
-            push_mark(tokens, Kind::Repeat, *repeat)?;
-            push_mark(tokens, Kind::LeftParenthesis, *left_parenthesis)?;
-            add_optional_label(tokens, index)?;
-            add_expr(tokens, count)?;
-            push_mark(tokens, Kind::RightParenthesis, *right_parenthesis)?;
+            add_repeat(
+                tokens,
+                *repeat,
+                *left_parenthesis,
+                index,
+                count,
+                *right_parenthesis,
+            )?;
             add_statement(tokens, statement)
         }
         CoreNode::If {
@@ -128,10 +131,14 @@ fn add_core(tokens: &mut Vec<Token>, core: &CoreNode) -> Result<(), NoMemory>
             right_parenthesis,
             then,
         } => {
-            push_mark(tokens, Kind::If, *if_)?;
-            push_mark(tokens, Kind::LeftParenthesis, *left_parenthesis)?;
-            add_expr(tokens, condition)?;
-            push_mark(tokens, Kind::RightParenthesis, *right_parenthesis)?;
+            add_word_and_expr(
+                tokens,
+                Kind::If,
+                *if_,
+                *left_parenthesis,
+                condition,
+                *right_parenthesis,
+            )?;
             add_statement(tokens, then)
         }
         CoreNode::IfElse {
@@ -143,10 +150,14 @@ fn add_core(tokens: &mut Vec<Token>, core: &CoreNode) -> Result<(), NoMemory>
             else_,
             otherwise,
         } => {
-            push_mark(tokens, Kind::If, *if_)?;
-            push_mark(tokens, Kind::LeftParenthesis, *left_parenthesis)?;
-            add_expr(tokens, condition)?;
-            push_mark(tokens, Kind::RightParenthesis, *right_parenthesis)?;
+            add_word_and_expr(
+                tokens,
+                Kind::If,
+                *if_,
+                *left_parenthesis,
+                condition,
+                *right_parenthesis,
+            )?;
             add_statement(tokens, then)?;
             push_mark(tokens, Kind::Else, *else_)?;
             add_statement(tokens, otherwise)
@@ -161,10 +172,14 @@ fn add_core(tokens: &mut Vec<Token>, core: &CoreNode) -> Result<(), NoMemory>
             rest,
             right_brace,
         } => {
-            push_mark(tokens, Kind::Match, *match_)?;
-            push_mark(tokens, Kind::LeftParenthesis, *left_parenthesis)?;
-            add_expr(tokens, expr)?;
-            push_mark(tokens, Kind::RightParenthesis, *right_parenthesis)?;
+            add_word_and_expr(
+                tokens,
+                Kind::Match,
+                *match_,
+                *left_parenthesis,
+                expr,
+                *right_parenthesis,
+            )?;
             push_mark(tokens, Kind::LeftBrace, *left_brace)?;
             add_arm(tokens, first)?;
             add_arms(tokens, rest.as_slice())?;
@@ -310,10 +325,14 @@ fn add_join(tokens: &mut Vec<Token>, join: &JoinNode) -> Result<(), NoMemory>
             count,
             right_parenthesis,
         } => {
-            push_mark(tokens, Kind::JoinSelect, *join_select)?;
-            push_mark(tokens, Kind::LeftParenthesis, *left_parenthesis)?;
-            add_expr(tokens, count)?;
-            push_mark(tokens, Kind::RightParenthesis, *right_parenthesis)
+            add_word_and_expr(
+                tokens,
+                Kind::JoinSelect,
+                *join_select,
+                *left_parenthesis,
+                count,
+                *right_parenthesis,
+            )
         }
     }
 }

@@ -3,14 +3,18 @@ ghost use Rattle.std.specs.Prelude.{◌≡◌, ◌++◌, OnOk, map};
 ghost use Rattle.std.specs.List.{flat_map};
 ghost use Rattle.std.specs.Option.{option_map};
 ghost use Rattle.pst_ast.specs.Marks.{spell_option};
-ghost use Rattle.pst_ast.specs.BodyView.{view_arguments, view_body, view_body_statement, view_call, view_source, view_value};
+ghost use Rattle.pst_ast.specs.BodyTree.{BodyStatementAssign, BodyStatementLocal};
+ghost use Rattle.pst_ast.specs.SharedView.{view_plain};
+ghost use Rattle.pst_ast.specs.BodyView.{view_arguments, view_body, view_body_statement, view_boxed_value, view_call, view_source, view_value};
 ghost use Rattle.pst_ast.specs.BodySpelling.{spell_arguments, spell_body, spell_body_statement, spell_call, spell_source, spell_value};
 
 use crate::marks::{push_mark, push_name};
 use crate::spell_expression::add_expr;
-use crate::spell_shared::{add_next_exprs, add_optional_label, add_plain};
-use pst_ast::{ArgumentsNode, BodyNode, BodyStatement, CallNode, SourceNode, ValueNode};
-use pst_base::NoMemory;
+use crate::spell_shared::{add_next_exprs, add_plain, add_repeat, add_word_and_expr};
+use pst_ast::{
+    ArgumentsNode, BodyNode, BodyStatement, CallNode, Name, PlainNode, SourceNode, ValueNode,
+};
+use pst_base::{NoMemory, Place};
 use pst_token::{Kind, Token};
 
 // body = "exec" "body" "{" { bstmt } "}"
@@ -36,23 +40,13 @@ fn add_body_statement(tokens: &mut Vec<Token>, statement: &BodyStatement) -> Res
             name,
             value,
             semicolon,
-        } => {
-            add_plain(tokens, plain)?;
-            push_name(tokens, *name)?;
-            add_optional_value(tokens, value)?;
-            push_mark(tokens, Kind::Semicolon, *semicolon)
-        }
+        } => add_local(tokens, plain, *name, value, *semicolon),
         BodyStatement::Assign {
             name,
             equal,
             source,
             semicolon,
-        } => {
-            push_name(tokens, *name)?;
-            push_mark(tokens, Kind::Equal, *equal)?;
-            add_source(tokens, source)?;
-            push_mark(tokens, Kind::Semicolon, *semicolon)
-        }
+        } => add_assign(tokens, *name, *equal, source, *semicolon),
         BodyStatement::Call { call, semicolon } => {
             add_call(tokens, call)?;
             push_mark(tokens, Kind::Semicolon, *semicolon)
@@ -73,10 +67,14 @@ fn add_body_statement(tokens: &mut Vec<Token>, statement: &BodyStatement) -> Res
             right_parenthesis,
             then,
         } => {
-            push_mark(tokens, Kind::If, *if_)?;
-            push_mark(tokens, Kind::LeftParenthesis, *left_parenthesis)?;
-            add_expr(tokens, condition)?;
-            push_mark(tokens, Kind::RightParenthesis, *right_parenthesis)?;
+            add_word_and_expr(
+                tokens,
+                Kind::If,
+                *if_,
+                *left_parenthesis,
+                condition,
+                *right_parenthesis,
+            )?;
             add_body_statement(tokens, then)
         }
         BodyStatement::IfElse {
@@ -88,10 +86,14 @@ fn add_body_statement(tokens: &mut Vec<Token>, statement: &BodyStatement) -> Res
             else_,
             otherwise,
         } => {
-            push_mark(tokens, Kind::If, *if_)?;
-            push_mark(tokens, Kind::LeftParenthesis, *left_parenthesis)?;
-            add_expr(tokens, condition)?;
-            push_mark(tokens, Kind::RightParenthesis, *right_parenthesis)?;
+            add_word_and_expr(
+                tokens,
+                Kind::If,
+                *if_,
+                *left_parenthesis,
+                condition,
+                *right_parenthesis,
+            )?;
             add_body_statement(tokens, then)?;
             push_mark(tokens, Kind::Else, *else_)?;
             add_body_statement(tokens, otherwise)
@@ -104,11 +106,14 @@ fn add_body_statement(tokens: &mut Vec<Token>, statement: &BodyStatement) -> Res
             right_parenthesis,
             statement,
         } => {
-            push_mark(tokens, Kind::Repeat, *repeat)?;
-            push_mark(tokens, Kind::LeftParenthesis, *left_parenthesis)?;
-            add_optional_label(tokens, index)?;
-            add_expr(tokens, count)?;
-            push_mark(tokens, Kind::RightParenthesis, *right_parenthesis)?;
+            add_repeat(
+                tokens,
+                *repeat,
+                *left_parenthesis,
+                index,
+                count,
+                *right_parenthesis,
+            )?;
             add_body_statement(tokens, statement)
         }
     }
@@ -128,6 +133,38 @@ fn add_body_statements(
     Ok(())
 }
 
+// plain NAME [ "=" source ] ";"
+fn add_local(
+    tokens: &mut Vec<Token>,
+    plain: &PlainNode,
+    name: Name,
+    value: &Option<Box<ValueNode>>,
+    semicolon: Place,
+) -> Result<(), NoMemory>
+    ensures { OnOk result (tokens.new.items ≡ tokens.old.items ++ spell_body_statement (BodyStatementLocal (view_plain plain.now) name (option_map view_boxed_value value.now) semicolon)) }
+{
+    add_plain(tokens, plain)?;
+    push_name(tokens, name)?;
+    add_optional_value(tokens, value)?;
+    push_mark(tokens, Kind::Semicolon, semicolon)
+}
+
+// NAME "=" source ";"
+fn add_assign(
+    tokens: &mut Vec<Token>,
+    name: Name,
+    equal: Place,
+    source: &SourceNode,
+    semicolon: Place,
+) -> Result<(), NoMemory>
+    ensures { OnOk result (tokens.new.items ≡ tokens.old.items ++ spell_body_statement (BodyStatementAssign name equal (view_source source.now) semicolon)) }
+{
+    push_name(tokens, name)?;
+    push_mark(tokens, Kind::Equal, equal)?;
+    add_source(tokens, source)?;
+    push_mark(tokens, Kind::Semicolon, semicolon)
+}
+
 // "=" source
 fn add_value(tokens: &mut Vec<Token>, value: &ValueNode) -> Result<(), NoMemory>
     ensures { OnOk result (tokens.new.items ≡ tokens.old.items ++ spell_value (view_value value.now)) }
@@ -137,8 +174,11 @@ fn add_value(tokens: &mut Vec<Token>, value: &ValueNode) -> Result<(), NoMemory>
 }
 
 // Adds the tokens of a part that may be left out.
-fn add_optional_value(tokens: &mut Vec<Token>, part: &Option<ValueNode>) -> Result<(), NoMemory>
-    ensures { OnOk result (tokens.new.items ≡ tokens.old.items ++ spell_option spell_value (option_map view_value part.now)) }
+fn add_optional_value(
+    tokens: &mut Vec<Token>,
+    part: &Option<Box<ValueNode>>,
+) -> Result<(), NoMemory>
+    ensures { OnOk result (tokens.new.items ≡ tokens.old.items ++ spell_option spell_value (option_map view_boxed_value part.now)) }
 {
     match part {
         None => Ok(()),

@@ -8,7 +8,7 @@ ghost use Rattle.pst_ast.specs.ConstraintSpelling.{spell_constraint, spell_const
 
 use crate::marks::{push_mark, push_name};
 use crate::spell_expression::add_expr;
-use crate::spell_shared::{add_dot_names, add_next_exprs};
+use crate::spell_shared::{add_dot_names, add_next_exprs, add_word_and_expr};
 use pst_ast::{ConstraintContent, ConstraintDeclaration, ConstraintItem, ConstraintNode, Name};
 use pst_base::{NoMemory, Place};
 use pst_token::{Kind, Token};
@@ -59,10 +59,14 @@ fn add_constraint_item(tokens: &mut Vec<Token>, item: &ConstraintItem) -> Result
             right_parenthesis,
             then,
         } => {
-            push_mark(tokens, Kind::If, *if_)?;
-            push_mark(tokens, Kind::LeftParenthesis, *left_parenthesis)?;
-            add_expr(tokens, condition)?;
-            push_mark(tokens, Kind::RightParenthesis, *right_parenthesis)?;
+            add_word_and_expr(
+                tokens,
+                Kind::If,
+                *if_,
+                *left_parenthesis,
+                condition,
+                *right_parenthesis,
+            )?;
             add_constraint(tokens, then)
         }
         ConstraintItem::IfElse {
@@ -74,10 +78,14 @@ fn add_constraint_item(tokens: &mut Vec<Token>, item: &ConstraintItem) -> Result
             else_,
             otherwise,
         } => {
-            push_mark(tokens, Kind::If, *if_)?;
-            push_mark(tokens, Kind::LeftParenthesis, *left_parenthesis)?;
-            add_expr(tokens, condition)?;
-            push_mark(tokens, Kind::RightParenthesis, *right_parenthesis)?;
+            add_word_and_expr(
+                tokens,
+                Kind::If,
+                *if_,
+                *left_parenthesis,
+                condition,
+                *right_parenthesis,
+            )?;
             add_constraint(tokens, then)?;
             push_mark(tokens, Kind::Else, *else_)?;
             add_constraint(tokens, otherwise)

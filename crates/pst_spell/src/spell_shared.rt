@@ -1,18 +1,21 @@
 //! The tokens of parts that several rules share.
-ghost use Rattle.std.specs.Prelude.{◌≡◌, ◌++◌, OnOk, map};
+ghost use Rattle.std.specs.Prelude.{◌≡◌, ◌++◌, ◌∷◌, [], OnOk, map};
 ghost use Rattle.std.specs.List.{flat_map};
 ghost use Rattle.std.specs.Option.{option_map};
-ghost use Rattle.pst_ast.specs.Marks.{spell_option};
+ghost use Rattle.pst_ast.specs.Marks.{mark, spell_option};
+ghost use Rattle.pst_ast.specs.ExpressionView.{view_expr};
+ghost use Rattle.pst_ast.specs.ExpressionSpelling.{spell_expr};
+ghost use Rattle.pst_token.specs.declared.kind.Kind.TheVariants.{LeftParenthesis, RightParenthesis, Repeat};
 ghost use Rattle.pst_ast.specs.SharedView.{view_domain, view_low, view_names, view_next_expr, view_plain, view_type, view_width};
 ghost use Rattle.pst_ast.specs.SharedSpelling.{spell_domain, spell_dot_name, spell_label, spell_low, spell_names, spell_next_expr, spell_next_name, spell_plain, spell_scoped_name, spell_type, spell_type_name, spell_width};
 
 use crate::marks::{push_mark, push_name};
 use crate::spell_expression::{add_expr, add_ranges};
 use pst_ast::{
-    DomainNode, DotName, LabelNode, LowNode, NamesNode, NextExpr, NextName, PlainNode, ScopedName,
-    TypeName, TypeNode, WidthNode,
+    DomainNode, DotName, ExprNode, LabelNode, LowNode, NamesNode, NextExpr, NextName, PlainNode,
+    ScopedName, TypeName, TypeNode, WidthNode,
 };
-use pst_base::NoMemory;
+use pst_base::{NoMemory, Place};
 use pst_token::{Kind, Token};
 
 // "," expr
@@ -77,6 +80,41 @@ pub fn add_names(tokens: &mut Vec<Token>, names: &NamesNode) -> Result<(), NoMem
     add_next_names(tokens, names.rest.as_slice())
 }
 
+// A word, and an expression in brackets behind it.
+pub fn add_word_and_expr(
+    tokens: &mut Vec<Token>,
+    word: Kind,
+    place: Place,
+    left_parenthesis: Place,
+    expr: &ExprNode,
+    right_parenthesis: Place,
+) -> Result<(), NoMemory>
+    ensures { OnOk result (tokens.new.items ≡ tokens.old.items ++ mark word place ∷ mark LeftParenthesis left_parenthesis ∷ (spell_expr (view_expr expr.now) ++ mark RightParenthesis right_parenthesis ∷ [])) }
+{
+    push_mark(tokens, word, place)?;
+    push_mark(tokens, Kind::LeftParenthesis, left_parenthesis)?;
+    add_expr(tokens, expr)?;
+    push_mark(tokens, Kind::RightParenthesis, right_parenthesis)
+}
+
+// "repeat" "(" [ NAME ":" ] expr ")"
+pub fn add_repeat(
+    tokens: &mut Vec<Token>,
+    repeat: Place,
+    left_parenthesis: Place,
+    index: &Option<LabelNode>,
+    count: &ExprNode,
+    right_parenthesis: Place,
+) -> Result<(), NoMemory>
+    ensures { OnOk result (tokens.new.items ≡ tokens.old.items ++ mark Repeat repeat ∷ mark LeftParenthesis left_parenthesis ∷ (spell_option spell_label index.now ++ (spell_expr (view_expr count.now) ++ mark RightParenthesis right_parenthesis ∷ []))) }
+{
+    push_mark(tokens, Kind::Repeat, repeat)?;
+    push_mark(tokens, Kind::LeftParenthesis, left_parenthesis)?;
+    add_optional_label(tokens, index)?;
+    add_expr(tokens, count)?;
+    push_mark(tokens, Kind::RightParenthesis, right_parenthesis)
+}
+
 // NAME ":"
 pub fn add_label(tokens: &mut Vec<Token>, label: &LabelNode) -> Result<(), NoMemory>
     ensures { OnOk result (tokens.new.items ≡ tokens.old.items ++ spell_label label.now) }
@@ -86,7 +124,7 @@ pub fn add_label(tokens: &mut Vec<Token>, label: &LabelNode) -> Result<(), NoMem
 }
 
 // Adds the tokens of a part that may be left out.
-pub fn add_optional_label(tokens: &mut Vec<Token>, part: &Option<LabelNode>) -> Result<(), NoMemory>
+fn add_optional_label(tokens: &mut Vec<Token>, part: &Option<LabelNode>) -> Result<(), NoMemory>
     ensures { OnOk result (tokens.new.items ≡ tokens.old.items ++ spell_option spell_label part.now) }
 {
     match part {

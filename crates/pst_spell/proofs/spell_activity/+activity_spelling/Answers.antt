@@ -17,4 +17,4 @@ pub add_core-returns-in_ok-add_branches-in-Select : goal.add_core-returns-in_ok-
 add_core-returns-in_ok-add_branches-in-Select t c = subst (λ (ts : List Token). OnOk c.push_mark-in-Select-3.result (c.push_mark-in-Select-3.new.tokens.items ≡ c.args.tokens.now.items ++ ts)) (sym (ap (λ (k : CoreNode). spell_core (view_core k)) c.in-Select.is ∙ select_spells c.in-Select.select c.in-Select.left_brace c.in-Select.first c.in-Select.rest c.in-Select.right_brace)) (grind (arith, common_steps))
 
 pub add_core-returns-in_ok-add_arms-in-Match : goal.add_core-returns-in_ok-add_arms-in-Match
-add_core-returns-in_ok-add_arms-in-Match t c = subst (λ (ts : List Token). OnOk c.push_mark-in-Match-5.result (c.push_mark-in-Match-5.new.tokens.items ≡ c.args.tokens.now.items ++ ts)) (sym (ap (λ (k : CoreNode). spell_core (view_core k)) c.in-Match.is ∙ match_spells c.in-Match.match_ c.in-Match.left_parenthesis c.in-Match.expr c.in-Match.right_parenthesis c.in-Match.left_brace c.in-Match.first c.in-Match.rest c.in-Match.right_brace)) (grind (arith, common_steps))
+add_core-returns-in_ok-add_arms-in-Match t c = subst (λ (ts : List Token). OnOk c.push_mark-in-Match-2.result (c.push_mark-in-Match-2.new.tokens.items ≡ c.args.tokens.now.items ++ ts)) (sym (ap (λ (k : CoreNode). spell_core (view_core k)) c.in-Match.is ∙ match_spells c.in-Match.match_ c.in-Match.left_parenthesis c.in-Match.expr c.in-Match.right_parenthesis c.in-Match.left_brace c.in-Match.first c.in-Match.rest c.in-Match.right_brace)) (grind (arith, common_steps))
