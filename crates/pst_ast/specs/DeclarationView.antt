@@ -64,13 +64,13 @@ view_members t = MakeMembers t.member_type (view_names t.names) t.semicolon
 
 -- One part of action between its braces.
 abbrev pub view_action_part : ActionPart → ActionPartTree
-view_action_part (the_action_part.Field field) = ActionPartField (view_field field)
-view_action_part (the_action_part.Reference reference) = ActionPartReference (view_reference reference)
-view_action_part (the_action_part.Claim claim) = ActionPartClaim (view_claim claim)
-view_action_part (the_action_part.Members members) = ActionPartMembers (view_members members)
-view_action_part (the_action_part.Constraint constraint_declaration) = ActionPartConstraint (view_constraint_declaration constraint_declaration)
-view_action_part (the_action_part.Activity activity) = ActionPartActivity (view_activity activity)
-view_action_part (the_action_part.Body body) = ActionPartBody (view_body body)
+view_action_part (the_action_part.Field field) = ActionPartField (view_field field.value)
+view_action_part (the_action_part.Reference reference) = ActionPartReference (view_reference reference.value)
+view_action_part (the_action_part.Claim claim) = ActionPartClaim (view_claim claim.value)
+view_action_part (the_action_part.Members members) = ActionPartMembers (view_members members.value)
+view_action_part (the_action_part.Constraint constraint_declaration) = ActionPartConstraint (view_constraint_declaration constraint_declaration.value)
+view_action_part (the_action_part.Activity activity) = ActionPartActivity (view_activity activity.value)
+view_action_part (the_action_part.Body body) = ActionPartBody (view_body body.value)
 view_action_part (the_action_part.Empty place) = ActionPartEmpty place
 
 -- action = ["abstract"] "action" NAME [ ":" tname ] "{" { field | ref | claim | members | constraint | activity | body | ";" } "}"
@@ -79,8 +79,8 @@ view_action t = MakeAction t.abstract_ t.action t.name t.base t.left_brace (map 
 
 -- One part of object between its braces.
 abbrev pub view_object_part : ObjectPart → ObjectPartTree
-view_object_part (the_object_part.Field field) = ObjectPartField (view_field field)
-view_object_part (the_object_part.Constraint constraint_declaration) = ObjectPartConstraint (view_constraint_declaration constraint_declaration)
+view_object_part (the_object_part.Field field) = ObjectPartField (view_field field.value)
+view_object_part (the_object_part.Constraint constraint_declaration) = ObjectPartConstraint (view_constraint_declaration constraint_declaration.value)
 view_object_part (the_object_part.Empty place) = ObjectPartEmpty place
 
 -- object = ("buffer"|"stream"|"state"|"resource") NAME "{" { field | constraint | ";" } "}"
@@ -152,13 +152,13 @@ view_pool_bind t = MakePoolBind t.bind t.pool (view_targets t.targets) t.semicol
 
 -- One part of component between its braces.
 abbrev pub view_component_part : ComponentPart → ComponentPartTree
-view_component_part (the_component_part.Action action) = ComponentPartAction (view_action action)
-view_component_part (the_component_part.Object object) = ComponentPartObject (view_object object)
-view_component_part (the_component_part.Enum enum) = ComponentPartEnum (view_enum enum)
-view_component_part (the_component_part.Function function) = ComponentPartFunction (view_function function)
-view_component_part (the_component_part.Pool pool) = ComponentPartPool (view_pool pool)
-view_component_part (the_component_part.PoolBind pool_bind) = ComponentPartPoolBind (view_pool_bind pool_bind)
-view_component_part (the_component_part.Members members) = ComponentPartMembers (view_members members)
+view_component_part (the_component_part.Action action) = ComponentPartAction (view_action action.value)
+view_component_part (the_component_part.Object object) = ComponentPartObject (view_object object.value)
+view_component_part (the_component_part.Enum enum) = ComponentPartEnum (view_enum enum.value)
+view_component_part (the_component_part.Function function) = ComponentPartFunction (view_function function.value)
+view_component_part (the_component_part.Pool pool) = ComponentPartPool (view_pool pool.value)
+view_component_part (the_component_part.PoolBind pool_bind) = ComponentPartPoolBind (view_pool_bind pool_bind.value)
+view_component_part (the_component_part.Members members) = ComponentPartMembers (view_members members.value)
 view_component_part (the_component_part.Empty place) = ComponentPartEmpty place
 
 -- component = "component" NAME "{" { action | object | enum | function | pool | poolbind | members | ";" } "}"
@@ -167,10 +167,10 @@ view_component t = MakeComponent t.component t.name t.left_brace (map view_compo
 
 -- One part of unit before its end.
 abbrev pub view_item : Item → ItemTree
-view_item (the_item.Component component) = ItemComponent (view_component component)
-view_item (the_item.Object object) = ItemObject (view_object object)
-view_item (the_item.Enum enum) = ItemEnum (view_enum enum)
-view_item (the_item.Function function) = ItemFunction (view_function function)
+view_item (the_item.Component component) = ItemComponent (view_component component.value)
+view_item (the_item.Object object) = ItemObject (view_object object.value)
+view_item (the_item.Enum enum) = ItemEnum (view_enum enum.value)
+view_item (the_item.Function function) = ItemFunction (view_function function.value)
 view_item (the_item.Empty place) = ItemEmpty place
 
 -- unit = { component | object | enum | function | ";" } END

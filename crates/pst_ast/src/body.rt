@@ -25,11 +25,11 @@ pub enum BodyStatement {
     /// `plain NAME [ "=" source ] ";"`
     Local {
         /// The local's type.
-        plain: PlainNode,
+        plain: Box<PlainNode>,
         /// The local's name.
         name: Name,
         /// Its first value.
-        value: Option<ValueNode>,
+        value: Option<Box<ValueNode>>,
         /// `;`
         semicolon: Place,
     },
@@ -40,14 +40,14 @@ pub enum BodyStatement {
         /// `=`
         equal: Place,
         /// The value.
-        source: SourceNode,
+        source: Box<SourceNode>,
         /// `;`
         semicolon: Place,
     },
     /// `call ";"`
     Call {
         /// The call.
-        call: CallNode,
+        call: Box<CallNode>,
         /// `;`
         semicolon: Place,
     },
@@ -67,7 +67,7 @@ pub enum BodyStatement {
         /// `(`
         left_parenthesis: Place,
         /// The condition.
-        condition: ExprNode,
+        condition: Box<ExprNode>,
         /// `)`
         right_parenthesis: Place,
         /// The part where it holds.
@@ -80,7 +80,7 @@ pub enum BodyStatement {
         /// `(`
         left_parenthesis: Place,
         /// The condition.
-        condition: ExprNode,
+        condition: Box<ExprNode>,
         /// `)`
         right_parenthesis: Place,
         /// The part where it holds.
@@ -99,7 +99,7 @@ pub enum BodyStatement {
         /// The index's name.
         index: Option<LabelNode>,
         /// The count.
-        count: ExprNode,
+        count: Box<ExprNode>,
         /// `)`
         right_parenthesis: Place,
         /// What is repeated.

@@ -19,13 +19,13 @@ pub struct Unit {
 #[derive(Drop)]
 pub enum Item {
     /// `component`
-    Component(ComponentNode),
+    Component(Box<ComponentNode>),
     /// `object`
-    Object(ObjectNode),
+    Object(Box<ObjectNode>),
     /// `enum`
-    Enum(EnumNode),
+    Enum(Box<EnumNode>),
     /// `function`
-    Function(FunctionNode),
+    Function(Box<FunctionNode>),
     /// `";"`
     Empty(Place),
 }
@@ -49,19 +49,19 @@ pub struct ComponentNode {
 #[derive(Drop)]
 pub enum ComponentPart {
     /// `action`
-    Action(ActionNode),
+    Action(Box<ActionNode>),
     /// `object`
-    Object(ObjectNode),
+    Object(Box<ObjectNode>),
     /// `enum`
-    Enum(EnumNode),
+    Enum(Box<EnumNode>),
     /// `function`
-    Function(FunctionNode),
+    Function(Box<FunctionNode>),
     /// `pool`
-    Pool(PoolNode),
+    Pool(Box<PoolNode>),
     /// `poolbind`
-    PoolBind(PoolBindNode),
+    PoolBind(Box<PoolBindNode>),
     /// `members`
-    Members(MembersNode),
+    Members(Box<MembersNode>),
     /// `";"`
     Empty(Place),
 }
@@ -100,9 +100,9 @@ pub enum ObjectWord {
 #[derive(Drop)]
 pub enum ObjectPart {
     /// `field`
-    Field(FieldNode),
+    Field(Box<FieldNode>),
     /// `constraint`
-    Constraint(ConstraintDeclaration),
+    Constraint(Box<ConstraintDeclaration>),
     /// `";"`
     Empty(Place),
 }
@@ -334,19 +334,19 @@ pub struct BaseNode {
 #[derive(Drop)]
 pub enum ActionPart {
     /// `field`
-    Field(FieldNode),
+    Field(Box<FieldNode>),
     /// `ref`
-    Reference(ReferenceNode),
+    Reference(Box<ReferenceNode>),
     /// `claim`
-    Claim(ClaimNode),
+    Claim(Box<ClaimNode>),
     /// `members`
-    Members(MembersNode),
+    Members(Box<MembersNode>),
     /// `constraint`
-    Constraint(ConstraintDeclaration),
+    Constraint(Box<ConstraintDeclaration>),
     /// `activity`
-    Activity(ActivityNode),
+    Activity(Box<ActivityNode>),
     /// `body`
-    Body(BodyNode),
+    Body(Box<BodyNode>),
     /// `";"`
     Empty(Place),
 }

@@ -1,4 +1,4 @@
-//! Syntax trees of the whole grammar, and the tokens that they spell.
+//! Syntax trees of the whole grammar, and their laws.
 #![tactic(auto)]
 
 mod activity;
@@ -10,27 +10,7 @@ mod fault;
 mod instance;
 pub mod laws;
 mod leaf;
-mod marks;
 mod shared;
-mod spell_activity;
-mod spell_body;
-mod spell_constraint;
-mod spell_declaration;
-mod spell_expression;
-mod spell_shared;
-mod spelling;
-#[cfg(test)]
-mod test_builders;
-#[cfg(test)]
-mod test_constraints;
-#[cfg(test)]
-mod test_declarations;
-#[cfg(test)]
-mod test_dma;
-#[cfg(test)]
-mod test_statements;
-#[cfg(test)]
-mod tests;
 
 pub use activity::{
     ActivityNode, ArmLabel, ArmNode, BindNode, BranchNode, CoreNode, EndNode, GuardNode, JoinNode,
@@ -56,4 +36,3 @@ pub use shared::{
     DomainNode, DotName, LabelNode, LowNode, NamesNode, NextExpr, NextName, PlainNode, ScopedName,
     TypeName, TypeNode, WidthNode,
 };
-pub use spelling::spell;

@@ -1,7 +1,7 @@
 -- The parsers of bodies for each size: each function of the program has one of these.
 use Rattle.std.specs.Prelude.{ℕ, suc, List, Option, map}
 use Rattle.std.specs.Option.{option_map}
-use Rattle.std.specs.Global.{Vec}
+use Rattle.std.specs.Global.{Box, Vec}
 use Rattle.pst_base.specs.declared.position.Place.{Place}
 use Rattle.pst_token.specs.declared.kind.Kind.TheVariants as kind
 use Rattle.pst_ast.specs.declared.leaf.Name.{Name}
@@ -15,7 +15,7 @@ use Rattle.pst_ast.specs.ExpressionView.{view_expr}
 use Rattle.pst_ast.specs.SharedTree.{LowTree, WidthTree, PlainTree}
 use Rattle.pst_ast.specs.SharedView.{view_low, view_width}
 use Rattle.pst_ast.specs.BodyTree.{BodyTree, BodyStatementTree, ValueTree, SourceTree, CallTree, ArgumentsTree}
-use Rattle.pst_ast.specs.BodyView.{view_arguments, view_value, view_body_statement}
+use Rattle.pst_ast.specs.BodyView.{view_arguments, view_boxed_value, view_body_statement}
 use Rattle.pst_reading.specs.Gives.{Family}
 use Rattle.pst_reading.specs.Lists.{listed}
 use Rattle.pst_parse_expr.specs.Constraints.{outermost_at, is_other}
@@ -98,8 +98,8 @@ view_times t = (t.left_parenthesis, t.index, view_expr t.count, t.right_parenthe
 abbrev pub view_arguments_option : Option ArgumentsNode → Option ArgumentsTree
 view_arguments_option arguments = option_map view_arguments arguments
 
-abbrev pub view_value_option : Option ValueNode → Option ValueTree
-view_value_option value = option_map view_value value
+abbrev pub view_value_option : Option (Box ValueNode) → Option ValueTree
+view_value_option value = option_map view_boxed_value value
 
 abbrev pub view_statements : Vec BodyStatement → List BodyStatementTree
 view_statements v = map view_body_statement v.items

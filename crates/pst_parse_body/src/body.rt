@@ -134,18 +134,19 @@ fn if_statement(
 {
     let if_ = expect(tokens, at, Kind::If, depth, 0)?;
     let (condition, behind) = read_condition(alloc, tokens, at + 1, depth)?;
-    let (then, after) = statement(alloc, tokens, behind, depth + 1)?;
-    let then = boxed(alloc, then)?;
     let Condition {
         left_parenthesis,
         expr,
         right_parenthesis,
     } = condition;
+    let condition = boxed(alloc, expr)?;
+    let (then, after) = statement(alloc, tokens, behind, depth + 1)?;
+    let then = boxed(alloc, then)?;
     if !is(tokens, after, Kind::Else) {
         let only = BodyStatement::If {
             if_,
             left_parenthesis,
-            condition: expr,
+            condition,
             right_parenthesis,
             then,
         };
@@ -156,7 +157,7 @@ fn if_statement(
     let both = BodyStatement::IfElse {
         if_,
         left_parenthesis,
-        condition: expr,
+        condition,
         right_parenthesis,
         then,
         else_,
@@ -179,14 +180,15 @@ fn loop_statement(
 {
     let repeat = expect(tokens, at, Kind::Repeat, depth, 0)?;
     let (times, behind) = read_times(alloc, tokens, at + 1, depth)?;
-    let (statement, after) = statement(alloc, tokens, behind, depth + 1)?;
-    let statement = boxed(alloc, statement)?;
     let Times {
         left_parenthesis,
         index,
         count,
         right_parenthesis,
     } = times;
+    let count = boxed(alloc, count)?;
+    let (statement, after) = statement(alloc, tokens, behind, depth + 1)?;
+    let statement = boxed(alloc, statement)?;
     let node = BodyStatement::Repeat {
         repeat,
         left_parenthesis,
@@ -210,6 +212,7 @@ fn local(
     ensures { ReadsOpen view_body_statement body_ends_open (local_family depth) tokens.now at at result }
 {
     let (plain, behind) = plain_type(alloc, tokens, at, depth)?;
+    let plain = boxed(alloc, plain)?;
     let name = expect_name(tokens, behind, depth, 0)?;
     let (value, after) = maybe_value(alloc, tokens, behind + 1, depth)?;
     let semicolon = expect(tokens, after, Kind::Semicolon, depth, 0)?;
@@ -236,16 +239,18 @@ fn named(
     let name = expect_name(tokens, at, depth, 0)?;
     if is(tokens, at + 1, Kind::Equal) {
         let (value, after) = value(alloc, tokens, at + 1, depth)?;
+        let source = boxed(alloc, value.source)?;
         let semicolon = expect(tokens, after, Kind::Semicolon, depth, 0)?;
         let assign = BodyStatement::Assign {
             name,
             equal: value.equal,
-            source: value.source,
+            source,
             semicolon,
         };
         return Ok((assign, after + 1));
     }
     let (call, after) = call(alloc, tokens, at + 1, depth, name)?;
+    let call = boxed(alloc, call)?;
     let semicolon = expect(tokens, after, Kind::Semicolon, depth, 0)?;
     Ok((BodyStatement::Call { call, semicolon }, after + 1))
 }

@@ -7,7 +7,7 @@ ghost use Rattle.pst_parse_body.specs.BodyFamilies.{arguments_family, call_famil
 
 use pst_ast::{ArgumentsNode, CallNode, Name, SourceNode, SyntaxFault, ValueNode};
 use pst_parse_expr::{next_exprs, outermost};
-use pst_reading::{expect, expect_name, is, name_then};
+use pst_reading::{boxed, expect, expect_name, is, name_then};
 use pst_token::{Kind, Token};
 use std::alloc::Global;
 
@@ -94,7 +94,7 @@ pub fn maybe_value(
     tokens: &[Token],
     at: usize,
     depth: u32,
-) -> Result<(Option<ValueNode>, usize), SyntaxFault>
+) -> Result<(Option<Box<ValueNode>>, usize), SyntaxFault>
     requires inside { at ≤ length tokens.now }
     ensures { Reads view_value_option (maybe_value_family depth) tokens.now at at 0 result }
 {
@@ -102,5 +102,5 @@ pub fn maybe_value(
         return Ok((None, at));
     }
     let (value, after) = value(alloc, tokens, at, depth)?;
-    Ok((Some(value), after))
+    Ok((Some(boxed(alloc, value)?), after))
 }

@@ -212,7 +212,7 @@ fn first(alloc: Global, kinds: &[Kind]) -> Result<Option<bool>, SyntaxFault> {
     let (body, _after) = parse_body(alloc, tokens.as_slice(), 0, 0)?;
     for statement in body.statements.as_slice() {
         match statement {
-            BodyStatement::Assign { source, .. } => match source {
+            BodyStatement::Assign { source, .. } => match source.as_ref() {
                 SourceNode::Call(_) => return Ok(Some(true)),
                 SourceNode::Expr(_) => return Ok(Some(false)),
             },

@@ -16,7 +16,7 @@ use crate::members::{claim, field, members, reference};
 use crate::objects::constraint_declaration;
 use crate::types::{maybe_mark, type_name};
 use pst_ast::{ActionNode, ActionPart, BaseNode, SyntaxFault};
-use pst_reading::{expect, expect_name, is, push};
+use pst_reading::{boxed, expect, expect_name, is, push};
 use pst_token::{Kind, Token};
 use std::alloc::Global;
 
@@ -74,26 +74,32 @@ fn action_part(
 {
     if is(tokens, at, Kind::Rand) {
         let (field, after) = field(alloc, tokens, at, IN_ACTION)?;
+        let field = boxed(alloc, field)?;
         return Ok((ActionPart::Field(field), after));
     }
     if begins_reference(tokens, at) {
         let (reference, after) = reference(alloc, tokens, at, IN_ACTION)?;
+        let reference = boxed(alloc, reference)?;
         return Ok((ActionPart::Reference(reference), after));
     }
     if begins_claim(tokens, at) {
         let (claim, after) = claim(alloc, tokens, at, IN_ACTION)?;
+        let claim = boxed(alloc, claim)?;
         return Ok((ActionPart::Claim(claim), after));
     }
     if is(tokens, at, Kind::Constraint) {
         let (declaration, after) = constraint_declaration(alloc, tokens, at, IN_ACTION)?;
+        let declaration = boxed(alloc, declaration)?;
         return Ok((ActionPart::Constraint(declaration), after));
     }
     if is(tokens, at, Kind::Activity) {
         let (activity, after) = activity(alloc, tokens, at, IN_ACTION)?;
+        let activity = boxed(alloc, activity)?;
         return Ok((ActionPart::Activity(activity), after));
     }
     if is(tokens, at, Kind::Exec) {
         let (body, after) = body(alloc, tokens, at, IN_ACTION)?;
+        let body = boxed(alloc, body)?;
         return Ok((ActionPart::Body(body), after));
     }
     if is(tokens, at, Kind::Semicolon) {
@@ -101,6 +107,7 @@ fn action_part(
         return Ok((ActionPart::Empty(place), at + 1));
     }
     let (members, after) = members(alloc, tokens, at, IN_ACTION)?;
+    let members = boxed(alloc, members)?;
     Ok((ActionPart::Members(members), after))
 }
 

@@ -17,7 +17,7 @@ use crate::members::members;
 use crate::objects::object;
 use crate::pools::{pool, pool_bind};
 use pst_ast::{ComponentNode, ComponentPart, Item, SyntaxFault};
-use pst_reading::{expect, expect_name, is, push};
+use pst_reading::{boxed, expect, expect_name, is, push};
 use pst_token::{Kind, Token};
 use std::alloc::Global;
 
@@ -52,26 +52,32 @@ fn component_part(
 {
     if begins_action(tokens, at) {
         let (action, after) = action(alloc, tokens, at)?;
+        let action = boxed(alloc, action)?;
         return Ok((ComponentPart::Action(action), after));
     }
     if begins_object(tokens, at) {
         let (object, after) = object(alloc, tokens, at, IN_COMPONENT)?;
+        let object = boxed(alloc, object)?;
         return Ok((ComponentPart::Object(object), after));
     }
     if is(tokens, at, Kind::Enum) {
         let (enum_, after) = enum_(alloc, tokens, at, IN_COMPONENT)?;
+        let enum_ = boxed(alloc, enum_)?;
         return Ok((ComponentPart::Enum(enum_), after));
     }
     if is(tokens, at, Kind::Import) {
         let (function, after) = function(alloc, tokens, at, IN_COMPONENT)?;
+        let function = boxed(alloc, function)?;
         return Ok((ComponentPart::Function(function), after));
     }
     if is(tokens, at, Kind::Pool) {
         let (pool, after) = pool(alloc, tokens, at, IN_COMPONENT)?;
+        let pool = boxed(alloc, pool)?;
         return Ok((ComponentPart::Pool(pool), after));
     }
     if is(tokens, at, Kind::Bind) {
         let (bind, after) = pool_bind(alloc, tokens, at, IN_COMPONENT)?;
+        let bind = boxed(alloc, bind)?;
         return Ok((ComponentPart::PoolBind(bind), after));
     }
     if is(tokens, at, Kind::Semicolon) {
@@ -79,6 +85,7 @@ fn component_part(
         return Ok((ComponentPart::Empty(place), at + 1));
     }
     let (members, after) = members(alloc, tokens, at, IN_COMPONENT)?;
+    let members = boxed(alloc, members)?;
     Ok((ComponentPart::Members(members), after))
 }
 
@@ -133,14 +140,17 @@ pub fn item(alloc: Global, tokens: &[Token], at: usize) -> Result<(Item, usize),
 {
     if is(tokens, at, Kind::Component) {
         let (component, after) = component(alloc, tokens, at)?;
+        let component = boxed(alloc, component)?;
         return Ok((Item::Component(component), after));
     }
     if is(tokens, at, Kind::Enum) {
         let (enum_, after) = enum_(alloc, tokens, at, 0)?;
+        let enum_ = boxed(alloc, enum_)?;
         return Ok((Item::Enum(enum_), after));
     }
     if is(tokens, at, Kind::Import) {
         let (function, after) = function(alloc, tokens, at, 0)?;
+        let function = boxed(alloc, function)?;
         return Ok((Item::Function(function), after));
     }
     if is(tokens, at, Kind::Semicolon) {
@@ -148,5 +158,6 @@ pub fn item(alloc: Global, tokens: &[Token], at: usize) -> Result<(Item, usize),
         return Ok((Item::Empty(place), at + 1));
     }
     let (object, after) = object(alloc, tokens, at, 0)?;
+    let object = boxed(alloc, object)?;
     Ok((Item::Object(object), after))
 }

@@ -17,7 +17,7 @@ use pst_ast::{
 };
 use pst_base::Place;
 use pst_parse_expr::constraint::{items, set};
-use pst_reading::{expect, expect_name, is, is_name, push};
+use pst_reading::{boxed, expect, expect_name, is, is_name, push};
 use pst_token::{Kind, Token};
 use std::alloc::Global;
 
@@ -132,10 +132,12 @@ fn object_part(
 {
     if is(tokens, at, Kind::Rand) {
         let (field, after) = field(alloc, tokens, at, depth)?;
+        let field = boxed(alloc, field)?;
         return Ok((ObjectPart::Field(field), after));
     }
     if is(tokens, at, Kind::Constraint) {
         let (declaration, after) = constraint_declaration(alloc, tokens, at, depth)?;
+        let declaration = boxed(alloc, declaration)?;
         return Ok((ObjectPart::Constraint(declaration), after));
     }
     let place = expect(tokens, at, Kind::Semicolon, depth, 0)?;

@@ -1,7 +1,7 @@
 -- Units of the straight form, and their declarations.
 use Rattle.std.proofs.Common.{◌≡◌, ◌∙◌, ℕ, Bool, true, false, not, Result, Ok, Err, IfOk, ◌+◌, ◌<◌, ◌≤◌, List, [], ◌∷◌, ◌++◌, length, length-append, get_or, take, map, refl, ap, sym, subst, arith}
 use Rattle.std.specs.Prelude.{Some, None, Option, ◌==◌, codes, MatchOption}
-use Rattle.std.specs.Global.{Vec}
+use Rattle.std.specs.Global.{Box, Vec}
 use Rattle.std.specs.Str.{bytes_eq}
 use Rattle.std.proofs.lemmas.Slice.Eq.{bytes_eq-Decides}
 use Rattle.std.specs.List.{AllZip, flat_map}
@@ -140,8 +140,8 @@ alone xs (r ∷ rest) x empty is test h =
     absurd (both_ways empty (test ∙ none) h)
 
 -- an activity that stands alone in an action
-pub activity_alone : (parts rest : List ActionPart) (part : ActionPart) (activity : ActivityNode) (empty : Bool) → parts ≡ part ∷ rest → empty ≡ (length rest == 0) → empty ≡ true → part ≡ the_action_part.Activity activity
-    → map view_action_part parts ≡ ActionPartActivity (view_activity activity) ∷ []
+pub activity_alone : (parts rest : List ActionPart) (part : ActionPart) (activity : Box ActivityNode) (empty : Bool) → parts ≡ part ∷ rest → empty ≡ (length rest == 0) → empty ≡ true → part ≡ the_action_part.Activity activity
+    → map view_action_part parts ≡ ActionPartActivity (view_activity activity.value) ∷ []
 activity_alone parts rest part activity empty is test h node =
     ap (λ xs. map view_action_part xs) (alone parts rest part empty is test h) ∙ ap (λ p. view_action_part p ∷ []) node
 
@@ -151,8 +151,8 @@ without_names names activity None none h = h
 without_names names activity (Some all) none h = none all h
 
 -- a component that stands alone in a unit
-pub component_alone : (items rest : List Item) (item : Item) (component : ComponentNode) (empty : Bool) → items ≡ item ∷ rest → empty ≡ (length rest == 0) → empty ≡ true → item ≡ the_item.Component component
-    → map view_item items ≡ ItemComponent (view_component component) ∷ []
+pub component_alone : (items rest : List Item) (item : Item) (component : Box ComponentNode) (empty : Bool) → items ≡ item ∷ rest → empty ≡ (length rest == 0) → empty ≡ true → item ≡ the_item.Component component
+    → map view_item items ≡ ItemComponent (view_component component.value) ∷ []
 component_alone items rest item component empty is test h node =
     ap (λ xs. map view_item xs) (alone items rest item empty is test h) ∙ ap (λ i. view_item i ∷ []) node
 

@@ -50,7 +50,7 @@ if_statement-returns-then-not-is t c =
     let g = c.in_ok-condition.ensures in
     let s = c.in_ok-then.ensures in
     record {
-      settles = rw c.in_ok-then-2.ensures.ok (if_given c.args.tokens.now c.args.at c.args.depth (c.args.depth + 1) (omega arith) c.in_ok-if_.if_ c.in_ok-if_.ensures.reads.0 (view_condition c.in_ok-condition.condition) c.in_ok-condition.behind g.after g.inside g.settles (view_body_statement c.in_ok-then.then) c.in_ok-then.after s.after s.inside s.settles s.no_else (search rules));
+      settles = rw (c.in_ok-condition-2.ensures.ok, c.in_ok-then-2.ensures.ok) (if_given c.args.tokens.now c.args.at c.args.depth (c.args.depth + 1) (omega arith) c.in_ok-if_.if_ c.in_ok-if_.ensures.reads.0 (view_condition c.in_ok-condition.condition) c.in_ok-condition.behind g.after g.inside g.settles (view_body_statement c.in_ok-then.then) c.in_ok-then.after s.after s.inside s.settles s.no_else (search rules));
       after = omega (arith, g.after, s.after);
       inside = s.inside;
       no_else = λ opens. search rules;
@@ -69,7 +69,7 @@ if_statement-returns t c =
     let s = c.in_ok-then.ensures in
     let o = c.in_ok-otherwise.ensures in
     record {
-      settles = rw (c.in_ok-then-2.ensures.ok, c.in_ok-boxed.ensures.ok) (if_else_given c.args.tokens.now c.args.at c.args.depth (c.args.depth + 1) (omega arith) c.in_ok-if_.if_ c.in_ok-if_.ensures.reads.0 (view_condition c.in_ok-condition.condition) c.in_ok-condition.behind g.after g.inside g.settles (view_body_statement c.in_ok-then.then) c.in_ok-then.after s.after s.inside s.settles s.no_else (search rules) c.in_ok-else_.else_ c.in_ok-else_.ensures.reads.0 c.in_ok-else_.ensures.reads.1 (view_body_statement c.in_ok-otherwise.otherwise) c.in_ok-otherwise.end (omega (arith, o.after)) o.settles);
+      settles = rw (c.in_ok-condition-2.ensures.ok, c.in_ok-then-2.ensures.ok, c.in_ok-boxed.ensures.ok) (if_else_given c.args.tokens.now c.args.at c.args.depth (c.args.depth + 1) (omega arith) c.in_ok-if_.if_ c.in_ok-if_.ensures.reads.0 (view_condition c.in_ok-condition.condition) c.in_ok-condition.behind g.after g.inside g.settles (view_body_statement c.in_ok-then.then) c.in_ok-then.after s.after s.inside s.settles s.no_else (search rules) c.in_ok-else_.else_ c.in_ok-else_.ensures.reads.0 c.in_ok-else_.ensures.reads.1 (view_body_statement c.in_ok-otherwise.otherwise) c.in_ok-otherwise.end (omega (arith, o.after)) o.settles);
       after = omega (arith, g.after, s.after, o.after);
       inside = o.inside;
       no_else = rw c.in_ok-boxed.ensures.ok o.no_else;
@@ -91,7 +91,7 @@ loop_statement-returns t c =
     let g = c.in_ok-times.ensures in
     let s = c.in_ok-statement.ensures in
     record {
-      settles = rw c.in_ok-statement-2.ensures.ok (loop_given c.args.tokens.now c.args.at c.args.depth (c.args.depth + 1) (omega arith) c.in_ok-repeat.repeat c.in_ok-repeat.ensures.reads.0 (view_times c.in_ok-times.times) c.in_ok-times.behind g.after g.inside g.settles (view_body_statement c.in_ok-statement.statement) c.in_ok-statement.after s.after s.settles);
+      settles = rw (c.in_ok-count.ensures.ok, c.in_ok-statement-2.ensures.ok) (loop_given c.args.tokens.now c.args.at c.args.depth (c.args.depth + 1) (omega arith) c.in_ok-repeat.repeat c.in_ok-repeat.ensures.reads.0 (view_times c.in_ok-times.times) c.in_ok-times.behind g.after g.inside g.settles (view_body_statement c.in_ok-statement.statement) c.in_ok-statement.after s.after s.settles);
       after = omega (arith, g.after, s.after);
       inside = s.inside;
       no_else = rw c.in_ok-statement-2.ensures.ok s.no_else;

@@ -34,7 +34,7 @@ returns c =
     let t = c.in_ok-plain.ensures in
     let v = c.in_ok-value.ensures in
     record {
-      settles = local_given c.args.tokens.now c.args.at c.args.depth (view_plain c.in_ok-plain.plain) c.in_ok-plain.behind t.after t.inside t.settles c.in_ok-name.name c.in_ok-name.ensures.reads.0 (view_value_option c.in_ok-value.value) c.in_ok-value.after v.after v.inside v.settles c.in_ok-semicolon.semicolon c.in_ok-semicolon.ensures.reads.0;
+      settles = rw c.in_ok-plain-2.ensures.ok (local_given c.args.tokens.now c.args.at c.args.depth (view_plain c.in_ok-plain.plain) c.in_ok-plain.behind t.after t.inside t.settles c.in_ok-name.name c.in_ok-name.ensures.reads.0 (view_value_option c.in_ok-value.value) c.in_ok-value.after v.after v.inside v.settles c.in_ok-semicolon.semicolon c.in_ok-semicolon.ensures.reads.0);
       after = omega (arith, t.after, v.after);
       inside = c.in_ok-semicolon.ensures.reads.1;
       no_else = λ opens. absurd cc;

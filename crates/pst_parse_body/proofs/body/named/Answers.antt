@@ -19,7 +19,7 @@ pub returns-then-is : goal.returns-then-is
 returns-then-is c =
     let v = c.in_ok-value.ensures in
     record {
-      settles = assign_given c.args.tokens.now c.args.at c.args.depth c.in_ok-name.name c.in_ok-name.ensures.reads.0 (search rules) (view_value c.in_ok-value.value) c.in_ok-value.after v.after v.inside v.settles c.in_ok-semicolon.semicolon c.in_ok-semicolon.ensures.reads.0;
+      settles = rw c.in_ok-source.ensures.ok (assign_given c.args.tokens.now c.args.at c.args.depth c.in_ok-name.name c.in_ok-name.ensures.reads.0 (search rules) (view_value c.in_ok-value.value) c.in_ok-value.after v.after v.inside v.settles c.in_ok-semicolon.semicolon c.in_ok-semicolon.ensures.reads.0);
       after = omega (arith, v.after);
       inside = c.in_ok-semicolon.ensures.reads.1;
       no_else = λ opens. absurd cc;
@@ -40,7 +40,7 @@ pub returns : goal.returns
 returns c =
     let k = c.in_ok-call.ensures in
     record {
-      settles = called_given c.args.tokens.now c.args.at c.args.depth c.in_ok-name.name c.in_ok-name.ensures.reads.0 (search rules) (view_call c.in_ok-call.call) c.in_ok-call.after k.after k.inside k.settles c.in_ok-semicolon-2.semicolon c.in_ok-semicolon-2.ensures.reads.0;
+      settles = rw c.in_ok-call-2.ensures.ok (called_given c.args.tokens.now c.args.at c.args.depth c.in_ok-name.name c.in_ok-name.ensures.reads.0 (search rules) (view_call c.in_ok-call.call) c.in_ok-call.after k.after k.inside k.settles c.in_ok-semicolon-2.semicolon c.in_ok-semicolon-2.ensures.reads.0);
       after = omega (arith, k.after);
       inside = c.in_ok-semicolon-2.ensures.reads.1;
       no_else = λ opens. absurd cc;

@@ -13,7 +13,7 @@ pub returns : goal.returns
 returns c =
     let v = c.in_ok-value.ensures in
     record {
-      settles = some_value_given c.args.tokens.now c.args.at c.args.depth (search rules) (view_value c.in_ok-value.value) c.in_ok-value.after v.after v.settles;
+      settles = rw c.in_ok-boxed.ensures.ok (some_value_given c.args.tokens.now c.args.at c.args.depth (search rules) (view_value c.in_ok-value.value) c.in_ok-value.after v.after v.settles);
       after = omega (arith, v.after);
       inside = v.inside;
     }

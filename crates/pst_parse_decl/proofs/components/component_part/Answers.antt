@@ -15,7 +15,7 @@ returns-in_err-action c =
     rw (p.1, p.2) (fails (component_part_family activity_parser body_parser 1) c.args.tokens.now c.args.at c.args.at (action_family activity_parser body_parser 1) _ c.args.at c.args.at c.in_err-action.field-0.0 (omega arith) c.in_err-action.ensures (choose_next (component_part_family activity_parser body_parser 1) c.args.tokens.now c.args.at c.args.at begins_action _ _ c.args.at true (search rules) (begin (component_part_family activity_parser body_parser 1) c.args.tokens.now c.args.at c.args.at)))
 
 pub returns-then-begins_action : goal.returns-then-begins_action
-returns-then-begins_action c = record { settles = ends (component_part_family activity_parser body_parser 1) c.args.tokens.now c.args.at c.args.at _ c.in_ok-action.after (step (component_part_family activity_parser body_parser 1) c.args.tokens.now c.args.at c.args.at (action_family activity_parser body_parser 1) _ c.args.at c.args.at c.in_ok-action.after (view_action c.in_ok-action.action) (omega arith) (omega (arith, c.in_ok-action.ensures.after)) c.in_ok-action.ensures.settles (choose_next (component_part_family activity_parser body_parser 1) c.args.tokens.now c.args.at c.args.at begins_action _ _ c.args.at true (search rules) (begin (component_part_family activity_parser body_parser 1) c.args.tokens.now c.args.at c.args.at))); after = omega (arith, c.in_ok-action.ensures.after); inside = c.in_ok-action.ensures.inside }
+returns-then-begins_action c = record { settles = rw c.in_ok-action-2.ensures.ok (ends (component_part_family activity_parser body_parser 1) c.args.tokens.now c.args.at c.args.at _ c.in_ok-action.after (step (component_part_family activity_parser body_parser 1) c.args.tokens.now c.args.at c.args.at (action_family activity_parser body_parser 1) _ c.args.at c.args.at c.in_ok-action.after (view_action c.in_ok-action.action) (omega arith) (omega (arith, c.in_ok-action.ensures.after)) c.in_ok-action.ensures.settles (choose_next (component_part_family activity_parser body_parser 1) c.args.tokens.now c.args.at c.args.at begins_action _ _ c.args.at true (search rules) (begin (component_part_family activity_parser body_parser 1) c.args.tokens.now c.args.at c.args.at)))); after = omega (arith, c.in_ok-action.ensures.after); inside = c.in_ok-action.ensures.inside }
 
 pub returns-in_err-object : goal.returns-in_err-object
 returns-in_err-object c =
@@ -23,7 +23,7 @@ returns-in_err-object c =
     rw (p.1, p.2) (fails (component_part_family activity_parser body_parser 1) c.args.tokens.now c.args.at c.args.at (object_family 1) _ c.args.at c.args.at c.in_err-object.field-0.0 (omega arith) c.in_err-object.ensures (choose_next (component_part_family activity_parser body_parser 1) c.args.tokens.now c.args.at c.args.at begins_object _ _ c.args.at true (search rules) (choose_next (component_part_family activity_parser body_parser 1) c.args.tokens.now c.args.at c.args.at begins_action _ _ c.args.at false (search rules) (begin (component_part_family activity_parser body_parser 1) c.args.tokens.now c.args.at c.args.at))))
 
 pub returns-then-begins_object : goal.returns-then-begins_object
-returns-then-begins_object c = record { settles = ends (component_part_family activity_parser body_parser 1) c.args.tokens.now c.args.at c.args.at _ c.in_ok-object.after (step (component_part_family activity_parser body_parser 1) c.args.tokens.now c.args.at c.args.at (object_family 1) _ c.args.at c.args.at c.in_ok-object.after (view_object c.in_ok-object.object) (omega arith) (omega (arith, c.in_ok-object.ensures.after)) c.in_ok-object.ensures.settles (choose_next (component_part_family activity_parser body_parser 1) c.args.tokens.now c.args.at c.args.at begins_object _ _ c.args.at true (search rules) (choose_next (component_part_family activity_parser body_parser 1) c.args.tokens.now c.args.at c.args.at begins_action _ _ c.args.at false (search rules) (begin (component_part_family activity_parser body_parser 1) c.args.tokens.now c.args.at c.args.at)))); after = omega (arith, c.in_ok-object.ensures.after); inside = c.in_ok-object.ensures.inside }
+returns-then-begins_object c = record { settles = rw c.in_ok-object-2.ensures.ok (ends (component_part_family activity_parser body_parser 1) c.args.tokens.now c.args.at c.args.at _ c.in_ok-object.after (step (component_part_family activity_parser body_parser 1) c.args.tokens.now c.args.at c.args.at (object_family 1) _ c.args.at c.args.at c.in_ok-object.after (view_object c.in_ok-object.object) (omega arith) (omega (arith, c.in_ok-object.ensures.after)) c.in_ok-object.ensures.settles (choose_next (component_part_family activity_parser body_parser 1) c.args.tokens.now c.args.at c.args.at begins_object _ _ c.args.at true (search rules) (choose_next (component_part_family activity_parser body_parser 1) c.args.tokens.now c.args.at c.args.at begins_action _ _ c.args.at false (search rules) (begin (component_part_family activity_parser body_parser 1) c.args.tokens.now c.args.at c.args.at))))); after = omega (arith, c.in_ok-object.ensures.after); inside = c.in_ok-object.ensures.inside }
 
 pub returns-in_err-enum_ : goal.returns-in_err-enum_
 returns-in_err-enum_ c =
@@ -31,7 +31,7 @@ returns-in_err-enum_ c =
     rw (p.1, p.2) (fails (component_part_family activity_parser body_parser 1) c.args.tokens.now c.args.at c.args.at (enum_family 1) _ c.args.at c.args.at c.in_err-enum_.field-0.0 (omega arith) c.in_err-enum_.ensures (choose (component_part_family activity_parser body_parser 1) c.args.tokens.now c.args.at c.args.at kind.Enum _ _ c.args.at true (search rules) (choose_next (component_part_family activity_parser body_parser 1) c.args.tokens.now c.args.at c.args.at begins_object _ _ c.args.at false (search rules) (choose_next (component_part_family activity_parser body_parser 1) c.args.tokens.now c.args.at c.args.at begins_action _ _ c.args.at false (search rules) (begin (component_part_family activity_parser body_parser 1) c.args.tokens.now c.args.at c.args.at)))))
 
 pub returns-then-is : goal.returns-then-is
-returns-then-is c = record { settles = ends (component_part_family activity_parser body_parser 1) c.args.tokens.now c.args.at c.args.at _ c.in_ok-enum_.after (step (component_part_family activity_parser body_parser 1) c.args.tokens.now c.args.at c.args.at (enum_family 1) _ c.args.at c.args.at c.in_ok-enum_.after (view_enum c.in_ok-enum_.enum_) (omega arith) (omega (arith, c.in_ok-enum_.ensures.after)) c.in_ok-enum_.ensures.settles (choose (component_part_family activity_parser body_parser 1) c.args.tokens.now c.args.at c.args.at kind.Enum _ _ c.args.at true (search rules) (choose_next (component_part_family activity_parser body_parser 1) c.args.tokens.now c.args.at c.args.at begins_object _ _ c.args.at false (search rules) (choose_next (component_part_family activity_parser body_parser 1) c.args.tokens.now c.args.at c.args.at begins_action _ _ c.args.at false (search rules) (begin (component_part_family activity_parser body_parser 1) c.args.tokens.now c.args.at c.args.at))))); after = omega (arith, c.in_ok-enum_.ensures.after); inside = c.in_ok-enum_.ensures.inside }
+returns-then-is c = record { settles = rw c.in_ok-enum_-2.ensures.ok (ends (component_part_family activity_parser body_parser 1) c.args.tokens.now c.args.at c.args.at _ c.in_ok-enum_.after (step (component_part_family activity_parser body_parser 1) c.args.tokens.now c.args.at c.args.at (enum_family 1) _ c.args.at c.args.at c.in_ok-enum_.after (view_enum c.in_ok-enum_.enum_) (omega arith) (omega (arith, c.in_ok-enum_.ensures.after)) c.in_ok-enum_.ensures.settles (choose (component_part_family activity_parser body_parser 1) c.args.tokens.now c.args.at c.args.at kind.Enum _ _ c.args.at true (search rules) (choose_next (component_part_family activity_parser body_parser 1) c.args.tokens.now c.args.at c.args.at begins_object _ _ c.args.at false (search rules) (choose_next (component_part_family activity_parser body_parser 1) c.args.tokens.now c.args.at c.args.at begins_action _ _ c.args.at false (search rules) (begin (component_part_family activity_parser body_parser 1) c.args.tokens.now c.args.at c.args.at)))))); after = omega (arith, c.in_ok-enum_.ensures.after); inside = c.in_ok-enum_.ensures.inside }
 
 pub returns-in_err-function : goal.returns-in_err-function
 returns-in_err-function c =
@@ -39,7 +39,7 @@ returns-in_err-function c =
     rw (p.1, p.2) (fails (component_part_family activity_parser body_parser 1) c.args.tokens.now c.args.at c.args.at (function_family 1) _ c.args.at c.args.at c.in_err-function.field-0.0 (omega arith) c.in_err-function.ensures (choose (component_part_family activity_parser body_parser 1) c.args.tokens.now c.args.at c.args.at kind.Import _ _ c.args.at true (search rules) (choose (component_part_family activity_parser body_parser 1) c.args.tokens.now c.args.at c.args.at kind.Enum _ _ c.args.at false (search rules) (choose_next (component_part_family activity_parser body_parser 1) c.args.tokens.now c.args.at c.args.at begins_object _ _ c.args.at false (search rules) (choose_next (component_part_family activity_parser body_parser 1) c.args.tokens.now c.args.at c.args.at begins_action _ _ c.args.at false (search rules) (begin (component_part_family activity_parser body_parser 1) c.args.tokens.now c.args.at c.args.at))))))
 
 pub returns-then-is-2 : goal.returns-then-is-2
-returns-then-is-2 c = record { settles = ends (component_part_family activity_parser body_parser 1) c.args.tokens.now c.args.at c.args.at _ c.in_ok-function.after (step (component_part_family activity_parser body_parser 1) c.args.tokens.now c.args.at c.args.at (function_family 1) _ c.args.at c.args.at c.in_ok-function.after (view_function c.in_ok-function.function) (omega arith) (omega (arith, c.in_ok-function.ensures.after)) c.in_ok-function.ensures.settles (choose (component_part_family activity_parser body_parser 1) c.args.tokens.now c.args.at c.args.at kind.Import _ _ c.args.at true (search rules) (choose (component_part_family activity_parser body_parser 1) c.args.tokens.now c.args.at c.args.at kind.Enum _ _ c.args.at false (search rules) (choose_next (component_part_family activity_parser body_parser 1) c.args.tokens.now c.args.at c.args.at begins_object _ _ c.args.at false (search rules) (choose_next (component_part_family activity_parser body_parser 1) c.args.tokens.now c.args.at c.args.at begins_action _ _ c.args.at false (search rules) (begin (component_part_family activity_parser body_parser 1) c.args.tokens.now c.args.at c.args.at)))))); after = omega (arith, c.in_ok-function.ensures.after); inside = c.in_ok-function.ensures.inside }
+returns-then-is-2 c = record { settles = rw c.in_ok-function-2.ensures.ok (ends (component_part_family activity_parser body_parser 1) c.args.tokens.now c.args.at c.args.at _ c.in_ok-function.after (step (component_part_family activity_parser body_parser 1) c.args.tokens.now c.args.at c.args.at (function_family 1) _ c.args.at c.args.at c.in_ok-function.after (view_function c.in_ok-function.function) (omega arith) (omega (arith, c.in_ok-function.ensures.after)) c.in_ok-function.ensures.settles (choose (component_part_family activity_parser body_parser 1) c.args.tokens.now c.args.at c.args.at kind.Import _ _ c.args.at true (search rules) (choose (component_part_family activity_parser body_parser 1) c.args.tokens.now c.args.at c.args.at kind.Enum _ _ c.args.at false (search rules) (choose_next (component_part_family activity_parser body_parser 1) c.args.tokens.now c.args.at c.args.at begins_object _ _ c.args.at false (search rules) (choose_next (component_part_family activity_parser body_parser 1) c.args.tokens.now c.args.at c.args.at begins_action _ _ c.args.at false (search rules) (begin (component_part_family activity_parser body_parser 1) c.args.tokens.now c.args.at c.args.at))))))); after = omega (arith, c.in_ok-function.ensures.after); inside = c.in_ok-function.ensures.inside }
 
 pub returns-in_err-pool : goal.returns-in_err-pool
 returns-in_err-pool c =
@@ -47,7 +47,7 @@ returns-in_err-pool c =
     rw (p.1, p.2) (fails (component_part_family activity_parser body_parser 1) c.args.tokens.now c.args.at c.args.at (pool_family 1) _ c.args.at c.args.at c.in_err-pool.field-0.0 (omega arith) c.in_err-pool.ensures (choose (component_part_family activity_parser body_parser 1) c.args.tokens.now c.args.at c.args.at kind.Pool _ _ c.args.at true (search rules) (choose (component_part_family activity_parser body_parser 1) c.args.tokens.now c.args.at c.args.at kind.Import _ _ c.args.at false (search rules) (choose (component_part_family activity_parser body_parser 1) c.args.tokens.now c.args.at c.args.at kind.Enum _ _ c.args.at false (search rules) (choose_next (component_part_family activity_parser body_parser 1) c.args.tokens.now c.args.at c.args.at begins_object _ _ c.args.at false (search rules) (choose_next (component_part_family activity_parser body_parser 1) c.args.tokens.now c.args.at c.args.at begins_action _ _ c.args.at false (search rules) (begin (component_part_family activity_parser body_parser 1) c.args.tokens.now c.args.at c.args.at)))))))
 
 pub returns-then-is-3 : goal.returns-then-is-3
-returns-then-is-3 c = record { settles = ends (component_part_family activity_parser body_parser 1) c.args.tokens.now c.args.at c.args.at _ c.in_ok-pool.after (step (component_part_family activity_parser body_parser 1) c.args.tokens.now c.args.at c.args.at (pool_family 1) _ c.args.at c.args.at c.in_ok-pool.after (view_pool c.in_ok-pool.pool) (omega arith) (omega (arith, c.in_ok-pool.ensures.after)) c.in_ok-pool.ensures.settles (choose (component_part_family activity_parser body_parser 1) c.args.tokens.now c.args.at c.args.at kind.Pool _ _ c.args.at true (search rules) (choose (component_part_family activity_parser body_parser 1) c.args.tokens.now c.args.at c.args.at kind.Import _ _ c.args.at false (search rules) (choose (component_part_family activity_parser body_parser 1) c.args.tokens.now c.args.at c.args.at kind.Enum _ _ c.args.at false (search rules) (choose_next (component_part_family activity_parser body_parser 1) c.args.tokens.now c.args.at c.args.at begins_object _ _ c.args.at false (search rules) (choose_next (component_part_family activity_parser body_parser 1) c.args.tokens.now c.args.at c.args.at begins_action _ _ c.args.at false (search rules) (begin (component_part_family activity_parser body_parser 1) c.args.tokens.now c.args.at c.args.at))))))); after = omega (arith, c.in_ok-pool.ensures.after); inside = c.in_ok-pool.ensures.inside }
+returns-then-is-3 c = record { settles = rw c.in_ok-pool-2.ensures.ok (ends (component_part_family activity_parser body_parser 1) c.args.tokens.now c.args.at c.args.at _ c.in_ok-pool.after (step (component_part_family activity_parser body_parser 1) c.args.tokens.now c.args.at c.args.at (pool_family 1) _ c.args.at c.args.at c.in_ok-pool.after (view_pool c.in_ok-pool.pool) (omega arith) (omega (arith, c.in_ok-pool.ensures.after)) c.in_ok-pool.ensures.settles (choose (component_part_family activity_parser body_parser 1) c.args.tokens.now c.args.at c.args.at kind.Pool _ _ c.args.at true (search rules) (choose (component_part_family activity_parser body_parser 1) c.args.tokens.now c.args.at c.args.at kind.Import _ _ c.args.at false (search rules) (choose (component_part_family activity_parser body_parser 1) c.args.tokens.now c.args.at c.args.at kind.Enum _ _ c.args.at false (search rules) (choose_next (component_part_family activity_parser body_parser 1) c.args.tokens.now c.args.at c.args.at begins_object _ _ c.args.at false (search rules) (choose_next (component_part_family activity_parser body_parser 1) c.args.tokens.now c.args.at c.args.at begins_action _ _ c.args.at false (search rules) (begin (component_part_family activity_parser body_parser 1) c.args.tokens.now c.args.at c.args.at)))))))); after = omega (arith, c.in_ok-pool.ensures.after); inside = c.in_ok-pool.ensures.inside }
 
 pub returns-in_err-bind : goal.returns-in_err-bind
 returns-in_err-bind c =
@@ -55,7 +55,7 @@ returns-in_err-bind c =
     rw (p.1, p.2) (fails (component_part_family activity_parser body_parser 1) c.args.tokens.now c.args.at c.args.at (pool_bind_family 1) _ c.args.at c.args.at c.in_err-bind.field-0.0 (omega arith) c.in_err-bind.ensures (choose (component_part_family activity_parser body_parser 1) c.args.tokens.now c.args.at c.args.at kind.Bind _ _ c.args.at true (search rules) (choose (component_part_family activity_parser body_parser 1) c.args.tokens.now c.args.at c.args.at kind.Pool _ _ c.args.at false (search rules) (choose (component_part_family activity_parser body_parser 1) c.args.tokens.now c.args.at c.args.at kind.Import _ _ c.args.at false (search rules) (choose (component_part_family activity_parser body_parser 1) c.args.tokens.now c.args.at c.args.at kind.Enum _ _ c.args.at false (search rules) (choose_next (component_part_family activity_parser body_parser 1) c.args.tokens.now c.args.at c.args.at begins_object _ _ c.args.at false (search rules) (choose_next (component_part_family activity_parser body_parser 1) c.args.tokens.now c.args.at c.args.at begins_action _ _ c.args.at false (search rules) (begin (component_part_family activity_parser body_parser 1) c.args.tokens.now c.args.at c.args.at))))))))
 
 pub returns-then-is-4 : goal.returns-then-is-4
-returns-then-is-4 c = record { settles = ends (component_part_family activity_parser body_parser 1) c.args.tokens.now c.args.at c.args.at _ c.in_ok-bind.after (step (component_part_family activity_parser body_parser 1) c.args.tokens.now c.args.at c.args.at (pool_bind_family 1) _ c.args.at c.args.at c.in_ok-bind.after (view_pool_bind c.in_ok-bind.bind) (omega arith) (omega (arith, c.in_ok-bind.ensures.after)) c.in_ok-bind.ensures.settles (choose (component_part_family activity_parser body_parser 1) c.args.tokens.now c.args.at c.args.at kind.Bind _ _ c.args.at true (search rules) (choose (component_part_family activity_parser body_parser 1) c.args.tokens.now c.args.at c.args.at kind.Pool _ _ c.args.at false (search rules) (choose (component_part_family activity_parser body_parser 1) c.args.tokens.now c.args.at c.args.at kind.Import _ _ c.args.at false (search rules) (choose (component_part_family activity_parser body_parser 1) c.args.tokens.now c.args.at c.args.at kind.Enum _ _ c.args.at false (search rules) (choose_next (component_part_family activity_parser body_parser 1) c.args.tokens.now c.args.at c.args.at begins_object _ _ c.args.at false (search rules) (choose_next (component_part_family activity_parser body_parser 1) c.args.tokens.now c.args.at c.args.at begins_action _ _ c.args.at false (search rules) (begin (component_part_family activity_parser body_parser 1) c.args.tokens.now c.args.at c.args.at)))))))); after = omega (arith, c.in_ok-bind.ensures.after); inside = c.in_ok-bind.ensures.inside }
+returns-then-is-4 c = record { settles = rw c.in_ok-bind-2.ensures.ok (ends (component_part_family activity_parser body_parser 1) c.args.tokens.now c.args.at c.args.at _ c.in_ok-bind.after (step (component_part_family activity_parser body_parser 1) c.args.tokens.now c.args.at c.args.at (pool_bind_family 1) _ c.args.at c.args.at c.in_ok-bind.after (view_pool_bind c.in_ok-bind.bind) (omega arith) (omega (arith, c.in_ok-bind.ensures.after)) c.in_ok-bind.ensures.settles (choose (component_part_family activity_parser body_parser 1) c.args.tokens.now c.args.at c.args.at kind.Bind _ _ c.args.at true (search rules) (choose (component_part_family activity_parser body_parser 1) c.args.tokens.now c.args.at c.args.at kind.Pool _ _ c.args.at false (search rules) (choose (component_part_family activity_parser body_parser 1) c.args.tokens.now c.args.at c.args.at kind.Import _ _ c.args.at false (search rules) (choose (component_part_family activity_parser body_parser 1) c.args.tokens.now c.args.at c.args.at kind.Enum _ _ c.args.at false (search rules) (choose_next (component_part_family activity_parser body_parser 1) c.args.tokens.now c.args.at c.args.at begins_object _ _ c.args.at false (search rules) (choose_next (component_part_family activity_parser body_parser 1) c.args.tokens.now c.args.at c.args.at begins_action _ _ c.args.at false (search rules) (begin (component_part_family activity_parser body_parser 1) c.args.tokens.now c.args.at c.args.at))))))))); after = omega (arith, c.in_ok-bind.ensures.after); inside = c.in_ok-bind.ensures.inside }
 
 pub returns-in_err-members : goal.returns-in_err-members
 returns-in_err-members c =
@@ -63,4 +63,4 @@ returns-in_err-members c =
     rw (p.1, p.2) (fails (component_part_family activity_parser body_parser 1) c.args.tokens.now c.args.at c.args.at (members_family 1) _ c.args.at c.args.at c.in_err-members.field-0.0 (omega arith) c.in_err-members.ensures (choose (component_part_family activity_parser body_parser 1) c.args.tokens.now c.args.at c.args.at kind.Semicolon _ _ c.args.at false (search rules) (choose (component_part_family activity_parser body_parser 1) c.args.tokens.now c.args.at c.args.at kind.Bind _ _ c.args.at false (search rules) (choose (component_part_family activity_parser body_parser 1) c.args.tokens.now c.args.at c.args.at kind.Pool _ _ c.args.at false (search rules) (choose (component_part_family activity_parser body_parser 1) c.args.tokens.now c.args.at c.args.at kind.Import _ _ c.args.at false (search rules) (choose (component_part_family activity_parser body_parser 1) c.args.tokens.now c.args.at c.args.at kind.Enum _ _ c.args.at false (search rules) (choose_next (component_part_family activity_parser body_parser 1) c.args.tokens.now c.args.at c.args.at begins_object _ _ c.args.at false (search rules) (choose_next (component_part_family activity_parser body_parser 1) c.args.tokens.now c.args.at c.args.at begins_action _ _ c.args.at false (search rules) (begin (component_part_family activity_parser body_parser 1) c.args.tokens.now c.args.at c.args.at)))))))))
 
 pub returns : goal.returns
-returns c = record { settles = ends (component_part_family activity_parser body_parser 1) c.args.tokens.now c.args.at c.args.at _ c.in_ok-members.after (step (component_part_family activity_parser body_parser 1) c.args.tokens.now c.args.at c.args.at (members_family 1) _ c.args.at c.args.at c.in_ok-members.after (view_members c.in_ok-members.members) (omega arith) (omega (arith, c.in_ok-members.ensures.after)) c.in_ok-members.ensures.settles (choose (component_part_family activity_parser body_parser 1) c.args.tokens.now c.args.at c.args.at kind.Semicolon _ _ c.args.at false (search rules) (choose (component_part_family activity_parser body_parser 1) c.args.tokens.now c.args.at c.args.at kind.Bind _ _ c.args.at false (search rules) (choose (component_part_family activity_parser body_parser 1) c.args.tokens.now c.args.at c.args.at kind.Pool _ _ c.args.at false (search rules) (choose (component_part_family activity_parser body_parser 1) c.args.tokens.now c.args.at c.args.at kind.Import _ _ c.args.at false (search rules) (choose (component_part_family activity_parser body_parser 1) c.args.tokens.now c.args.at c.args.at kind.Enum _ _ c.args.at false (search rules) (choose_next (component_part_family activity_parser body_parser 1) c.args.tokens.now c.args.at c.args.at begins_object _ _ c.args.at false (search rules) (choose_next (component_part_family activity_parser body_parser 1) c.args.tokens.now c.args.at c.args.at begins_action _ _ c.args.at false (search rules) (begin (component_part_family activity_parser body_parser 1) c.args.tokens.now c.args.at c.args.at))))))))); after = omega (arith, c.in_ok-members.ensures.after); inside = c.in_ok-members.ensures.inside }
+returns c = record { settles = rw c.in_ok-members-2.ensures.ok (ends (component_part_family activity_parser body_parser 1) c.args.tokens.now c.args.at c.args.at _ c.in_ok-members.after (step (component_part_family activity_parser body_parser 1) c.args.tokens.now c.args.at c.args.at (members_family 1) _ c.args.at c.args.at c.in_ok-members.after (view_members c.in_ok-members.members) (omega arith) (omega (arith, c.in_ok-members.ensures.after)) c.in_ok-members.ensures.settles (choose (component_part_family activity_parser body_parser 1) c.args.tokens.now c.args.at c.args.at kind.Semicolon _ _ c.args.at false (search rules) (choose (component_part_family activity_parser body_parser 1) c.args.tokens.now c.args.at c.args.at kind.Bind _ _ c.args.at false (search rules) (choose (component_part_family activity_parser body_parser 1) c.args.tokens.now c.args.at c.args.at kind.Pool _ _ c.args.at false (search rules) (choose (component_part_family activity_parser body_parser 1) c.args.tokens.now c.args.at c.args.at kind.Import _ _ c.args.at false (search rules) (choose (component_part_family activity_parser body_parser 1) c.args.tokens.now c.args.at c.args.at kind.Enum _ _ c.args.at false (search rules) (choose_next (component_part_family activity_parser body_parser 1) c.args.tokens.now c.args.at c.args.at begins_object _ _ c.args.at false (search rules) (choose_next (component_part_family activity_parser body_parser 1) c.args.tokens.now c.args.at c.args.at begins_action _ _ c.args.at false (search rules) (begin (component_part_family activity_parser body_parser 1) c.args.tokens.now c.args.at c.args.at)))))))))); after = omega (arith, c.in_ok-members.ensures.after); inside = c.in_ok-members.ensures.inside }

@@ -13,7 +13,7 @@ returns-in_err-component c =
     rw (p.1, p.2) (fails (item_family activity_parser body_parser 0) c.args.tokens.now c.args.at c.args.at (component_family activity_parser body_parser 0) _ c.args.at c.args.at c.in_err-component.field-0.0 (omega arith) c.in_err-component.ensures (choose (item_family activity_parser body_parser 0) c.args.tokens.now c.args.at c.args.at kind.Component _ _ c.args.at true (search rules) (begin (item_family activity_parser body_parser 0) c.args.tokens.now c.args.at c.args.at)))
 
 pub returns-then-is : goal.returns-then-is
-returns-then-is c = record { settles = ends (item_family activity_parser body_parser 0) c.args.tokens.now c.args.at c.args.at _ c.in_ok-component.after (step (item_family activity_parser body_parser 0) c.args.tokens.now c.args.at c.args.at (component_family activity_parser body_parser 0) _ c.args.at c.args.at c.in_ok-component.after (view_component c.in_ok-component.component) (omega arith) (omega (arith, c.in_ok-component.ensures.after)) c.in_ok-component.ensures.settles (choose (item_family activity_parser body_parser 0) c.args.tokens.now c.args.at c.args.at kind.Component _ _ c.args.at true (search rules) (begin (item_family activity_parser body_parser 0) c.args.tokens.now c.args.at c.args.at))); after = omega (arith, c.in_ok-component.ensures.after); inside = c.in_ok-component.ensures.inside }
+returns-then-is c = record { settles = rw c.in_ok-component-2.ensures.ok (ends (item_family activity_parser body_parser 0) c.args.tokens.now c.args.at c.args.at _ c.in_ok-component.after (step (item_family activity_parser body_parser 0) c.args.tokens.now c.args.at c.args.at (component_family activity_parser body_parser 0) _ c.args.at c.args.at c.in_ok-component.after (view_component c.in_ok-component.component) (omega arith) (omega (arith, c.in_ok-component.ensures.after)) c.in_ok-component.ensures.settles (choose (item_family activity_parser body_parser 0) c.args.tokens.now c.args.at c.args.at kind.Component _ _ c.args.at true (search rules) (begin (item_family activity_parser body_parser 0) c.args.tokens.now c.args.at c.args.at)))); after = omega (arith, c.in_ok-component.ensures.after); inside = c.in_ok-component.ensures.inside }
 
 pub returns-in_err-enum_ : goal.returns-in_err-enum_
 returns-in_err-enum_ c =
@@ -21,7 +21,7 @@ returns-in_err-enum_ c =
     rw (p.1, p.2) (fails (item_family activity_parser body_parser 0) c.args.tokens.now c.args.at c.args.at (enum_family 0) _ c.args.at c.args.at c.in_err-enum_.field-0.0 (omega arith) c.in_err-enum_.ensures (choose (item_family activity_parser body_parser 0) c.args.tokens.now c.args.at c.args.at kind.Enum _ _ c.args.at true (search rules) (choose (item_family activity_parser body_parser 0) c.args.tokens.now c.args.at c.args.at kind.Component _ _ c.args.at false (search rules) (begin (item_family activity_parser body_parser 0) c.args.tokens.now c.args.at c.args.at))))
 
 pub returns-then-is-2 : goal.returns-then-is-2
-returns-then-is-2 c = record { settles = ends (item_family activity_parser body_parser 0) c.args.tokens.now c.args.at c.args.at _ c.in_ok-enum_.after (step (item_family activity_parser body_parser 0) c.args.tokens.now c.args.at c.args.at (enum_family 0) _ c.args.at c.args.at c.in_ok-enum_.after (view_enum c.in_ok-enum_.enum_) (omega arith) (omega (arith, c.in_ok-enum_.ensures.after)) c.in_ok-enum_.ensures.settles (choose (item_family activity_parser body_parser 0) c.args.tokens.now c.args.at c.args.at kind.Enum _ _ c.args.at true (search rules) (choose (item_family activity_parser body_parser 0) c.args.tokens.now c.args.at c.args.at kind.Component _ _ c.args.at false (search rules) (begin (item_family activity_parser body_parser 0) c.args.tokens.now c.args.at c.args.at)))); after = omega (arith, c.in_ok-enum_.ensures.after); inside = c.in_ok-enum_.ensures.inside }
+returns-then-is-2 c = record { settles = rw c.in_ok-enum_-2.ensures.ok (ends (item_family activity_parser body_parser 0) c.args.tokens.now c.args.at c.args.at _ c.in_ok-enum_.after (step (item_family activity_parser body_parser 0) c.args.tokens.now c.args.at c.args.at (enum_family 0) _ c.args.at c.args.at c.in_ok-enum_.after (view_enum c.in_ok-enum_.enum_) (omega arith) (omega (arith, c.in_ok-enum_.ensures.after)) c.in_ok-enum_.ensures.settles (choose (item_family activity_parser body_parser 0) c.args.tokens.now c.args.at c.args.at kind.Enum _ _ c.args.at true (search rules) (choose (item_family activity_parser body_parser 0) c.args.tokens.now c.args.at c.args.at kind.Component _ _ c.args.at false (search rules) (begin (item_family activity_parser body_parser 0) c.args.tokens.now c.args.at c.args.at))))); after = omega (arith, c.in_ok-enum_.ensures.after); inside = c.in_ok-enum_.ensures.inside }
 
 pub returns-in_err-function : goal.returns-in_err-function
 returns-in_err-function c =
@@ -29,7 +29,7 @@ returns-in_err-function c =
     rw (p.1, p.2) (fails (item_family activity_parser body_parser 0) c.args.tokens.now c.args.at c.args.at (function_family 0) _ c.args.at c.args.at c.in_err-function.field-0.0 (omega arith) c.in_err-function.ensures (choose (item_family activity_parser body_parser 0) c.args.tokens.now c.args.at c.args.at kind.Import _ _ c.args.at true (search rules) (choose (item_family activity_parser body_parser 0) c.args.tokens.now c.args.at c.args.at kind.Enum _ _ c.args.at false (search rules) (choose (item_family activity_parser body_parser 0) c.args.tokens.now c.args.at c.args.at kind.Component _ _ c.args.at false (search rules) (begin (item_family activity_parser body_parser 0) c.args.tokens.now c.args.at c.args.at)))))
 
 pub returns-then-is-3 : goal.returns-then-is-3
-returns-then-is-3 c = record { settles = ends (item_family activity_parser body_parser 0) c.args.tokens.now c.args.at c.args.at _ c.in_ok-function.after (step (item_family activity_parser body_parser 0) c.args.tokens.now c.args.at c.args.at (function_family 0) _ c.args.at c.args.at c.in_ok-function.after (view_function c.in_ok-function.function) (omega arith) (omega (arith, c.in_ok-function.ensures.after)) c.in_ok-function.ensures.settles (choose (item_family activity_parser body_parser 0) c.args.tokens.now c.args.at c.args.at kind.Import _ _ c.args.at true (search rules) (choose (item_family activity_parser body_parser 0) c.args.tokens.now c.args.at c.args.at kind.Enum _ _ c.args.at false (search rules) (choose (item_family activity_parser body_parser 0) c.args.tokens.now c.args.at c.args.at kind.Component _ _ c.args.at false (search rules) (begin (item_family activity_parser body_parser 0) c.args.tokens.now c.args.at c.args.at))))); after = omega (arith, c.in_ok-function.ensures.after); inside = c.in_ok-function.ensures.inside }
+returns-then-is-3 c = record { settles = rw c.in_ok-function-2.ensures.ok (ends (item_family activity_parser body_parser 0) c.args.tokens.now c.args.at c.args.at _ c.in_ok-function.after (step (item_family activity_parser body_parser 0) c.args.tokens.now c.args.at c.args.at (function_family 0) _ c.args.at c.args.at c.in_ok-function.after (view_function c.in_ok-function.function) (omega arith) (omega (arith, c.in_ok-function.ensures.after)) c.in_ok-function.ensures.settles (choose (item_family activity_parser body_parser 0) c.args.tokens.now c.args.at c.args.at kind.Import _ _ c.args.at true (search rules) (choose (item_family activity_parser body_parser 0) c.args.tokens.now c.args.at c.args.at kind.Enum _ _ c.args.at false (search rules) (choose (item_family activity_parser body_parser 0) c.args.tokens.now c.args.at c.args.at kind.Component _ _ c.args.at false (search rules) (begin (item_family activity_parser body_parser 0) c.args.tokens.now c.args.at c.args.at)))))); after = omega (arith, c.in_ok-function.ensures.after); inside = c.in_ok-function.ensures.inside }
 
 pub returns-in_err-object : goal.returns-in_err-object
 returns-in_err-object c =
@@ -37,4 +37,4 @@ returns-in_err-object c =
     rw (p.1, p.2) (fails (item_family activity_parser body_parser 0) c.args.tokens.now c.args.at c.args.at (object_family 0) _ c.args.at c.args.at c.in_err-object.field-0.0 (omega arith) c.in_err-object.ensures (choose (item_family activity_parser body_parser 0) c.args.tokens.now c.args.at c.args.at kind.Semicolon _ _ c.args.at false (search rules) (choose (item_family activity_parser body_parser 0) c.args.tokens.now c.args.at c.args.at kind.Import _ _ c.args.at false (search rules) (choose (item_family activity_parser body_parser 0) c.args.tokens.now c.args.at c.args.at kind.Enum _ _ c.args.at false (search rules) (choose (item_family activity_parser body_parser 0) c.args.tokens.now c.args.at c.args.at kind.Component _ _ c.args.at false (search rules) (begin (item_family activity_parser body_parser 0) c.args.tokens.now c.args.at c.args.at))))))
 
 pub returns : goal.returns
-returns c = record { settles = ends (item_family activity_parser body_parser 0) c.args.tokens.now c.args.at c.args.at _ c.in_ok-object.after (step (item_family activity_parser body_parser 0) c.args.tokens.now c.args.at c.args.at (object_family 0) _ c.args.at c.args.at c.in_ok-object.after (view_object c.in_ok-object.object) (omega arith) (omega (arith, c.in_ok-object.ensures.after)) c.in_ok-object.ensures.settles (choose (item_family activity_parser body_parser 0) c.args.tokens.now c.args.at c.args.at kind.Semicolon _ _ c.args.at false (search rules) (choose (item_family activity_parser body_parser 0) c.args.tokens.now c.args.at c.args.at kind.Import _ _ c.args.at false (search rules) (choose (item_family activity_parser body_parser 0) c.args.tokens.now c.args.at c.args.at kind.Enum _ _ c.args.at false (search rules) (choose (item_family activity_parser body_parser 0) c.args.tokens.now c.args.at c.args.at kind.Component _ _ c.args.at false (search rules) (begin (item_family activity_parser body_parser 0) c.args.tokens.now c.args.at c.args.at)))))); after = omega (arith, c.in_ok-object.ensures.after); inside = c.in_ok-object.ensures.inside }
+returns c = record { settles = rw c.in_ok-object-2.ensures.ok (ends (item_family activity_parser body_parser 0) c.args.tokens.now c.args.at c.args.at _ c.in_ok-object.after (step (item_family activity_parser body_parser 0) c.args.tokens.now c.args.at c.args.at (object_family 0) _ c.args.at c.args.at c.in_ok-object.after (view_object c.in_ok-object.object) (omega arith) (omega (arith, c.in_ok-object.ensures.after)) c.in_ok-object.ensures.settles (choose (item_family activity_parser body_parser 0) c.args.tokens.now c.args.at c.args.at kind.Semicolon _ _ c.args.at false (search rules) (choose (item_family activity_parser body_parser 0) c.args.tokens.now c.args.at c.args.at kind.Import _ _ c.args.at false (search rules) (choose (item_family activity_parser body_parser 0) c.args.tokens.now c.args.at c.args.at kind.Enum _ _ c.args.at false (search rules) (choose (item_family activity_parser body_parser 0) c.args.tokens.now c.args.at c.args.at kind.Component _ _ c.args.at false (search rules) (begin (item_family activity_parser body_parser 0) c.args.tokens.now c.args.at c.args.at))))))); after = omega (arith, c.in_ok-object.ensures.after); inside = c.in_ok-object.ensures.inside }

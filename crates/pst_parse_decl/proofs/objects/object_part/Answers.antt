@@ -13,7 +13,7 @@ returns-in_err-field c =
     rw (p.1, p.2) (fails (object_part_family c.args.depth) c.args.tokens.now c.args.at c.args.at (field_family c.args.depth) _ c.args.at c.args.at c.in_err-field.field-0.0 (omega arith) c.in_err-field.ensures (choose (object_part_family c.args.depth) c.args.tokens.now c.args.at c.args.at kind.Rand _ _ c.args.at true (search rules) (begin (object_part_family c.args.depth) c.args.tokens.now c.args.at c.args.at)))
 
 pub returns-then-is : goal.returns-then-is
-returns-then-is c = record { settles = ends (object_part_family c.args.depth) c.args.tokens.now c.args.at c.args.at _ c.in_ok-field.after (step (object_part_family c.args.depth) c.args.tokens.now c.args.at c.args.at (field_family c.args.depth) _ c.args.at c.args.at c.in_ok-field.after (view_field c.in_ok-field.field) (omega arith) (omega (arith, c.in_ok-field.ensures.after)) c.in_ok-field.ensures.settles (choose (object_part_family c.args.depth) c.args.tokens.now c.args.at c.args.at kind.Rand _ _ c.args.at true (search rules) (begin (object_part_family c.args.depth) c.args.tokens.now c.args.at c.args.at))); after = omega (arith, c.in_ok-field.ensures.after); inside = c.in_ok-field.ensures.inside }
+returns-then-is c = record { settles = rw c.in_ok-field-2.ensures.ok (ends (object_part_family c.args.depth) c.args.tokens.now c.args.at c.args.at _ c.in_ok-field.after (step (object_part_family c.args.depth) c.args.tokens.now c.args.at c.args.at (field_family c.args.depth) _ c.args.at c.args.at c.in_ok-field.after (view_field c.in_ok-field.field) (omega arith) (omega (arith, c.in_ok-field.ensures.after)) c.in_ok-field.ensures.settles (choose (object_part_family c.args.depth) c.args.tokens.now c.args.at c.args.at kind.Rand _ _ c.args.at true (search rules) (begin (object_part_family c.args.depth) c.args.tokens.now c.args.at c.args.at)))); after = omega (arith, c.in_ok-field.ensures.after); inside = c.in_ok-field.ensures.inside }
 
 pub returns-in_err-declaration : goal.returns-in_err-declaration
 returns-in_err-declaration c =
@@ -21,4 +21,4 @@ returns-in_err-declaration c =
     rw (p.1, p.2) (fails (object_part_family c.args.depth) c.args.tokens.now c.args.at c.args.at (constraint_declaration_family c.args.depth) _ c.args.at c.args.at c.in_err-declaration.field-0.0 (omega arith) c.in_err-declaration.ensures (choose (object_part_family c.args.depth) c.args.tokens.now c.args.at c.args.at kind.Constraint _ _ c.args.at true (search rules) (choose (object_part_family c.args.depth) c.args.tokens.now c.args.at c.args.at kind.Rand _ _ c.args.at false (search rules) (begin (object_part_family c.args.depth) c.args.tokens.now c.args.at c.args.at))))
 
 pub returns-then-is-2 : goal.returns-then-is-2
-returns-then-is-2 c = record { settles = ends (object_part_family c.args.depth) c.args.tokens.now c.args.at c.args.at _ c.in_ok-declaration.after (step (object_part_family c.args.depth) c.args.tokens.now c.args.at c.args.at (constraint_declaration_family c.args.depth) _ c.args.at c.args.at c.in_ok-declaration.after (view_constraint_declaration c.in_ok-declaration.declaration) (omega arith) (omega (arith, c.in_ok-declaration.ensures.after)) c.in_ok-declaration.ensures.settles (choose (object_part_family c.args.depth) c.args.tokens.now c.args.at c.args.at kind.Constraint _ _ c.args.at true (search rules) (choose (object_part_family c.args.depth) c.args.tokens.now c.args.at c.args.at kind.Rand _ _ c.args.at false (search rules) (begin (object_part_family c.args.depth) c.args.tokens.now c.args.at c.args.at)))); after = omega (arith, c.in_ok-declaration.ensures.after); inside = c.in_ok-declaration.ensures.inside }
+returns-then-is-2 c = record { settles = rw c.in_ok-declaration-2.ensures.ok (ends (object_part_family c.args.depth) c.args.tokens.now c.args.at c.args.at _ c.in_ok-declaration.after (step (object_part_family c.args.depth) c.args.tokens.now c.args.at c.args.at (constraint_declaration_family c.args.depth) _ c.args.at c.args.at c.in_ok-declaration.after (view_constraint_declaration c.in_ok-declaration.declaration) (omega arith) (omega (arith, c.in_ok-declaration.ensures.after)) c.in_ok-declaration.ensures.settles (choose (object_part_family c.args.depth) c.args.tokens.now c.args.at c.args.at kind.Constraint _ _ c.args.at true (search rules) (choose (object_part_family c.args.depth) c.args.tokens.now c.args.at c.args.at kind.Rand _ _ c.args.at false (search rules) (begin (object_part_family c.args.depth) c.args.tokens.now c.args.at c.args.at))))); after = omega (arith, c.in_ok-declaration.ensures.after); inside = c.in_ok-declaration.ensures.inside }

@@ -1,8 +1,0 @@
-use Rattle.std.proofs.Common.{◌≡◌, ◌++◌, drop, map}
-use Rattle.std.specs.List.{flat_map}
-use Rattle.pst_ast.specs.DeclarationView.{view_component_part}
-use Rattle.pst_ast.specs.DeclarationSpelling.{spell_component_part}
-use Rattle.pst_ast.proofs.spell_declaration.add_component_parts.Given as goal
-
-abbrev pub invariant-loop-part : goal.invariant-loop-part
-invariant-loop-part l = l.tokens.items ++ flat_map spell_component_part (map view_component_part (drop l.part-index l.parts)) ≡ l.initial.tokens.items ++ flat_map spell_component_part (map view_component_part l.parts)

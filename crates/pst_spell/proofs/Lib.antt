@@ -1,0 +1,4 @@
+pub mod ExpressionRows
+pub mod ConstraintRows
+pub mod ActivityRows
+pub mod BodyRows
