@@ -11,6 +11,3 @@ pub use items::Items;
 pub use memory::NoMemory;
 pub use position::Place;
 pub use table::{NameId, Names};
-
-#[cfg(test)]
-mod tests;

@@ -1,4 +1,7 @@
-use super::*;
+use pst_expr::{
+    BinaryOp, Domain, Env, Expr, Span, UnaryOp, domains_list_values, eval, values_are_in_range,
+    worked_values,
+};
 use std::alloc::{AllocError, Global};
 use std::test::Fail;
 

@@ -1,4 +1,7 @@
-use super::*;
+use pst_io::{
+    Failed, FileShelf, MemoryShelf, MemorySink, OutSink, ReadEnd, Shelf, Sink, SureShelf, SureSink,
+    read_all, write_all,
+};
 use std::alloc::{AllocError, Global};
 use std::test::Fail;
 use std::{env, fs, process};

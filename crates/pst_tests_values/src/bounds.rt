@@ -2,7 +2,10 @@ ghost use Rattle.std.specs.Prelude.{◌≡◌, ◌≤ℤ◌, IfSome, IfOk};
 ghost use Rattle.pst_expr.specs.Tree.{view};
 ghost use Rattle.pst_domain.specs.Bounds.{HasVariablesBelow};
 
-use super::*;
+use pst_domain::{
+    Bounds, comparisons_decide_all_pairs, narrower_bounds_give_inner_spans, refused, span_of,
+    spans_are_sane, spans_hold_values,
+};
 use pst_expr::{BinaryOp, Expr, Span, UnaryOp};
 use std::alloc::{AllocError, Global};
 use std::test::Fail;

@@ -1,4 +1,4 @@
-use super::*;
+use pst_base::{NameId, Names};
 use std::test::Fail;
 
 #[test]

@@ -1,4 +1,4 @@
-use super::*;
+use pst_target::{Call, CallEnd, Gate, OpenGate, ScriptTarget, SureTarget, Target};
 use std::test::Fail;
 
 fn is_send<T: Send + Drop>(_value: T) {}

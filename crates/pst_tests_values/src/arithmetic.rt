@@ -1,4 +1,7 @@
-use super::*;
+use pst_num::{
+    add, and, bits_act_apart, bits_determine, div, division_rounds_towards_zero, mul, neg, not, or,
+    rem, shifts_round_down, shl, shr, sub, xor,
+};
 
 const MIN: i64 = -9_223_372_036_854_775_808;
 

@@ -1,4 +1,4 @@
-use crate::{Words, start, weighted_start, word};
+use pst_rng::{Words, start, weighted_start, word};
 
 // Words by place, from a script of its own that follows the published algorithms: the seed's bytes
 // by PCG32 as `seed_from_u64` of `rand_core` is documented, and then PCG XSL RR 128/64. The script
