@@ -19,18 +19,6 @@ mod spell_declaration;
 mod spell_expression;
 mod spell_shared;
 mod spelling;
-#[cfg(test)]
-mod test_builders;
-#[cfg(test)]
-mod test_constraints;
-#[cfg(test)]
-mod test_declarations;
-#[cfg(test)]
-mod test_dma;
-#[cfg(test)]
-mod test_statements;
-#[cfg(test)]
-mod tests;
 
 pub use activity::{
     ActivityNode, ArmLabel, ArmNode, BindNode, BranchNode, CoreNode, EndNode, GuardNode, JoinNode,

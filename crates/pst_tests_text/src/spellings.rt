@@ -1,4 +1,4 @@
-use crate::{Kind, kind_of, spelling};
+use pst_token::{Kind, kind_of, spelling};
 
 // The reserved words and the marks of the language, as its description lists them.
 const RESERVED: &str =

@@ -2,8 +2,8 @@ ghost use Rattle.std.specs.Prelude.{◌≡◌, ◌≢◌, ◌+◌, ◌^◌, ◌<
 ghost use Rattle.pst_token.specs.Tokens.{AreTokens};
 ghost use Rattle.pst_lexer.specs.Fault.{HasFault};
 
-use crate::{LexFault, Lexer};
 use pst_base::{NameId, Names, Place};
+use pst_lexer::{LexFault, Lexer};
 use pst_token::{Kind, Token};
 use std::alloc::Global;
 use std::test::Fail;
