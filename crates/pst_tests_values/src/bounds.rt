@@ -2,10 +2,7 @@ ghost use Rattle.std.specs.Prelude.{◌≡◌, ◌≤ℤ◌, IfSome, IfOk};
 ghost use Rattle.pst_expr.specs.Tree.{view};
 ghost use Rattle.pst_domain.specs.Bounds.{HasVariablesBelow};
 
-use pst_domain::{
-    Bounds, comparisons_decide_all_pairs, narrower_bounds_give_inner_spans, refused, span_of,
-    spans_are_sane, spans_hold_values,
-};
+use pst_domain::{Bounds, refused, span_of};
 use pst_expr::{BinaryOp, Expr, Span, UnaryOp};
 use std::alloc::{AllocError, Global};
 use std::test::Fail;
@@ -30,7 +27,7 @@ fn binary(alloc: Global, op: BinaryOp, left: Expr, right: Expr) -> Result<Expr, 
     Ok(Expr::Binary(op, left, Box::new(alloc, right)?))
 }
 
-const ARITHMETIC: [(BinaryOp, i64, i64, i64, i64, Option<(i64, i64)>); 31] = [
+const BINARY: [(BinaryOp, i64, i64, i64, i64, Option<(i64, i64)>); 63] = [
     (BinaryOp::Add, 1, 2, 10, 20, Some((11, 22))),
     (BinaryOp::Add, MAX - 1, MAX, 0, 5, Some((MAX - 1, MAX))),
     (BinaryOp::Add, MAX, MAX, 1, 1, None),
@@ -62,9 +59,6 @@ const ARITHMETIC: [(BinaryOp, i64, i64, i64, i64, Option<(i64, i64)>); 31] = [
     (BinaryOp::Shr, 0, 5, -9, -1, None),
     (BinaryOp::Shr, 8, 9, 63, 63, Some((MIN, MAX))),
     (BinaryOp::Shr, 8, 8, -1, 0, Some((MIN, MAX))),
-];
-
-const BITS: [(BinaryOp, i64, i64, i64, i64, Option<(i64, i64)>); 13] = [
     (BinaryOp::BitAnd, 12, 12, 10, 10, Some((8, 8))),
     (BinaryOp::BitAnd, -1, -1, -6, -6, Some((-6, -6))),
     (BinaryOp::BitAnd, 0, 12, 0, 10, Some((0, 10))),
@@ -78,9 +72,6 @@ const BITS: [(BinaryOp, i64, i64, i64, i64, Option<(i64, i64)>); 13] = [
     (BinaryOp::BitXor, 4, 8, 1, 2, Some((0, 15))),
     (BinaryOp::BitXor, 0, 1, 0, 0, Some((0, 1))),
     (BinaryOp::BitXor, -4, 8, 1, 2, Some((MIN, MAX))),
-];
-
-const COMPARISONS: [(BinaryOp, i64, i64, i64, i64, Option<(i64, i64)>); 19] = [
     (BinaryOp::Less, 0, 3, 4, 9, Some((1, 1))),
     (BinaryOp::Less, 4, 9, 0, 4, Some((0, 0))),
     (BinaryOp::Less, 0, 4, 4, 9, Some((0, 1))),
@@ -127,34 +118,8 @@ fn ends(span: Option<Span>) -> Option<(i64, i64)> {
 }
 
 #[test]
-fn arithmetic_operators(rt: HostRuntime) -> Result<(), Fail> {
-    for (op, l1, h1, l2, h2, want) in &ARITHMETIC {
-        let found = span_of_binary(rt.alloc(), *op, span(*l1, *h1), span(*l2, *h2))?;
-        assert_eq!(rt;
-            ends(found),
-            *want,
-            "{op:?} of {l1} to {h1} and {l2} to {h2}"
-        );
-    }
-    Ok(())
-}
-
-#[test]
-fn operators_on_bits(rt: HostRuntime) -> Result<(), Fail> {
-    for (op, l1, h1, l2, h2, want) in &BITS {
-        let found = span_of_binary(rt.alloc(), *op, span(*l1, *h1), span(*l2, *h2))?;
-        assert_eq!(rt;
-            ends(found),
-            *want,
-            "{op:?} of {l1} to {h1} and {l2} to {h2}"
-        );
-    }
-    Ok(())
-}
-
-#[test]
-fn comparisons(rt: HostRuntime) -> Result<(), Fail> {
-    for (op, l1, h1, l2, h2, want) in &COMPARISONS {
+fn binary_operators(rt: HostRuntime) -> Result<(), Fail> {
+    for (op, l1, h1, l2, h2, want) in &BINARY {
         let found = span_of_binary(rt.alloc(), *op, span(*l1, *h1), span(*l2, *h2))?;
         assert_eq!(rt;
             ends(found),
@@ -480,12 +445,4 @@ fn bounds(rt: HostRuntime) -> Result<(), Fail> {
     assert_eq!(rt; bounds.spans().len(), 2);
     assert_eq!(rt; bounds.into_spans().len(), 2);
     Ok(())
-}
-
-#[test]
-fn laws_can_be_called() {
-    spans_hold_values();
-    narrower_bounds_give_inner_spans();
-    spans_are_sane();
-    comparisons_decide_all_pairs();
 }

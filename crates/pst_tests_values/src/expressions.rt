@@ -1,7 +1,4 @@
-use pst_expr::{
-    BinaryOp, Domain, Env, Expr, Span, UnaryOp, domains_list_values, eval, values_are_in_range,
-    worked_values,
-};
+use pst_expr::{BinaryOp, Domain, Env, Expr, Span, UnaryOp, eval};
 use std::alloc::{AllocError, Global};
 use std::test::Fail;
 
@@ -264,11 +261,4 @@ fn domains(rt: HostRuntime) -> Result<(), Fail> {
     assert_eq!(rt; wide.size(), u64::MAX);
     assert_eq!(rt; wide.at(u64::MAX - 1), MAX - 1);
     Ok(())
-}
-
-#[test]
-fn laws_can_be_called() {
-    values_are_in_range();
-    domains_list_values();
-    worked_values();
 }

@@ -12,6 +12,8 @@ mod files;
 #[cfg(test)]
 mod lanes;
 #[cfg(test)]
+mod laws;
+#[cfg(test)]
 mod names;
 #[cfg(test)]
 mod words;
