@@ -1,4 +1,4 @@
-//! Tests of tokens, of the lexer, of the parsers, and of the tokens that trees spell.
+//! Tests of tokens, of the lexer, and of the parsers of expressions, constraints, bodies and activities.
 #![tactic(auto)]
 
 #[cfg(test)]
@@ -8,8 +8,6 @@ mod bodies;
 #[cfg(test)]
 mod constraints;
 #[cfg(test)]
-mod declarations;
-#[cfg(test)]
 mod expressions;
 #[cfg(test)]
 mod lexing;
@@ -17,7 +15,3 @@ mod lexing;
 mod spellings;
 #[cfg(test)]
 mod texts;
-#[cfg(test)]
-mod trees;
-#[cfg(test)]
-mod units;
