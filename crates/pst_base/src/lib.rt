@@ -11,6 +11,3 @@ pub use items::Items;
 pub use memory::NoMemory;
 pub use position::{Place, places_are_ordered};
 pub use table::{NameId, Names};
-
-#[cfg(test)]
-mod tests;

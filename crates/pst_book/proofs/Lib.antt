@@ -6,7 +6,6 @@ mod Idle
 mod Starting
 mod Openings
 mod Steps
-mod RowPlanned
 mod Numbers
 mod Changing
 mod Ties

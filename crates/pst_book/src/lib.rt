@@ -6,12 +6,7 @@
 
 mod book;
 mod open;
-#[cfg(test)]
-mod row;
 mod rows;
 mod run;
 
 pub use book::{Book, Opened};
-
-#[cfg(test)]
-mod tests;

@@ -22,6 +22,3 @@ pub use laws::{
     comparisons_decide_all_pairs, narrower_bounds_give_inner_spans, spans_are_sane,
     spans_hold_values,
 };
-
-#[cfg(test)]
-mod tests;

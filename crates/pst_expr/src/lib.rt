@@ -11,8 +11,6 @@ mod laws;
 mod left;
 mod operators;
 mod ranges;
-#[cfg(test)]
-mod tests;
 mod tree;
 
 pub use environment::Env;

@@ -28,4 +28,3 @@ mod Refused
 mod Numbered
 mod Ended
 mod Walking
-mod Checks

@@ -15,6 +15,5 @@ pub mod Ends
 pub mod Whole
 pub mod Streamed
 pub mod Walks
-pub mod Checked
 pub mod Uses
 pub mod Sets

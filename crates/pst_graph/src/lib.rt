@@ -4,8 +4,6 @@
 mod apart;
 mod before;
 mod behind;
-#[cfg(test)]
-mod built;
 mod cause;
 mod climb;
 mod closure;
@@ -16,8 +14,6 @@ mod must;
 mod named;
 mod next;
 mod parallel;
-#[cfg(test)]
-mod plainly;
 mod planning;
 mod refusals;
 mod replaced;
@@ -32,10 +28,3 @@ mod whole;
 
 pub use planning::{PlanEnd, plan_of};
 pub use whole::plan;
-
-#[cfg(test)]
-mod conflict_tests;
-#[cfg(test)]
-mod run_tests;
-#[cfg(test)]
-mod tests;

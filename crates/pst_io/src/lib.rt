@@ -23,6 +23,3 @@ pub use sink::Sink;
 pub use sure_shelf::SureShelf;
 pub use sure_sink::SureSink;
 pub use whole::{ReadEnd, read_all, write_all};
-
-#[cfg(test)]
-mod tests;

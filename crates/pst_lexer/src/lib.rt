@@ -12,8 +12,6 @@ pub mod laws;
 mod marks;
 mod place;
 mod scan;
-#[cfg(test)]
-mod tests;
 mod words;
 
 pub use fault::LexFault;

@@ -9,4 +9,4 @@ mod Locals
 mod Searches
 mod Under
 mod TrialLemmas
-mod Crossing
+pub mod Crossing

@@ -22,8 +22,6 @@ mod site;
 mod slots;
 mod soundness;
 mod steps;
-#[cfg(test)]
-mod tests;
 mod ties;
 mod traversals;
 mod types;

@@ -8,8 +8,6 @@ mod arithmetic;
 mod bits;
 mod laws;
 mod shifts;
-#[cfg(test)]
-mod tests;
 
 pub use arithmetic::{add, div, mul, neg, rem, sub};
 pub use bits::{and, not, or, xor};

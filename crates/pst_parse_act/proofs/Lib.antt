@@ -12,4 +12,3 @@ pub mod ActivityLabelRules
 pub mod ActivityNested
 pub mod ActivityTraversalRules
 pub mod ActivityRules
-pub mod Endings

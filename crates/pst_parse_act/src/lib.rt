@@ -6,8 +6,6 @@ mod labels;
 pub mod laws;
 mod parse;
 mod parts;
-#[cfg(test)]
-mod tests;
 mod traversal;
 
 pub use parse::{parse_activity, read_activity};

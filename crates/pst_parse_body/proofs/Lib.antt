@@ -7,4 +7,3 @@ pub mod PlainRules
 pub mod CallRules
 pub mod Nearer
 pub mod BodyRules
-pub mod Endings

@@ -6,8 +6,6 @@ mod call;
 pub mod laws;
 mod parse;
 mod plain;
-#[cfg(test)]
-mod tests;
 mod times;
 
 pub use body::read_body;

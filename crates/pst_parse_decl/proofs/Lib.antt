@@ -25,4 +25,3 @@ pub mod Contents
 pub mod Unique
 pub mod InnerParts
 pub mod Items
-pub mod Endings

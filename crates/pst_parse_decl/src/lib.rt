@@ -10,10 +10,6 @@ pub mod members;
 pub mod objects;
 mod parse;
 pub mod pools;
-#[cfg(test)]
-mod test_items;
-#[cfg(test)]
-mod tests;
 pub mod types;
 
 pub use parse::parse_item;

@@ -13,7 +13,6 @@ pub mod Loops
 pub mod Rules
 pub mod Turns
 pub mod Operations
-pub mod Endings
 pub mod ConstraintExplains
 pub mod ConstraintAnswering
 pub mod Starts

@@ -7,10 +7,6 @@ pub mod laws;
 mod operators;
 mod parse;
 pub mod shared;
-#[cfg(test)]
-mod test_constraints;
-#[cfg(test)]
-mod tests;
 
 pub use constraint::set;
 pub use parse::{parse_constraint, parse_expr};

@@ -2,4 +2,3 @@ pub mod ItemsLoop
 pub mod UnitLaws
 pub mod OneEnd
 pub mod UnitAnswers
-pub mod Endings

@@ -18,6 +18,3 @@ mod view;
 pub use mailbox::{MOST_LANES, Post};
 pub use seats::{BookSeat, LaneSeat};
 pub use view::{Entry, Progress, SeatStatus};
-
-#[cfg(test)]
-mod tests;

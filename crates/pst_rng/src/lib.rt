@@ -7,8 +7,6 @@
 
 mod reading;
 mod starting;
-#[cfg(test)]
-mod tests;
 mod weights;
 
 pub use reading::{Words, word};

@@ -23,6 +23,3 @@ pub use plan::Plan;
 pub use rows::Rows;
 pub use scenario::{First, Scenario};
 pub use tree::{Fill, Node};
-
-#[cfg(test)]
-mod tests;

@@ -13,6 +13,3 @@ pub use gate::{Gate, OpenGate};
 pub use script_target::ScriptTarget;
 pub use sure_target::SureTarget;
 pub use target::{CallEnd, Target};
-
-#[cfg(test)]
-mod tests;

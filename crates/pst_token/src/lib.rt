@@ -4,8 +4,6 @@
 mod kind;
 pub mod laws;
 mod lookup;
-#[cfg(test)]
-mod tests;
 mod token;
 
 pub use kind::{Kind, spelling};

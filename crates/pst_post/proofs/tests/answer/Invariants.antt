@@ -1,5 +1,0 @@
-use Rattle.std.proofs.Common.{◌≡◌}
-use Rattle.pst_post.proofs.tests.answer.Given as goal
-
-abbrev pub invariant-loop : goal.invariant-loop
-invariant-loop l = record { book : l.book.table ≡ l.back; lane : l.lane.table ≡ l.there; idle : l.lane.fetched ≡ l.lane.finished }

@@ -1,5 +1,0 @@
-use Rattle.std.proofs.Common.{◌≡◌}
-use Rattle.pst_post.proofs.tests.receive.Given as goal
-
-abbrev pub invariant-loop : goal.invariant-loop
-invariant-loop l = record { table : l.seat.table ≡ l.initial.seat.table; idle : l.seat.fetched ≡ l.seat.finished }

@@ -1,0 +1,5 @@
+//! Tests of mailboxes, which start threads.
+#![tactic(auto)]
+
+#[cfg(test)]
+mod mailboxes;
