@@ -1,6 +1,7 @@
 //! Each text is read as a tree, and the tree spells the tokens of the text.
 use crate::texts::tokens_of;
-use pst_ast::{SyntaxFault, spell};
+use pst_ast::SyntaxFault;
+use pst_spell::spell;
 use pst_base::{NameId, Place};
 use pst_parser::parse_unit;
 use pst_token::{Kind, Token};
