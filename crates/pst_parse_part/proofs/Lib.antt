@@ -1,0 +1,11 @@
+pub mod ChoicesExplain
+pub mod Following
+pub mod Maybe
+pub mod NamesAgain
+pub mod NamesExplain
+pub mod NoEnd
+pub mod PlainAgain
+pub mod PlainExplain
+pub mod RangesAgain
+pub mod RangesExplain
+pub mod RangesView
