@@ -8,8 +8,6 @@ mod parse;
 mod plain;
 #[cfg(test)]
 mod tests;
-mod times;
 
 pub use body::read_body;
 pub use parse::parse_body;
-pub use plain::plain_type;

@@ -14,7 +14,7 @@ use Rattle.pst_parse_part.specs.Choices.{if_next}
 use Rattle.pst_parse_expr.proofs.SharedLaws.{IsAny}
 use Rattle.pst_parse_expr.proofs.ExprAgain.{expr_again}
 use Rattle.pst_parse_expr.proofs.PartsAgain.{maybe_index_again}
-use Rattle.pst_parse_expr.proofs.Stops.{IsNo, Separates, separated, closes, StopsIndex}
+use Rattle.pst_parse_expr.proofs.Stops.{IsNo, Separates, separated, StopsIndex}
 use Rattle.pst_parse_expr.specs.Constraints.{outermost_at, is_other, dot_name_by}
 use Rattle.pst_parse_expr.specs.Reading.{expr_at, maybe_index_by}
 use Rattle.pst_reading.proofs.Marks.{look_becomes, test_becomes, mark_becomes}
@@ -55,10 +55,6 @@ name_is_other k (Some t) h e = subst (λ (u : Token). is_mark k u ≡ false) (sy
 -- the mark that closes a list
 pub ends_there : (k : Kind) (p : Place) → is_other k (Some (mark k p)) ≡ false
 ends_there k p = ap (λ (b : Bool). if b then false else true) (mark_is_so k p)
-
-pub colon_closes : (place : Place) → Separates 0 (Some (mark kind.Colon place))
-unfolding is_mark
-colon_closes place = closes kind.Colon place refl refl refl refl refl
 
 -- what ends a range
 abbrev pub EndsRange : Option Token → Type 0

@@ -3,3 +3,5 @@ pub mod Families
 pub mod Names
 pub mod Plain
 pub mod Ranges
+pub mod Times
+pub mod TimesFamilies

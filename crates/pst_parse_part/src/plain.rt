@@ -23,7 +23,6 @@ fn low(
     depth: u32,
 ) -> Result<(LowNode, usize), SyntaxFault>
     requires inside { at ≤ length tokens.now }
-    requires nesting { depth ≤ 64 }
     ensures { Reads view_low (low_family depth) tokens.now at at 1 result }
 {
     let colon = expect(tokens, at, Kind::Colon, depth, 0)?;
@@ -39,7 +38,6 @@ fn maybe_low(
     depth: u32,
 ) -> Result<(Option<LowNode>, usize), SyntaxFault>
     requires inside { at ≤ length tokens.now }
-    requires nesting { depth ≤ 64 }
     ensures { Reads (option_map view_low) (optional (is_at kind.Colon) (low_family depth)) tokens.now at at 0 result }
 {
     if !is(tokens, at, Kind::Colon) {
@@ -57,7 +55,6 @@ fn width(
     depth: u32,
 ) -> Result<(WidthNode, usize), SyntaxFault>
     requires inside { at ≤ length tokens.now }
-    requires nesting { depth ≤ 64 }
     ensures { Reads view_width (width_family depth) tokens.now at at 1 result }
 {
     let left_bracket = expect(tokens, at, Kind::LeftBracket, depth, 0)?;
@@ -83,7 +80,6 @@ fn maybe_width(
     depth: u32,
 ) -> Result<(Option<WidthNode>, usize), SyntaxFault>
     requires inside { at ≤ length tokens.now }
-    requires nesting { depth ≤ 64 }
     ensures { Reads (option_map view_width) (optional (is_at kind.LeftBracket) (width_family depth)) tokens.now at at 0 result }
 {
     if !is(tokens, at, Kind::LeftBracket) {
@@ -101,7 +97,6 @@ fn int_type(
     depth: u32,
 ) -> Result<(PlainNode, usize), SyntaxFault>
     requires inside { at ≤ length tokens.now }
-    requires nesting { depth ≤ 64 }
     ensures { Reads view_plain (int_family depth) tokens.now at at 1 result }
 {
     let int = expect(tokens, at, Kind::Int, depth, 0)?;
@@ -117,7 +112,6 @@ fn bit_type(
     depth: u32,
 ) -> Result<(PlainNode, usize), SyntaxFault>
     requires inside { at ≤ length tokens.now }
-    requires nesting { depth ≤ 64 }
     ensures { Reads view_plain (bit_family depth) tokens.now at at 1 result }
 {
     let bit = expect(tokens, at, Kind::Bit, depth, 0)?;
@@ -133,7 +127,6 @@ pub fn plain(
     depth: u32,
 ) -> Result<(PlainNode, usize), SyntaxFault>
     requires inside { at ≤ length tokens.now }
-    requires nesting { depth ≤ 64 }
     ensures { Reads view_plain (plain_family depth) tokens.now at at 1 result }
 {
     if is(tokens, at, Kind::Int) {

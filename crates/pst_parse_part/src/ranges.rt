@@ -42,7 +42,6 @@ fn next_range(
     depth: u32,
 ) -> Result<(NextRange, usize), SyntaxFault>
     requires inside { at ≤ length tokens.now }
-    requires nesting { depth ≤ 64 }
     ensures { Reads view_next_range (next_range_family depth) tokens.now at at 1 result }
 {
     let comma = expect(tokens, at, Kind::Comma, depth, 0)?;
@@ -58,7 +57,6 @@ fn next_ranges(
     depth: u32,
 ) -> Result<(Vec<NextRange>, usize), SyntaxFault>
     requires inside { at ≤ length tokens.now }
-    requires nesting { depth ≤ 64 }
     requires behind { 1 ≤ at }
     ensures { Reads (view_list view_next_range) (listed (is_at kind.Comma) (next_range_family depth)) tokens.now (at - 1) at 0 result }
 {

@@ -1,9 +1,9 @@
 use Rattle.std.proofs.Common.{arith, rules, None, Some, ◌+◌}
 use Rattle.std.proofs.lemmas.Result.{err_from_is_err_and}
-use Rattle.pst_parse_body.specs.BodyFamilies.{counted_family, times_family, view_times}
-use Rattle.pst_parse_body.proofs.CallRules.{plain_times, label_fails, labeled_times}
-use Rattle.pst_parse_body.proofs.Nearer.{reads_later}
-use Rattle.pst_parse_body.proofs.times.read_times.Goals as goal
+use Rattle.pst_parse_part.specs.TimesFamilies.{counted_family, times_family, view_times}
+use Rattle.pst_parse_part.proofs.TimesRules.{plain_times, label_fails, labeled_times}
+use Rattle.pst_parse_part.proofs.Nearer.{reads_later}
+use Rattle.pst_parse_part.proofs.times.read_times.Goals as goal
 
 pub returns-then-not-name_then : goal.returns-then-not-name_then
 returns-then-not-name_then c = reads_later (times_family c.args.depth) c.args.tokens.now c.args.at view_times (counted_family c.args.depth c.in_ok-left_parenthesis.left_parenthesis None) (c.args.at + 1) 1 1 c.counted.result (omega arith) (omega arith) c.counted.ensures (plain_times c.args.tokens.now c.args.at c.args.depth c.in_ok-left_parenthesis.left_parenthesis c.in_ok-left_parenthesis.ensures.reads.0 (search rules))

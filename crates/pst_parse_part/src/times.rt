@@ -1,7 +1,7 @@
 //! How often something is repeated.
 ghost use Rattle.std.specs.Prelude.{◌≤◌, length};
 ghost use Rattle.pst_reading.specs.Reads.{Reads};
-ghost use Rattle.pst_parse_body.specs.BodyFamilies.{counted_family, label_family, times_family, view_times};
+ghost use Rattle.pst_parse_part.specs.TimesFamilies.{counted_family, label_family, times_family, view_times};
 
 use pst_ast::{ExprNode, LabelNode, SyntaxFault};
 use pst_base::Place;

@@ -1,8 +1,8 @@
 use Rattle.std.proofs.Common.{arith}
 use Rattle.std.proofs.lemmas.Result.{err_from_is_err_and}
 use Rattle.pst_ast.specs.ExpressionView.{view_expr}
-use Rattle.pst_parse_body.proofs.CallRules.{counted_fails, counted_close_fails, counted_given}
-use Rattle.pst_parse_body.proofs.times.counted.Goals as goal
+use Rattle.pst_parse_part.proofs.TimesRules.{counted_fails, counted_close_fails, counted_given}
+use Rattle.pst_parse_part.proofs.times.counted.Goals as goal
 
 pub returns-in_err-count : goal.returns-in_err-count
 returns-in_err-count c =
