@@ -1,6 +1,5 @@
 -- Rows of the program's trees are those of their lists.
-use Rattle.std.proofs.Common.{◌≡◌, Bool, true, false, if◌then◌else◌, ◌==◌, List, [], ◌∷◌, length, Option, None, refl, ap, sym, ◌∙◌}
-use Rattle.std.proofs.Common.{arith}
+use Rattle.std.proofs.Common.{◌≡◌, Bool, true, false, if◌then◌else◌, ◌==◌, List, [], ◌∷◌, length, Option, None, refl, ap, sym, ◌∙◌, arith}
 use Rattle.std.proofs.lemmas.Bool.{ne_eqb}
 use Rattle.std.specs.Prelude.{map}
 use Rattle.std.specs.Global.{Vec}
@@ -21,17 +20,11 @@ use Rattle.pst_ast.specs.ActivityView.{view_core, view_join, view_statement, vie
 use Rattle.pst_ast.specs.declared.expression.NextPart.{NextPart}
 use Rattle.pst_ast.specs.declared.expression.PartNode.{PartNode}
 use Rattle.pst_ast.specs.declared.expression.PathNode.TheVariants as the_path
-use Rattle.pst_ast.specs.declared.expression.NextRange.{NextRange}
-use Rattle.pst_ast.specs.ExpressionTree.{NextRangeRow, MoreNextRangeRow, PathDotted}
-use Rattle.pst_ast.specs.ExpressionView.{view_expr, view_next_range, view_path, view_part}
-use Rattle.pst_parse_expr.specs.Families as families
+use Rattle.pst_ast.specs.ExpressionTree.{PathDotted}
+use Rattle.pst_ast.specs.ExpressionView.{view_expr, view_path, view_part}
 use Rattle.pst_parse_expr.specs.Families.{part_row}
 use Rattle.pst_parse_expr.proofs.Turns.{dotted_view}
-use Rattle.pst_parse_act.specs.Activities.{range_row, statement_row, branch_row, arm_row, path_alone, part_alone}
-
-pub range_rows : (rs : List NextRange) → families.range_row rs ≡ range_row (map view_next_range rs)
-range_rows [] = refl
-range_rows (r ∷ rs) = ap (λ (x : NextRangeRow). MoreNextRangeRow (view_next_range r) x) (range_rows rs)
+use Rattle.pst_parse_act.specs.Activities.{statement_row, branch_row, arm_row}
 
 -- a path is a name where nothing is behind its first part and that has no index
 pub alone_path : (first : PartNode) (v : Vec NextPart) (b : Bool) → b ≡ (vec_len v == 0) → path_alone (view_path (the_path.Dotted first v)) ≡ (if b then part_alone (view_part first) else None)

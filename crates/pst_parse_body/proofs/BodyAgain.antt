@@ -38,7 +38,7 @@ use Rattle.pst_parse_part.specs.Plain.{plain_by}
 use Rattle.pst_parse_body.specs.Bodies.{arguments_rest, some_arguments, arguments_by, call_close, call_arguments, call_tail, call_by, source_call, source_expr, source_by, value_source, value_by, maybe_value_by, local_end, local_value, local_name, local_by, assigned, assign_end, assign_by, call_end, called_by, behind_name, named_by, otherwise_by, else_by, maybe_else_by, behind_then, then_by, if_condition_by, if_by, repeated_by, times_statement, loop_by, statement_row, statements_by, block_close, block_statements, block_by, empty_by, local_or_named, statement_by, statement_at, body_close, body_statements, body_open, body_word, body_at}
 use Rattle.pst_parse_part.specs.Times.{TimesTree, times_by}
 use Rattle.pst_parse_body.proofs.BodyExplains.{row_spelled, row_counted, call_takes}
-use Rattle.pst_parse_part.proofs.TimesExplain.{spell_times, IsProperTimes, counts_times}
+use Rattle.pst_parse_part.proofs.TimesExplain.{spell_times, IsProperTimes, counts_times, times_spelled}
 use Rattle.pst_parse_part.proofs.PlainAgain.{plain_rereads}
 use Rattle.pst_parse_part.proofs.TimesAgain.{name_and_mark, times_again}
 
@@ -363,7 +363,7 @@ module _ (X : Within ExprTree) (size : ℕ) (AX : (d : ℕ) (e : ExprTree) (rest
           let labels = counts_option (counts_label (suc d)) t.1 in
           let inner = spell_expr t.2 ++ mark kind.RightParenthesis t.3 ∷ spell_body_statement s in
           same_text (statement_by X S size (suc d)) (Done whole) (spell_body_statement whole ++ rest) (mark kind.Repeat r ∷ (spell_times t ++ us)) rest (counts_body_statement d whole) (c ∷ (counts_times (suc d) t ++ ds))
-          (ap (λ (u : List Token). mark kind.Repeat r ∷ u) (sym (times_text t us) ∙ ap (λ (u : List Token). mark kind.LeftParenthesis t.0 ∷ u) (ap (λ (u : List Token). label ++ u) (sym (append_assoc (spell_expr t.2) (mark kind.RightParenthesis t.3 ∷ spell_body_statement s) rest)) ∙ sym (append_assoc label inner rest))))
+          (ap (λ (u : List Token). mark kind.Repeat r ∷ u) (times_spelled t us ∙ ap (λ (u : List Token). mark kind.LeftParenthesis t.0 ∷ u) (ap (λ (u : List Token). label ++ u) (sym (append_assoc (spell_expr t.2) (mark kind.RightParenthesis t.3 ∷ spell_body_statement s) rest)) ∙ sym (append_assoc label inner rest))))
           (ap (λ (u : List Count). c ∷ c ∷ u) (append_assoc labels (counts_expr (suc d) 0 t.2 ++ c ∷ []) ds ∙ ap (λ (u : List Count). labels ++ u) (append_assoc (counts_expr (suc d) 0 t.2) (c ∷ []) ds)))
           (choices (suc d) false false false true false (mark kind.Repeat r ∷ (spell_times t ++ us)) rest (c ∷ (counts_times (suc d) t ++ ds)) (Done whole) (begins_repeat r)
           (becomes_mark kind.Repeat c (times_statement X S (suc d)) r (Done whole) (spell_times t ++ us) rest (counts_times (suc d) t ++ ds)

@@ -1,5 +1,5 @@
 -- What the rules of bodies explain.
-use Rattle.std.proofs.Common.{◌≡◌, ℕ, zero, suc, Bool, true, false, if◌then◌else◌, List, [], ◌∷◌, ◌++◌, Some, None, refl, ap, ◌∙◌, append-nil, append_assoc}
+use Rattle.std.proofs.Common.{◌≡◌, ℕ, zero, suc, Bool, true, false, if◌then◌else◌, List, [], ◌∷◌, ◌++◌, Some, None, refl, ap, append-nil, append_assoc}
 use Rattle.std.specs.List.{flat_map, AllByRecursion}
 use Rattle.pst_base.specs.declared.position.Place.{Place}
 use Rattle.pst_token.specs.declared.kind.Kind.TheVariants as kind
@@ -12,9 +12,9 @@ use Rattle.pst_ast.specs.ExpressionTree.{ExprTree}
 use Rattle.pst_ast.specs.ExpressionSpelling.{spell_expr}
 use Rattle.pst_ast.specs.ExpressionProper.{IsProperExpr}
 use Rattle.pst_ast.specs.ExpressionLimits.{counts_expr}
-use Rattle.pst_ast.specs.SharedSpelling.{spell_label, spell_next_expr, spell_plain}
+use Rattle.pst_ast.specs.SharedSpelling.{spell_next_expr, spell_plain}
 use Rattle.pst_ast.specs.SharedProper.{IsProperNextExpr, IsProperPlain}
-use Rattle.pst_ast.specs.SharedLimits.{counts_label, counts_next_expr, counts_plain}
+use Rattle.pst_ast.specs.SharedLimits.{counts_next_expr, counts_plain}
 use Rattle.pst_ast.specs.BodyTree.{MakeBody, BodyStatementTree, BodyStatementEmpty, BodyStatementLocal, BodyStatementCall, BodyStatementBlock, BodyStatementIf, BodyStatementIfElse, BodyStatementRepeat, ValueTree, MakeValue, SourceCall, SourceExpr, CallTree, MakeCall, MakeArguments}
 use Rattle.pst_ast.specs.BodySpelling.{spell_arguments, spell_call, spell_source, spell_value, spell_body_statement, spell_body_statement_row, spell_body}
 use Rattle.pst_ast.specs.BodyProper.{body_ends_open, IsProperArguments, IsProperCall, IsProperSource, IsProperValue, IsProperBodyStatement, AreProperBodyStatement, IsProperBody}
@@ -33,8 +33,8 @@ use Rattle.pst_parse_expr.proofs.SharedLaws.{spell_condition, IsProperCondition,
 use Rattle.pst_parse_body.specs.Types.{begins_plain}
 use Rattle.pst_parse_part.specs.Plain.{plain_by}
 use Rattle.pst_parse_body.specs.Bodies.{arguments_rest, some_arguments, arguments_by, call_close, call_arguments, call_tail, call_by, source_call, source_expr, source_by, value_source, value_by, maybe_value_by, local_end, local_value, local_name, local_by, assigned, assign_end, assign_by, call_end, called_by, behind_name, named_by, otherwise_by, else_by, maybe_else_by, behind_then, then_by, if_condition_by, if_by, repeated_by, times_statement, loop_by, statement_row, statements_by, block_close, block_statements, block_by, empty_by, local_or_named, statement_by, statement_at, body_close, body_statements, body_open, body_word, body_at}
-use Rattle.pst_parse_part.specs.Times.{TimesTree, times_by}
-use Rattle.pst_parse_part.proofs.TimesExplain.{spell_times, IsProperTimes, counts_times, name_takes, times_explains}
+use Rattle.pst_parse_part.specs.Times.{times_by}
+use Rattle.pst_parse_part.proofs.TimesExplain.{spell_times, IsProperTimes, counts_times, name_takes, times_explains, times_spelled, times_counted}
 use Rattle.pst_parse_part.proofs.PlainExplain.{plain_explains}
 
 -- ---- rows of statements are those of their lists
@@ -205,13 +205,7 @@ module _ (X : Within ExprTree) (S : Within BodyStatementTree) (turns : ℕ) (EX 
       explains_part M1 spell_times IsProperTimes (counts_times (suc d)) (times_by X (suc d)) (repeated_by S (suc d) r) (times_explains X EX TX (suc d)) (λ t p.
       let M2 = Behind M1 (spell_times t) (counts_times (suc d) t) in
       explains_part M2 spell_body_statement IsProperBodyStatement (counts_body_statement (suc d)) (S (suc d)) _ (ES (suc d)) (λ s q.
-      explains_done (Behind M2 (spell_body_statement s) (counts_body_statement (suc d) s)) (BodyStatementRepeat r t.0 t.1 t.2 t.3 s) (record { is = rw append-nil (ap (λ (u : List Token). mark kind.Repeat r ∷ u) (inside t (spell_body_statement s))); proper = (p, q); counted = rw append-nil (ap (λ (u : List Count). c ∷ u) (inside_counted t (counts_body_statement (suc d) s))) }))))
-    where
-      inside : (t : TimesTree) (more : List Token) → spell_times t ++ more ≡ mark kind.LeftParenthesis t.0 ∷ (spell_option spell_label t.1 ++ (spell_expr t.2 ++ mark kind.RightParenthesis t.3 ∷ more))
-      inside t more = ap (λ (u : List Token). mark kind.LeftParenthesis t.0 ∷ u) (append_assoc (spell_option spell_label t.1) (spell_expr t.2 ++ mark kind.RightParenthesis t.3 ∷ []) more ∙ ap (λ (u : List Token). spell_option spell_label t.1 ++ u) (append_assoc (spell_expr t.2) (mark kind.RightParenthesis t.3 ∷ []) more))
-
-      inside_counted : (t : TimesTree) (more : List Count) → counts_times (suc d) t ++ more ≡ counted (suc d) 0 ∷ (counts_option (counts_label (suc d)) t.1 ++ (counts_expr (suc d) 0 t.2 ++ counted (suc d) 0 ∷ more))
-      inside_counted t more = ap (λ (u : List Count). counted (suc d) 0 ∷ u) (append_assoc (counts_option (counts_label (suc d)) t.1) (counts_expr (suc d) 0 t.2 ++ counted (suc d) 0 ∷ []) more ∙ ap (λ (u : List Count). counts_option (counts_label (suc d)) t.1 ++ u) (append_assoc (counts_expr (suc d) 0 t.2) (counted (suc d) 0 ∷ []) more))
+      explains_done (Behind M2 (spell_body_statement s) (counts_body_statement (suc d) s)) (BodyStatementRepeat r t.0 t.1 t.2 t.3 s) (record { is = rw append-nil (ap (λ (u : List Token). mark kind.Repeat r ∷ u) (times_spelled t (spell_body_statement s))); proper = (p, q); counted = rw append-nil (ap (λ (u : List Count). c ∷ u) (times_counted (suc d) t (counts_body_statement (suc d) s))) }))))
 
   statements_explain : (d : ℕ) → Explains (Means (flat_map spell_body_statement) (AllByRecursion IsProperBodyStatement) (flat_map (counts_body_statement d))) (statements_by S turns d)
   statements_explain d = list_explains spell_body_statement IsProperBodyStatement (counts_body_statement d) (is_other kind.RightBrace) (S d) (ES d) turns

@@ -1,5 +1,5 @@
 -- Counts in brackets read what they spell again.
-use Rattle.std.proofs.Common.{◌≡◌, ℕ, ◌≤◌, Bool, true, false, ◌&&◌, List, [], ◌∷◌, ◌++◌, length, Some, Option, None, refl, sym, ap, ◌∙◌, append_assoc}
+use Rattle.std.proofs.Common.{◌≡◌, ℕ, ◌≤◌, Bool, true, false, ◌&&◌, List, [], ◌∷◌, ◌++◌, length, Some, Option, None, refl, sym, ap, ◌∙◌}
 use Rattle.pst_base.specs.declared.position.Place.{Place}
 use Rattle.pst_token.specs.declared.kind.Kind.{Kind}
 use Rattle.pst_token.specs.declared.kind.Kind.TheVariants as kind
@@ -26,7 +26,7 @@ use Rattle.pst_parse_expr.proofs.Stops.{IsNo, Separates, right_parenthesis_close
 use Rattle.pst_parse_expr.proofs.Takes.{expr_apart, colon_outside}
 use Rattle.pst_parse_expr.proofs.SharedLaws.{same_text}
 use Rattle.pst_parse_part.specs.Times.{label_colon, label_by, TimesTree, times_close, times_count, times_label, times_inner, times_by}
-use Rattle.pst_parse_part.proofs.TimesExplain.{spell_times, IsProperTimes, counts_times, label_takes}
+use Rattle.pst_parse_part.proofs.TimesExplain.{spell_times, IsProperTimes, counts_times, label_takes, times_spelled}
 
 no_colon_at_parenthesis : (p : Place) → IsNo kind.Colon (Some (mark kind.RightParenthesis p))
 unfolding is_mark
@@ -60,11 +60,8 @@ module _ (X : Within ExprTree) (size : ℕ) (AX : (d : ℕ) (e : ExprTree) (rest
       (becomes_mark kind.Colon c (λ x. Done (record { name = i.name; colon = x })) i.colon (Done i) us us [] (stays (Done i) us)))
       (count_again d l (Some i) e r rest proper short))
 
-  times_text : (t : TimesTree) (rest : List Token) → mark kind.LeftParenthesis t.0 ∷ (spell_option spell_label t.1 ++ (spell_expr t.2 ++ mark kind.RightParenthesis t.3 ∷ rest)) ≡ spell_times t ++ rest
-  times_text t rest = ap (λ (u : List Token). mark kind.LeftParenthesis t.0 ∷ u) (ap (λ (u : List Token). spell_option spell_label t.1 ++ u) (sym (append_assoc (spell_expr t.2) (mark kind.RightParenthesis t.3 ∷ []) rest)) ∙ sym (append_assoc (spell_option spell_label t.1) (spell_expr t.2 ++ mark kind.RightParenthesis t.3 ∷ []) rest))
-
   pub times_again : (d : ℕ) (t : TimesTree) (rest : List Token) → IsProperTimes t → length (spell_expr t.2) ≤ size → Becomes (times_by X d) (spell_times t ++ rest) (counts_times d t) (Done t) rest
   times_again d t rest proper short =
       let ts = spell_option spell_label t.1 ++ (spell_expr t.2 ++ mark kind.RightParenthesis t.3 ∷ rest) in
-      same_text (times_by X d) (Done t) (spell_times t ++ rest) (mark kind.LeftParenthesis t.0 ∷ ts) rest (counts_times d t) (counts_times d t) (times_text t rest) refl
+      same_text (times_by X d) (Done t) (spell_times t ++ rest) (mark kind.LeftParenthesis t.0 ∷ ts) rest (counts_times d t) (counts_times d t) (sym (times_spelled t rest)) refl
       (becomes_mark kind.LeftParenthesis (counted d 0) (times_inner X d) t.0 (Done t) ts rest (counts_option (counts_label d) t.1 ++ (counts_expr d 0 t.2 ++ counted d 0 ∷ [])) (inner_again d t.0 t.1 t.2 t.3 rest proper short))

@@ -1,5 +1,5 @@
 -- What counts in brackets explain.
-use Rattle.std.proofs.Common.{◌≡◌, ℕ, Bool, true, if◌then◌else◌, List, [], ◌∷◌, ◌++◌, Option, Some, None, refl, ap}
+use Rattle.std.proofs.Common.{◌≡◌, ℕ, Bool, true, if◌then◌else◌, List, [], ◌∷◌, ◌++◌, Option, Some, None, refl, ap, ◌∙◌, append_assoc}
 use Rattle.pst_base.specs.declared.position.Place.{Place}
 use Rattle.pst_token.specs.declared.kind.Kind.TheVariants as kind
 use Rattle.pst_token.specs.declared.token.Token.{Token}
@@ -40,6 +40,19 @@ name_takes c f t e = takes_followed (name_by c) f t c (alone t e)
 
 pub label_takes : {A : Type 0} (d : ℕ) (f : LabelNode → Parser A) (t : Token) → is_name t ≡ true → takes (followed_by (label_by d) f) t ≡ Some (counted d 0)
 label_takes d f t e = takes_followed (label_by d) f t (counted d 0) (name_takes (counted d 0) (label_colon d) t e)
+
+-- a count and what stands behind it
+pub times_spelled : (t : TimesTree) (more : List Token) → spell_times t ++ more ≡ mark kind.LeftParenthesis t.0 ∷ (spell_option spell_label t.1 ++ (spell_expr t.2 ++ mark kind.RightParenthesis t.3 ∷ more))
+times_spelled t more =
+    let label = spell_option spell_label t.1 in
+    let close = mark kind.RightParenthesis t.3 ∷ [] in
+    ap (λ (u : List Token). mark kind.LeftParenthesis t.0 ∷ u) (append_assoc label (spell_expr t.2 ++ close) more ∙ ap (λ (u : List Token). label ++ u) (append_assoc (spell_expr t.2) close more))
+
+pub times_counted : (d : ℕ) (t : TimesTree) (more : List Count) → counts_times d t ++ more ≡ counted d 0 ∷ (counts_option (counts_label d) t.1 ++ (counts_expr d 0 t.2 ++ counted d 0 ∷ more))
+times_counted d t more =
+    let labels = counts_option (counts_label d) t.1 in
+    let close = counted d 0 ∷ [] in
+    ap (λ (u : List Count). counted d 0 ∷ u) (append_assoc labels (counts_expr d 0 t.2 ++ close) more ∙ ap (λ (u : List Count). labels ++ u) (append_assoc (counts_expr d 0 t.2) close more))
 
 module _ (X : Within ExprTree) (EX : (d : ℕ) → Explains (Means spell_expr IsProperExpr (counts_expr d 0)) (X d)) (TX : (d : ℕ) (t : Token) → is_name t ≡ true → takes (X d) t ≡ Some (counted d 0)) where
   pub label_explains : (d : ℕ) → Explains (Means spell_label IsAny (counts_label d)) (label_by d)
