@@ -23,7 +23,6 @@ use Rattle.pst_token.specs.declared.kind.Kind.TheVariants as kind
 use Rattle.pst_token.specs.declared.token.Token.{Token}
 use Rattle.std.proofs.Common.{refl, arith, ℕ, ◌≤◌, ◌≡◌, true, List, ◌++◌, Option, Some, length}
 use Rattle.pst_ast.specs.declared.shared.NextName.{NextName}
-use Rattle.pst_parse_part.proofs.NamesAgain.{type_name_rereads}
 
 pub scoped_name_rereads : (depth : ℕ) (x : ScopedName) → Rereads Anything (scoped_name_by depth) (spell_scoped_name x) (counts_scoped_name depth x) x
 scoped_name_rereads depth x =

@@ -17,7 +17,6 @@ use Rattle.pst_reading.specs.Options.{option_by}
 use Rattle.pst_token.specs.declared.kind.Kind.TheVariants as kind
 use Rattle.std.proofs.Common.{refl, append-nil, ℕ}
 use Rattle.std.specs.List.{flat_map, AllByRecursion}
-use Rattle.pst_parse_part.proofs.NamesExplain.{type_name_explains}
 
 pub scoped_name_explains : (depth : ℕ) → Explains (Means spell_scoped_name IsAny (counts_scoped_name depth)) (scoped_name_by depth)
 scoped_name_explains depth =

@@ -10,7 +10,6 @@ use Rattle.pst_reading.specs.Parser.{Done, ◌>>=◌, mark_by, name_by}
 use Rattle.pst_token.specs.declared.kind.Kind.TheVariants as kind
 use Rattle.std.specs.Prelude.{ℕ}
 use Rattle.pst_ast.specs.declared.shared.NextName.{NextName}
-use Rattle.pst_parse_part.specs.Names.{type_name_by}
 
 -- "::" NAME
 abbrev pub scoped_name_by : Within ScopedName
