@@ -40,6 +40,9 @@ use Rattle.pst_reading.proofs.Peeking.{takes}
 use Rattle.pst_parse_part.proofs.TimesExplain.{spell_times, IsProperTimes, counts_times, times_explains, times_spelled, times_counted}
 use Rattle.pst_parse_part.proofs.RangesExplain.{ranges_explains}
 use Rattle.pst_parse_part.proofs.NamesExplain.{type_name_explains, names_explains}
+use Rattle.pst_parse_part.specs.Times.{times_by}
+use Rattle.pst_parse_part.specs.Ranges.{ranges_by}
+use Rattle.pst_parse_part.specs.Names.{names_by, type_name_by}
 
 -- ---- bind
 
@@ -102,7 +105,7 @@ module _ (X : Within ExprTree) (turns : ℕ) (EX : (d : ℕ) → Accounts (Means
       let M1 = Behind M (mark kind.JoinBranch word ∷ []) (counted d 0 ∷ []) in
       account_mark M1 kind.LeftParenthesis _ _ (λ left.
       let M2 = Behind M1 (mark kind.LeftParenthesis left ∷ []) (counted d 0 ∷ []) in
-      account_part M2 spell_names IsProperNames (counts_names d) _ _ (record { all = names_explains turns d }) (λ names p.
+      account_part M2 spell_names IsProperNames (counts_names d) (names_by turns d) _ (record { all = names_explains turns d }) (λ names p.
       let M3 = Behind M2 (spell_names names) (counts_names d names) in
       account_mark M3 kind.RightParenthesis _ _ (λ right.
       let M4 = Behind M3 (mark kind.RightParenthesis right ∷ []) (counted d 0 ∷ []) in
@@ -159,7 +162,7 @@ module _ (X : Within ExprTree) (turns : ℕ) (EX : (d : ℕ) → Accounts (Means
       account_if_mark M kind.LeftBracket _ _
       (account_mark M kind.LeftBracket _ _ (λ left.
       let M1 = Behind M (mark kind.LeftBracket left ∷ []) (counted d 0 ∷ []) in
-      account_part M1 spell_ranges IsProperRanges (counts_own_ranges d) _ _ (record { all = ranges_explains turns d }) (λ ranges p.
+      account_part M1 spell_ranges IsProperRanges (counts_own_ranges d) (ranges_by turns d) _ (record { all = ranges_explains turns d }) (λ ranges p.
       let M2 = Behind M1 (spell_ranges ranges) (counts_own_ranges d ranges) in
       account_mark M2 kind.RightBracket _ _ (λ right.
       let M3 = Behind M2 (mark kind.RightBracket right ∷ []) (counted d 0 ∷ []) in
@@ -190,7 +193,7 @@ module _ (X : Within ExprTree) (S : Within ConstraintTree) (T : Within Statement
       let M = IsCore d in
       account_mark M kind.Do _ _ (λ word.
       let M1 = Behind M (mark kind.Do word ∷ []) (counted d 0 ∷ []) in
-      account_part M1 spell_type_name IsAny (counts_type_name d) _ _ (record { all = type_name_explains d }) (λ name p.
+      account_part M1 spell_type_name IsAny (counts_type_name d) (type_name_by d) _ (record { all = type_name_explains d }) (λ name p.
       let M2 = Behind M1 (spell_type_name name) (counts_type_name d name) in
       account_part M2 spell_with IsProperWith (counts_with d) _ _ (with_explains S ES d) (λ w q.
       let M3 = Behind M2 (spell_with w) (counts_with d w) in
@@ -268,7 +271,7 @@ module _ (X : Within ExprTree) (S : Within ConstraintTree) (T : Within Statement
       let M = IsCore d in
       account_mark M kind.Repeat _ _ (λ word.
       let M1 = Behind M (mark kind.Repeat word ∷ []) (counted d 0 ∷ []) in
-      account_part M1 spell_times IsProperTimes (counts_times d) _ _ (record { all = times_explains X (λ x. (EX x).all) TX d }) (λ t p.
+      account_part M1 spell_times IsProperTimes (counts_times d) (times_by X d) _ (record { all = times_explains X (λ x. (EX x).all) TX d }) (λ t p.
       let M2 = Behind M1 (spell_times t) (counts_times d t) in
       account_part M2 spell_statement IsProperStatement (counts_statement d) _ _ (ET d) (λ statement q.
       let M3 = Behind M2 (spell_statement statement) (counts_statement d statement) in
