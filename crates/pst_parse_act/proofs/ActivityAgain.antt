@@ -1,43 +1,36 @@
 -- Activities read what they spell again.
-use Rattle.std.proofs.Common.{◌≡◌, ℕ, zero, suc, ◌+◌, ◌-◌, ◌≤◌, ◌<◌, Bool, true, false, ◌||◌, if◌then◌else◌, List, [], ◌∷◌, ◌++◌, length, Some, Option, None, refl, sym, ap, subst, ◌∙◌, arith, append-nil, append_assoc, length-append}
-use Rattle.std.specs.List.{flat_map, AllByRecursion}
+use Rattle.std.proofs.Common.{◌≡◌, ℕ, zero, suc, ◌+◌, ◌-◌, ◌≤◌, ◌<◌, Bool, true, false, if◌then◌else◌, List, [], ◌∷◌, ◌++◌, length, Some, Option, None, refl, sym, ap, subst, ◌∙◌, arith, append-nil, append_assoc, length-append}
+use Rattle.std.specs.List.{flat_map}
 use Rattle.pst_base.specs.declared.position.Place.{Place}
 use Rattle.pst_token.specs.declared.kind.Kind.{Kind}
 use Rattle.pst_token.specs.declared.kind.Kind.TheVariants as kind
 use Rattle.pst_token.specs.declared.token.Token.{Token}
 use Rattle.pst_ast.specs.declared.leaf.Name.{Name}
-use Rattle.pst_ast.specs.declared.shared.LabelNode.{LabelNode}
-use Rattle.pst_ast.specs.declared.shared.NextName.{NextName}
-use Rattle.pst_ast.specs.declared.shared.ScopedName.{ScopedName}
 use Rattle.pst_ast.specs.declared.shared.TypeName.{TypeName}
-use Rattle.pst_ast.specs.declared.activity.EndNode.{EndNode}
-use Rattle.pst_ast.specs.declared.activity.NextEnd.{NextEnd}
 use Rattle.pst_ast.specs.declared.activity.TogetherWord.{TogetherWord}
 use Rattle.pst_ast.specs.declared.activity.TogetherWord.TheVariants as the_together_word
-use Rattle.pst_ast.specs.Closing.{origin}
 use Rattle.pst_ast.specs.Marks.{mark, name_token, spell_option, OptionIs, together_word_kind}
 use Rattle.pst_ast.specs.Limits.{Count, counted, counts_option}
-use Rattle.pst_ast.specs.ExpressionTree.{ExprTree, ExprUnary, ExprBinary, ExprIn, UnaryPrefix, UnaryPrimary, PrimaryNumber, PrimaryTrue, PrimaryFalse, PrimaryPath, PrimaryGroup, PathDotted, PathItem, PathLongItem, MakePart, NoNextPartRow, MoreNextPartRow, NoIndex, SomeIndex, RangesTree, MakeRanges, RangeTree, RangeSingle, RangeBetween, NextRangeTree, MakeNextRange, NextRangeRow, NoNextRangeRow, MoreNextRangeRow}
-use Rattle.pst_ast.specs.ExpressionSpelling.{spell_expr, spell_ranges, spell_range, spell_next_range, spell_next_range_row}
-use Rattle.pst_ast.specs.ExpressionProper.{IsProperExpr, IsProperRanges, IsProperRange, IsProperNextRange, AreProperNextRange}
+use Rattle.pst_ast.specs.ExpressionTree.{ExprTree}
+use Rattle.pst_ast.specs.ExpressionSpelling.{spell_expr}
+use Rattle.pst_ast.specs.ExpressionProper.{IsProperExpr}
 use Rattle.pst_ast.specs.ExpressionLimits.{counts_expr}
-use Rattle.pst_ast.specs.SharedTree.{NamesTree, MakeNames}
-use Rattle.pst_ast.specs.SharedSpelling.{spell_label, spell_names, spell_next_name, spell_scoped_name, spell_type_name}
-use Rattle.pst_ast.specs.SharedProper.{IsProperNames}
-use Rattle.pst_ast.specs.SharedLimits.{counts_label, counts_names, counts_next_name, counts_scoped_name, counts_type_name, counts_own_range, counts_own_next_range, counts_own_range_row, counts_own_ranges}
+use Rattle.pst_ast.specs.SharedSpelling.{spell_label, spell_type_name}
+use Rattle.pst_ast.specs.SharedLimits.{counts_label, counts_type_name}
 use Rattle.pst_ast.specs.ConstraintTree.{ConstraintTree}
 use Rattle.pst_ast.specs.ConstraintSpelling.{spell_constraint}
-use Rattle.pst_ast.specs.ConstraintProper.{IsProperConstraint, constraint_ends_open}
+use Rattle.pst_ast.specs.ConstraintProper.{IsProperConstraint}
 use Rattle.pst_ast.specs.ConstraintLimits.{counts_constraint}
-use Rattle.pst_ast.specs.ActivityTree.{ActivityTree, MakeActivity, StatementTree, StatementEmpty, StatementLabeled, StatementPlain, CoreTree, CoreDo, CoreHandle, CoreSequence, CoreTogether, CoreSelect, CoreRepeat, CoreIf, CoreIfElse, CoreMatch, CoreBind, BranchTree, MakeBranch, ArmTree, MakeArm, GuardTree, GuardCondition, GuardWeight, WeightTree, MakeWeight, ArmLabelTree, ArmLabelRanges, ArmLabelDefault, JoinTree, JoinBranch, JoinNothing, JoinSelect, WithTree, WithNothing, WithSet, BindTree, MakeBind, OtherEndsTree, OtherEndsOne, OtherEndsSeveral, StatementRow, NoStatementRow, MoreStatementRow, BranchRow, NoBranchRow, MoreBranchRow, ArmRow, NoArmRow, MoreArmRow}
-use Rattle.pst_ast.specs.ActivitySpelling.{spell_activity, spell_statement, spell_core, spell_branch, spell_arm, spell_statement_row, spell_branch_row, spell_arm_row, spell_with, spell_join, spell_end, spell_next_end, spell_other_ends, spell_bind, spell_weight, spell_guard, spell_arm_label}
-use Rattle.pst_ast.specs.ActivityProper.{with_ends_open, statement_ends_open, core_ends_open, IsProperWith, IsProperJoin, IsProperOtherEnds, IsProperBind, IsProperWeight, IsProperGuard, IsProperArmLabel, IsProperStatement, IsProperCore, IsProperBranch, IsProperArm, AreProperStatement, AreProperBranch, AreProperArm, IsProperActivity}
-use Rattle.pst_ast.specs.ActivityLimits.{counts_activity, counts_statement, counts_core, counts_branch, counts_arm, counts_statement_row, counts_branch_row, counts_arm_row, counts_with, counts_join, counts_end, counts_next_end, counts_other_ends, counts_bind, counts_weight, counts_guard, counts_arm_label}
+use Rattle.pst_ast.specs.ActivityTree.{ActivityTree, MakeActivity, StatementTree, StatementEmpty, StatementLabeled, StatementPlain, CoreTree, CoreDo, CoreHandle, CoreSequence, CoreTogether, CoreSelect, CoreRepeat, CoreIf, CoreIfElse, CoreMatch, CoreBind, BranchTree, MakeBranch, ArmTree, MakeArm, JoinTree, WithTree, WithNothing, WithSet, BindTree, MakeBind, StatementRow, BranchRow, NoBranchRow, MoreBranchRow, ArmRow, NoArmRow, MoreArmRow}
+use Rattle.pst_ast.specs.ActivitySpelling.{spell_activity, spell_statement, spell_core, spell_branch, spell_arm, spell_statement_row, spell_branch_row, spell_arm_row, spell_with, spell_join, spell_bind, spell_guard, spell_arm_label}
+use Rattle.pst_ast.specs.ActivityProper.{statement_ends_open, IsProperWith, IsProperJoin, IsProperGuard, IsProperStatement, IsProperCore, IsProperBranch, IsProperArm, AreProperStatement, AreProperBranch, AreProperArm, IsProperActivity}
+use Rattle.pst_ast.specs.ActivityLimits.{counts_activity, counts_statement, counts_core, counts_branch, counts_arm, counts_statement_row, counts_branch_row, counts_arm_row, counts_with, counts_join, counts_bind, counts_guard, counts_arm_label}
 use Rattle.pst_reading.specs.Kinds.{is_mark, is_name, next_is}
-use Rattle.pst_reading.specs.Parser.{Parser, Done, Look, followed_by, next, mark_by, name_by, if_mark}
+use Rattle.pst_reading.specs.Parser.{Parser, Done, followed_by, next, mark_by, if_mark}
 use Rattle.pst_reading.specs.Lists.{list_by}
-use Rattle.pst_reading.specs.Options.{option_by, row_by}
-use Rattle.pst_parse_act.specs.Activities.{scoped_name_by, type_name_by, next_name_by, names_by, end_by, next_end_by, one_end_by, several_ends_by, other_ends_by, bind_by, branch_join_by, nothing_join_by, select_join_by, join_by, begins_join, weight_by, condition_guard_by, weight_guard_by, guard_by, begins_guard, between_by, range_by, next_range_by, range_row, next_ranges_by, ranges_by, ranges_label_by, default_label_by, arm_label_by, with_set_by, with_nothing_by, with_by, do_by, handle_by, statement_row, statements_by, sequence_word_by, sequence_by, together_by, branch_by, branch_row, branches_by, select_by, name_alone, index_of, CounterTree, counter_behind, counter_by, repeated_by, else_by, maybe_else_by, if_by, arm_by, arm_row, arms_by, match_by, bound_by, core_by, empty_by, labeled_by, traversed_by, named_by, plain_by, statement_by, statement_at, activity_by, activity_at}
+use Rattle.pst_reading.specs.Options.{option_by}
+use Rattle.pst_parse_act.specs.Activities.{bind_by, join_by, begins_join, guard_by, begins_guard, arm_label_by, with_by, do_by, handle_by, statement_row, statements_by, sequence_word_by, sequence_by, together_by, branch_by, branch_row, branches_by, select_by, repeated_by, else_by, maybe_else_by, if_by, arm_by, arm_row, arms_by, match_by, bound_by, core_by, empty_by, labeled_by, traversed_by, named_by, plain_by, statement_by, statement_at, activity_by, activity_at}
+use Rattle.pst_parse_part.specs.Names.{type_name_by}
 use Rattle.pst_reading.proofs.Tokens.{mark_is_so}
 use Rattle.pst_reading.proofs.Lists.{StartsPart}
 use Rattle.pst_reading.proofs.Becoming.{Becomes}
@@ -47,9 +40,17 @@ use Rattle.pst_parse_expr.specs.Constraints.{Within, is_at, is_other, outermost_
 use Rattle.pst_parse_expr.proofs.Stops.{IsNo, Separates, separated, right_parenthesis_closes}
 use Rattle.pst_parse_expr.proofs.ExprAgain.{expr_again}
 use Rattle.pst_parse_expr.proofs.ConstraintAgain.{StopsSet, constraint_again}
-use Rattle.pst_parse_act.proofs.ActivityRows.{IsAny, option_any, spell_word, counts_word, spell_counter, counts_counter, list_of_statements, statements_spelled, statements_counted, statements_are, all_statements, list_of_branches, branches_spelled, branches_counted, branches_are, all_branches, list_of_arms, arms_spelled, arms_counted, arms_are, all_arms}
-use Rattle.pst_parse_act.proofs.ActivityEnds.{StopsWith, StopsCore, StopsStatement, EndsCounter, is_handle, core_starts, statement_starts, guard_starts, branch_starts, arm_starts, join_starts, with_starts, some_statement, some_branch, some_arm}
-use Rattle.pst_parse_act.proofs.ActivityPartsAgain.{type_name_again, bind_again, join_again, guard_again, arm_label_again, counter_again, with_again}
+use Rattle.pst_parse_act.proofs.ActivityRows.{spell_word, counts_word, list_of_statements, statements_spelled, statements_counted, statements_are, all_statements, list_of_branches, branches_spelled, branches_counted, branches_are, all_branches, list_of_arms, arms_spelled, arms_counted, arms_are, all_arms}
+use Rattle.pst_parse_expr.proofs.SharedLaws.{IsAny}
+use Rattle.pst_parse_act.proofs.ActivityEnds.{StopsCore, StopsStatement, is_handle, core_starts, statement_starts, guard_starts, branch_starts, arm_starts, join_starts, with_starts, some_statement, some_branch, some_arm}
+use Rattle.pst_parse_act.proofs.ActivityPartsAgain.{bind_again, join_again, guard_again, arm_label_again, with_again}
+use Rattle.pst_parse_expr.proofs.Takes.{expr_takes}
+use Rattle.pst_reading.proofs.Peeking.{takes}
+use Rattle.pst_parse_part.specs.Times.{TimesTree, times_by}
+use Rattle.pst_parse_part.proofs.TimesAgain.{times_again}
+use Rattle.pst_parse_part.proofs.TimesExplain.{spell_times, IsProperTimes, counts_times, times_spelled, times_counted}
+use Rattle.pst_parse_part.proofs.Following.{any_option}
+use Rattle.pst_parse_part.proofs.NamesAgain.{type_name_rereads}
 
 -- a mark by its place
 word_again : (k : Kind) (d : ℕ) (p : Place) → Rereads Anything (mark_by k (counted d 0)) (spell_word k p) (counts_word d p) p
@@ -68,7 +69,7 @@ goes_on n e = ap (λ (b : Bool). if b then false else true) e
 abbrev EndsRow : Option Token → Type 0
 EndsRow = EndsOption (is_other kind.RightBrace) (IsNo kind.Else)
 
-module _ (X : Within ExprTree) (S : Within ConstraintTree) (T : Within StatementTree) (size : ℕ) (AX : (d : ℕ) (e : ExprTree) → IsProperExpr e → length (spell_expr e) ≤ size → Rereads (Separates 0) (X d) (spell_expr e) (counts_expr d 0 e) e) (AS : (d : ℕ) (s : ConstraintTree) → IsProperConstraint s → length (spell_constraint s) ≤ size → Rereads (StopsSet s) (S d) (spell_constraint s) (counts_constraint d s) s) (AT : (d : ℕ) (s : StatementTree) → IsProperStatement s → length (spell_statement s) < size → Rereads (StopsStatement s) (T d) (spell_statement s) (counts_statement d s) s) where
+module _ (X : Within ExprTree) (S : Within ConstraintTree) (T : Within StatementTree) (size : ℕ) (AX : (d : ℕ) (e : ExprTree) → IsProperExpr e → length (spell_expr e) ≤ size → Rereads (Separates 0) (X d) (spell_expr e) (counts_expr d 0 e) e) (TX : (d : ℕ) (t : Token) → is_name t ≡ true → takes (X d) t ≡ Some (counted d 0)) (AS : (d : ℕ) (s : ConstraintTree) → IsProperConstraint s → length (spell_constraint s) ≤ size → Rereads (StopsSet s) (S d) (spell_constraint s) (counts_constraint d s) s) (AT : (d : ℕ) (s : StatementTree) → IsProperStatement s → length (spell_statement s) < size → Rereads (StopsStatement s) (T d) (spell_statement s) (counts_statement d s) s) where
   abbrev CoreAgain : ℕ → CoreTree → Parser CoreTree → Type 0
   CoreAgain d c p = Rereads (StopsCore c) p (spell_core c) (counts_core d c) c
 
@@ -78,7 +79,7 @@ module _ (X : Within ExprTree) (S : Within ConstraintTree) (T : Within Statement
   do_again d p n w proper short =
       let c = CoreDo p n w in
       reread_mark (StopsCore c) kind.Do _ _ p _ _ _
-      (reread_part (StopsCore c) (EndsOption (is_at kind.ColonColon) Anything) (type_name_by d) _ (spell_type_name n) (counts_type_name d n) n (spell_with w) (counts_with d w) c (type_name_again d n) (λ rest m. (with_starts w rest, tt))
+      (reread_part (StopsCore c) (IsNo kind.ColonColon) (type_name_by d) _ (spell_type_name n) (counts_type_name d n) n (spell_with w) (counts_with d w) c (type_name_rereads d n) (λ rest m. with_starts w rest)
       (reread_last (StopsCore c) (with_by S d) _ (spell_with w) (counts_with d w) w c (with_again S size AS d w proper (omega (arith, short, length-append (spell_type_name n) (spell_with w)))) refl))
 
   handle_again : (d : ℕ) (n : Name) (w : WithTree) → IsProperWith w → length (spell_core (CoreHandle n w)) ≤ size → CoreAgain d (CoreHandle n w) (handle_by S d)
@@ -105,7 +106,7 @@ module _ (X : Within ExprTree) (S : Within ConstraintTree) (T : Within Statement
       let long = length-append (spell_option (spell_word kind.Sequence) w) block in
       let longer = length-append (spell_statement_row s) (mark kind.RightBrace r ∷ []) in
       reread_part (StopsCore c) (EndsOption (is_at kind.Sequence) Anything) (option_by (is_at kind.Sequence) (sequence_word_by d)) _ (spell_option (spell_word kind.Sequence) w) (counts_option (counts_word d) w) w block (counted d 0 ∷ (counts_statement_row d s ++ counted d 0 ∷ [])) c
-      (reread_option (spell_word kind.Sequence) IsAny (counts_word d) (is_at kind.Sequence) Anything (sequence_word_by d) size (λ p q n. word_again kind.Sequence d p) (λ p rest. mark_is_so kind.Sequence p) w (option_any w) (omega (arith, short, long))) (λ rest m. (refl, tt))
+      (reread_option (spell_word kind.Sequence) IsAny (counts_word d) (is_at kind.Sequence) Anything (sequence_word_by d) size (λ p q n. word_again kind.Sequence d p) (λ p rest. mark_is_so kind.Sequence p) w (any_option w) (omega (arith, short, long))) (λ rest m. (refl, tt))
       (reread_mark (StopsCore c) kind.LeftBrace _ _ l _ _ _
       (reread_part (StopsCore c) EndsRow (statements_by T size d) _ (spell_statement_row s) (counts_statement_row d s) s (mark kind.RightBrace r ∷ []) (counted d 0 ∷ []) c (statements_again d s proper (omega (arith, short, long, longer))) (λ rest m. closes_row r)
       (reread_mark (StopsCore c) kind.RightBrace _ _ r _ _ _ (reread_done (StopsCore c) c))))
@@ -154,23 +155,20 @@ module _ (X : Within ExprTree) (S : Within ConstraintTree) (T : Within Statement
 
   -- ---- repeat
 
-  repeated_again : (d : ℕ) (p l : Place) (i : Option LabelNode) (e : ExprTree) (r : Place) (s : StatementTree) → IsProperExpr e → IsProperStatement s → length (spell_core (CoreRepeat p l i e r s)) ≤ size → CoreAgain d (CoreRepeat p l i e r s) (repeated_by X T d)
-  unfolding is_mark
-  repeated_again d p l i e r s propere propers short =
-      let c = CoreRepeat p l i e r s in
-      let k : CounterTree = (i, e) in
-      let close = mark kind.RightParenthesis r ∷ spell_statement s in
-      let closed = counted d 0 ∷ counts_statement d s in
-      let long = length-append (spell_option spell_label i) (spell_expr e ++ close) in
-      let longer = length-append (spell_expr e) close in
-      let both = length-append (spell_option spell_label i) (spell_expr e) in
+  repeated_again : (d : ℕ) (p : Place) (t : TimesTree) (s : StatementTree) → IsProperTimes t → IsProperStatement s → length (spell_core (CoreRepeat p t.0 t.1 t.2 t.3 s)) ≤ size → CoreAgain d (CoreRepeat p t.0 t.1 t.2 t.3 s) (repeated_by X T d)
+  repeated_again d p t s propert propers short =
+      let c = CoreRepeat p t.0 t.1 t.2 t.3 s in
+      let whole = λ (times : TimesTree). followed_by (T d) (λ z. Done (CoreRepeat p times.0 times.1 times.2 times.3 z)) in
+      let rest_of = λ (u : List Token) (v : List Count). Rereads (StopsCore c) (followed_by (times_by X d) whole) u v c in
+      let close = mark kind.RightParenthesis t.3 ∷ spell_statement s in
+      let long = length-append (spell_option spell_label t.1) (spell_expr t.2 ++ close) in
+      let longer = length-append (spell_expr t.2) close in
       reread_mark (StopsCore c) kind.Repeat _ _ p _ _ _
-      (reread_mark (StopsCore c) kind.LeftParenthesis _ _ l _ _ _
-      (subst (λ (u : List Token). Rereads (StopsCore c) (followed_by (counter_by X d) (λ x. followed_by (mark_by kind.RightParenthesis (counted d 0)) (λ y. followed_by (T d) (λ z. Done (CoreRepeat p l x.0 x.1 y z))))) u (counts_option (counts_label d) i ++ (counts_expr d 0 e ++ closed)) c) (append_assoc (spell_option spell_label i) (spell_expr e) close)
-      (subst (λ (u : List Count). Rereads (StopsCore c) (followed_by (counter_by X d) (λ x. followed_by (mark_by kind.RightParenthesis (counted d 0)) (λ y. followed_by (T d) (λ z. Done (CoreRepeat p l x.0 x.1 y z))))) (spell_counter k ++ close) u c) (append_assoc (counts_option (counts_label d) i) (counts_expr d 0 e) closed)
-      (reread_part (StopsCore c) EndsCounter (counter_by X d) _ (spell_counter k) (counts_counter d k) k close closed c (counter_again X size AX d k propere (omega (arith, short, long, longer, both))) (λ more m. (right_parenthesis_closes r, refl))
-      (reread_mark (StopsCore c) kind.RightParenthesis _ _ r _ _ _
-      (reread_last (StopsCore c) (T d) _ (spell_statement s) (counts_statement d s) s c (AT d s propers (omega (arith, short, long, longer))) refl))))))
+      (subst (λ (u : List Token). rest_of u (counted d 0 ∷ (counts_option (counts_label d) t.1 ++ (counts_expr d 0 t.2 ++ counted d 0 ∷ counts_statement d s)))) (times_spelled t (spell_statement s))
+      (subst (λ (v : List Count). rest_of (spell_times t ++ spell_statement s) v) (times_counted d t (counts_statement d s))
+      (reread_part (StopsCore c) Anything (times_by X d) whole (spell_times t) (counts_times d t) t (spell_statement s) (counts_statement d s) c
+      (record { again = λ rest m. times_again X size (λ x e more q n w. (AX x e q n).again more w) TX d t rest propert (omega (arith, short, long, longer)) }) (λ more m. tt)
+      (reread_last (StopsCore c) (T d) _ (spell_statement s) (counts_statement d s) s c (AT d s propers (omega (arith, short, long, longer))) refl))))
 
   -- ---- if
 
@@ -221,7 +219,7 @@ module _ (X : Within ExprTree) (S : Within ConstraintTree) (T : Within Statement
   arm_again d (MakeArm l c s) proper short =
       let a = MakeArm l c s in
       let long = length-append (spell_arm_label l) (mark kind.Colon c ∷ spell_statement s) in
-      reread_part (IsNo kind.Else) Anything (arm_label_by X size d) _ (spell_arm_label l) (counts_arm_label d l) l (mark kind.Colon c ∷ spell_statement s) (counted d 0 ∷ counts_statement d s) a (arm_label_again X size AX d l proper.0 (omega (arith, short, long))) (λ rest m. tt)
+      reread_part (IsNo kind.Else) Anything (arm_label_by size d) _ (spell_arm_label l) (counts_arm_label d l) l (mark kind.Colon c ∷ spell_statement s) (counted d 0 ∷ counts_statement d s) a (arm_label_again X size AX d l proper.0 (omega (arith, short, long))) (λ rest m. tt)
       (reread_mark (IsNo kind.Else) kind.Colon _ _ c _ _ _
       (reread_last (IsNo kind.Else) (T d) _ (spell_statement s) (counts_statement d s) s a (in_row d s proper.1 (omega (arith, short, long))) refl))
 
@@ -263,7 +261,7 @@ module _ (X : Within ExprTree) (S : Within ConstraintTree) (T : Within Statement
   core_again d (CoreTogether the_together_word.Parallel p j l s r) proper short = record { again = λ rest m. (let h = (together_again d the_together_word.Parallel p j l s r proper.0 proper.1 short).again rest m in record { outcome = h.outcome; taken = h.taken }) }
   core_again d (CoreTogether the_together_word.Schedule p j l s r) proper short = record { again = λ rest m. (let h = (together_again d the_together_word.Schedule p j l s r proper.0 proper.1 short).again rest m in record { outcome = h.outcome; taken = h.taken }) }
   core_again d (CoreSelect p l f rs r) proper short = record { again = λ rest m. (let h = (select_again d p l f rs r proper.0 proper.1 short).again rest m in record { outcome = h.outcome; taken = h.taken }) }
-  core_again d (CoreRepeat p l i e r s) proper short = record { again = λ rest m. (let h = (repeated_again d p l i e r s proper.0 proper.1 short).again rest m in record { outcome = h.outcome; taken = h.taken }) }
+  core_again d (CoreRepeat p l i e r s) proper short = record { again = λ rest m. (let h = (repeated_again d p (l, i, e, r) s proper.0 proper.1 short).again rest m in record { outcome = h.outcome; taken = h.taken }) }
   core_again d (CoreIf i l e r t) proper short = record { again = λ rest m. (let h = (if_again d i l e r t proper.0 proper.1 short).again rest m in record { outcome = h.outcome; taken = h.taken }) }
   core_again d (CoreIfElse i l e r t x o) proper short = record { again = λ rest m. (let h = (if_else_again d i l e r t x o proper.0 proper.1 proper.2 proper.3 short).again rest m in record { outcome = h.outcome; taken = h.taken }) }
   core_again d (CoreMatch p l e r b f rs z) proper short = record { again = λ rest m. (let h = (match_again d p l e r b f rs z proper.0 proper.1 proper.2 short).again rest m in record { outcome = h.outcome; taken = h.taken }) }
@@ -344,6 +342,7 @@ statement_at_again zero d s proper short = absurd (omega (arith, short))
 statement_at_again (suc size) d s proper short =
     statement_again (outermost_at (suc size)) (constraint_at (suc size)) (statement_at size) size
     (λ x e p n. outermost_again (suc size) x e p (omega (arith, n)))
+    (λ x t e. expr_takes size x t e)
     (λ x c p n. set_again (suc size) x c p (omega (arith, n)))
     (statement_at_again size) d s proper (omega (arith, short))
 
@@ -351,5 +350,6 @@ pub activity_again : (size d : ℕ) (a : ActivityTree) (rest : List Token) → I
 activity_again size d a rest proper short stops =
     (activity_reread (outermost_at (suc size)) (constraint_at (suc size)) (statement_at size) size
     (λ x e p n. outermost_again (suc size) x e p (omega (arith, n)))
+    (λ x t e. expr_takes size x t e)
     (λ x c p n. set_again (suc size) x c p (omega (arith, n)))
     (statement_at_again size) d a proper (omega (arith, short))).again rest stops

@@ -1,5 +1,5 @@
 -- What the trees of activities spell, from the laws of their parsers.
-use Rattle.std.proofs.Common.{◌≡◌, ℕ, ◌<◌, ◌≤◌, length, drop, length-drop, Ok, Err, Result, List, Some, None, inl, ◌⊎◌, ◌∷◌, [], ◌++◌, arith}
+use Rattle.std.proofs.Common.{◌≡◌, ℕ, ◌<◌, ◌≤◌, length, drop, length-drop, Ok, Err, Result, List, Some, inl, ◌⊎◌, ◌∷◌, [], ◌++◌, arith}
 use Rattle.pst_token.specs.declared.token.Token.{Token}
 use Rattle.pst_ast.specs.ActivityTree.{ActivityTree}
 use Rattle.pst_ast.specs.ActivitySpelling.{spell_activity}

@@ -1,48 +1,17 @@
 -- What may follow the parts of activities, and what they begin with.
-use Rattle.std.proofs.Common.{◌≡◌, ℕ, zero, suc, ◌+◌, ◌-◌, ◌≤◌, ◌<◌, Bool, true, false, ◌||◌, if◌then◌else◌, List, [], ◌∷◌, ◌++◌, length, Some, Option, None, refl, sym, ap, subst, ◌∙◌, arith, append-nil, append_assoc, length-append}
-use Rattle.std.specs.List.{flat_map, AllByRecursion}
-use Rattle.pst_base.specs.declared.position.Place.{Place}
-use Rattle.pst_token.specs.declared.kind.Kind.{Kind}
+use Rattle.std.proofs.Common.{◌≡◌, ◌+◌, ◌-◌, ◌≤◌, Bool, true, false, List, ◌∷◌, ◌++◌, length, Some, Option, None, refl, sym, subst, arith, append_assoc, length-append}
 use Rattle.pst_token.specs.declared.kind.Kind.TheVariants as kind
 use Rattle.pst_token.specs.declared.token.Token.{Token}
-use Rattle.pst_ast.specs.declared.leaf.Name.{Name}
-use Rattle.pst_ast.specs.declared.shared.LabelNode.{LabelNode}
-use Rattle.pst_ast.specs.declared.shared.NextName.{NextName}
-use Rattle.pst_ast.specs.declared.shared.ScopedName.{ScopedName}
-use Rattle.pst_ast.specs.declared.shared.TypeName.{TypeName}
-use Rattle.pst_ast.specs.declared.activity.EndNode.{EndNode}
-use Rattle.pst_ast.specs.declared.activity.NextEnd.{NextEnd}
-use Rattle.pst_ast.specs.declared.activity.TogetherWord.{TogetherWord}
 use Rattle.pst_ast.specs.declared.activity.TogetherWord.TheVariants as the_together_word
-use Rattle.pst_ast.specs.Closing.{origin}
-use Rattle.pst_ast.specs.Marks.{mark, name_token, spell_option, OptionIs, together_word_kind}
-use Rattle.pst_ast.specs.Limits.{Count, counted, counts_option}
-use Rattle.pst_ast.specs.ExpressionTree.{ExprTree, ExprUnary, ExprBinary, ExprIn, UnaryPrefix, UnaryPrimary, PrimaryNumber, PrimaryTrue, PrimaryFalse, PrimaryPath, PrimaryGroup, PathDotted, PathItem, PathLongItem, MakePart, NoNextPartRow, MoreNextPartRow, NoIndex, SomeIndex, RangesTree, MakeRanges, RangeTree, RangeSingle, RangeBetween, NextRangeTree, MakeNextRange, NextRangeRow, NoNextRangeRow, MoreNextRangeRow}
-use Rattle.pst_ast.specs.ExpressionSpelling.{spell_expr, spell_ranges, spell_range, spell_next_range, spell_next_range_row}
-use Rattle.pst_ast.specs.ExpressionProper.{IsProperExpr, IsProperRanges, IsProperRange, IsProperNextRange, AreProperNextRange}
-use Rattle.pst_ast.specs.ExpressionLimits.{counts_expr}
-use Rattle.pst_ast.specs.SharedTree.{NamesTree, MakeNames}
-use Rattle.pst_ast.specs.SharedSpelling.{spell_label, spell_names, spell_next_name, spell_scoped_name, spell_type_name}
-use Rattle.pst_ast.specs.SharedProper.{IsProperNames}
-use Rattle.pst_ast.specs.SharedLimits.{counts_label, counts_names, counts_next_name, counts_scoped_name, counts_type_name, counts_own_range, counts_own_next_range, counts_own_range_row, counts_own_ranges}
-use Rattle.pst_ast.specs.ConstraintTree.{ConstraintTree}
-use Rattle.pst_ast.specs.ConstraintSpelling.{spell_constraint}
-use Rattle.pst_ast.specs.ConstraintProper.{IsProperConstraint, constraint_ends_open}
-use Rattle.pst_ast.specs.ConstraintLimits.{counts_constraint}
-use Rattle.pst_ast.specs.ActivityTree.{ActivityTree, MakeActivity, StatementTree, StatementEmpty, StatementLabeled, StatementPlain, CoreTree, CoreDo, CoreHandle, CoreSequence, CoreTogether, CoreSelect, CoreRepeat, CoreIf, CoreIfElse, CoreMatch, CoreBind, BranchTree, MakeBranch, ArmTree, MakeArm, GuardTree, GuardCondition, GuardWeight, WeightTree, MakeWeight, ArmLabelTree, ArmLabelRanges, ArmLabelDefault, JoinTree, JoinBranch, JoinNothing, JoinSelect, WithTree, WithNothing, WithSet, BindTree, MakeBind, OtherEndsTree, OtherEndsOne, OtherEndsSeveral, StatementRow, NoStatementRow, MoreStatementRow, BranchRow, NoBranchRow, MoreBranchRow, ArmRow, NoArmRow, MoreArmRow}
-use Rattle.pst_ast.specs.ActivitySpelling.{spell_activity, spell_statement, spell_core, spell_branch, spell_arm, spell_statement_row, spell_branch_row, spell_arm_row, spell_with, spell_join, spell_end, spell_next_end, spell_other_ends, spell_bind, spell_weight, spell_guard, spell_arm_label}
-use Rattle.pst_ast.specs.ActivityProper.{with_ends_open, statement_ends_open, core_ends_open, IsProperWith, IsProperJoin, IsProperOtherEnds, IsProperBind, IsProperWeight, IsProperGuard, IsProperArmLabel, IsProperStatement, IsProperCore, IsProperBranch, IsProperArm, AreProperStatement, AreProperBranch, AreProperArm, IsProperActivity}
-use Rattle.pst_ast.specs.ActivityLimits.{counts_activity, counts_statement, counts_core, counts_branch, counts_arm, counts_statement_row, counts_branch_row, counts_arm_row, counts_with, counts_join, counts_end, counts_next_end, counts_other_ends, counts_bind, counts_weight, counts_guard, counts_arm_label}
+use Rattle.pst_ast.specs.Marks.{mark, spell_option}
+use Rattle.pst_ast.specs.ActivityTree.{StatementTree, StatementEmpty, StatementLabeled, StatementPlain, CoreTree, CoreDo, CoreHandle, CoreSequence, CoreTogether, CoreSelect, CoreRepeat, CoreIf, CoreIfElse, CoreMatch, CoreBind, BranchTree, MakeBranch, ArmTree, MakeArm, GuardTree, GuardCondition, GuardWeight, WeightTree, MakeWeight, ArmLabelRanges, ArmLabelDefault, JoinTree, JoinBranch, JoinNothing, JoinSelect, WithTree, WithNothing, WithSet, MakeBind}
+use Rattle.pst_ast.specs.ActivitySpelling.{spell_statement, spell_core, spell_branch, spell_arm, spell_with, spell_join, spell_weight, spell_guard, spell_arm_label}
+use Rattle.pst_ast.specs.ActivityProper.{with_ends_open, statement_ends_open, core_ends_open}
 use Rattle.pst_reading.specs.Kinds.{is_mark, is_name, next_is}
-use Rattle.pst_reading.specs.Parser.{Parser, Done, Look, followed_by, next, mark_by, name_by, if_mark}
-use Rattle.pst_reading.specs.Lists.{list_by}
-use Rattle.pst_reading.specs.Options.{option_by, row_by}
-use Rattle.pst_parse_act.specs.Activities.{scoped_name_by, type_name_by, next_name_by, names_by, end_by, next_end_by, one_end_by, several_ends_by, other_ends_by, bind_by, branch_join_by, nothing_join_by, select_join_by, join_by, begins_join, weight_by, condition_guard_by, weight_guard_by, guard_by, begins_guard, between_by, range_by, next_range_by, range_row, next_ranges_by, ranges_by, ranges_label_by, default_label_by, arm_label_by, with_set_by, with_nothing_by, with_by, do_by, handle_by, statement_row, statements_by, sequence_word_by, sequence_by, together_by, branch_by, branch_row, branches_by, select_by, name_alone, index_of, CounterTree, counter_behind, counter_by, repeated_by, else_by, maybe_else_by, if_by, arm_by, arm_row, arms_by, match_by, bound_by, core_by, empty_by, labeled_by, traversed_by, named_by, plain_by, statement_by, statement_at, activity_by, activity_at}
-use Rattle.std.proofs.lemmas.Bool.{and_right}
-use Rattle.std.proofs.Common.{◌==◌}
-use Rattle.pst_parse_expr.specs.Constraints.{is_at, is_other}
-use Rattle.pst_parse_expr.specs.Operators.{operator_of, is_in, is_bare}
-use Rattle.pst_parse_expr.proofs.Stops.{IsNo, Separates, comma_closes, right_bracket_closes}
+use Rattle.pst_reading.specs.Parser.{next}
+use Rattle.pst_parse_act.specs.Activities.{begins_join, begins_guard}
+use Rattle.pst_parse_expr.specs.Constraints.{is_at}
+use Rattle.pst_parse_expr.proofs.Stops.{IsNo}
 
 -- behind a part that ends with an open `if` no `else` stands
 abbrev pub StopsWith : WithTree → Option Token → Type 0
@@ -53,25 +22,6 @@ StopsCore c next = core_ends_open c ≡ true → IsNo kind.Else next
 
 abbrev pub StopsStatement : StatementTree → Option Token → Type 0
 StopsStatement s next = statement_ends_open s ≡ true → IsNo kind.Else next
-
--- what ends a range, and a counter
-abbrev pub EndsRange : Option Token → Type 0
-EndsRange next = Separates 0 next × IsNo kind.DotDot next
-
-abbrev pub EndsCounter : Option Token → Type 0
-EndsCounter next = Separates 0 next × IsNo kind.Colon next
-
-pub colon_closes : (place : Place) → Separates 0 (Some (mark kind.Colon place))
-unfolding is_mark operator_of is_bare is_in
-colon_closes place = record { no_bracket = refl; no_dot = refl; no_colons = refl; loose = λ l le. (refl, and_right (l == 6) false refl) }
-
-pub comma_ends_range : (place : Place) → EndsRange (Some (mark kind.Comma place))
-unfolding is_mark
-comma_ends_range place = (comma_closes place, refl)
-
-pub bracket_ends_range : (place : Place) → EndsRange (Some (mark kind.RightBracket place))
-unfolding is_mark
-bracket_ends_range place = (right_bracket_closes place, refl)
 
 -- ---- what they begin with
 
@@ -174,6 +124,3 @@ some_branch (MakeBranch g s) = omega (arith, some_statement s, length-append (sp
 
 pub some_arm : (a : ArmTree) → 1 ≤ length (spell_arm a)
 some_arm (MakeArm l c s) = omega (arith, length-append (spell_arm_label l) (mark kind.Colon c ∷ spell_statement s))
-
-pub some_next_range : (r : NextRangeTree) → 1 ≤ length (spell_next_range r)
-some_next_range (MakeNextRange c r) = omega arith

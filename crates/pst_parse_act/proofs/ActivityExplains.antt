@@ -1,87 +1,48 @@
 -- What the rules of activities explain.
-use Rattle.std.proofs.Common.{◌≡◌, ℕ, zero, suc, ◌+◌, ◌-◌, ◌≤◌, ◌<◌, Bool, true, false, ◌||◌, if◌then◌else◌, List, [], ◌∷◌, ◌++◌, length, Some, Option, None, refl, sym, ap, subst, ◌∙◌, arith, append-nil, append_assoc, length-append}
+use Rattle.std.proofs.Common.{◌≡◌, ℕ, zero, suc, ◌+◌, ◌-◌, Bool, true, false, if◌then◌else◌, List, [], ◌∷◌, ◌++◌, Some, refl, ap, append-nil}
 use Rattle.std.specs.List.{flat_map, AllByRecursion}
 use Rattle.pst_base.specs.declared.position.Place.{Place}
-use Rattle.pst_token.specs.declared.kind.Kind.{Kind}
 use Rattle.pst_token.specs.declared.kind.Kind.TheVariants as kind
 use Rattle.pst_token.specs.declared.token.Token.{Token}
-use Rattle.pst_ast.specs.declared.leaf.Name.{Name}
-use Rattle.pst_ast.specs.declared.shared.LabelNode.{LabelNode}
-use Rattle.pst_ast.specs.declared.shared.NextName.{NextName}
-use Rattle.pst_ast.specs.declared.shared.ScopedName.{ScopedName}
-use Rattle.pst_ast.specs.declared.shared.TypeName.{TypeName}
-use Rattle.pst_ast.specs.declared.activity.EndNode.{EndNode}
-use Rattle.pst_ast.specs.declared.activity.NextEnd.{NextEnd}
 use Rattle.pst_ast.specs.declared.activity.TogetherWord.{TogetherWord}
 use Rattle.pst_ast.specs.declared.activity.TogetherWord.TheVariants as the_together_word
 use Rattle.pst_ast.specs.Closing.{origin}
 use Rattle.pst_ast.specs.Marks.{mark, name_token, spell_option, OptionIs, together_word_kind}
 use Rattle.pst_ast.specs.Limits.{Count, counted, counts_option}
-use Rattle.pst_ast.specs.ExpressionTree.{ExprTree, ExprUnary, ExprBinary, ExprIn, UnaryPrefix, UnaryPrimary, PrimaryNumber, PrimaryTrue, PrimaryFalse, PrimaryPath, PrimaryGroup, PathDotted, PathItem, PathLongItem, MakePart, NoNextPartRow, MoreNextPartRow, NoIndex, SomeIndex, RangesTree, MakeRanges, RangeTree, RangeSingle, RangeBetween, NextRangeTree, MakeNextRange, NextRangeRow, NoNextRangeRow, MoreNextRangeRow}
-use Rattle.pst_ast.specs.ExpressionSpelling.{spell_expr, spell_ranges, spell_range, spell_next_range, spell_next_range_row}
-use Rattle.pst_ast.specs.ExpressionProper.{IsProperExpr, IsProperRanges, IsProperRange, IsProperNextRange, AreProperNextRange}
+use Rattle.pst_ast.specs.ExpressionTree.{ExprTree}
+use Rattle.pst_ast.specs.ExpressionSpelling.{spell_expr, spell_ranges}
+use Rattle.pst_ast.specs.ExpressionProper.{IsProperExpr, IsProperRanges}
 use Rattle.pst_ast.specs.ExpressionLimits.{counts_expr}
-use Rattle.pst_ast.specs.SharedTree.{NamesTree, MakeNames}
-use Rattle.pst_ast.specs.SharedSpelling.{spell_label, spell_names, spell_next_name, spell_scoped_name, spell_type_name}
+use Rattle.pst_ast.specs.SharedSpelling.{spell_names, spell_type_name}
 use Rattle.pst_ast.specs.SharedProper.{IsProperNames}
-use Rattle.pst_ast.specs.SharedLimits.{counts_label, counts_names, counts_next_name, counts_scoped_name, counts_type_name, counts_own_range, counts_own_next_range, counts_own_range_row, counts_own_ranges}
+use Rattle.pst_ast.specs.SharedLimits.{counts_names, counts_type_name, counts_own_ranges}
 use Rattle.pst_ast.specs.ConstraintTree.{ConstraintTree}
 use Rattle.pst_ast.specs.ConstraintSpelling.{spell_constraint}
-use Rattle.pst_ast.specs.ConstraintProper.{IsProperConstraint, constraint_ends_open}
+use Rattle.pst_ast.specs.ConstraintProper.{IsProperConstraint}
 use Rattle.pst_ast.specs.ConstraintLimits.{counts_constraint}
-use Rattle.pst_ast.specs.ActivityTree.{ActivityTree, MakeActivity, StatementTree, StatementEmpty, StatementLabeled, StatementPlain, CoreTree, CoreDo, CoreHandle, CoreSequence, CoreTogether, CoreSelect, CoreRepeat, CoreIf, CoreIfElse, CoreMatch, CoreBind, BranchTree, MakeBranch, ArmTree, MakeArm, GuardTree, GuardCondition, GuardWeight, WeightTree, MakeWeight, ArmLabelTree, ArmLabelRanges, ArmLabelDefault, JoinTree, JoinBranch, JoinNothing, JoinSelect, WithTree, WithNothing, WithSet, BindTree, MakeBind, OtherEndsTree, OtherEndsOne, OtherEndsSeveral, StatementRow, NoStatementRow, MoreStatementRow, BranchRow, NoBranchRow, MoreBranchRow, ArmRow, NoArmRow, MoreArmRow}
+use Rattle.pst_ast.specs.ActivityTree.{MakeActivity, StatementTree, StatementEmpty, StatementLabeled, StatementPlain, CoreTree, CoreDo, CoreHandle, CoreSequence, CoreTogether, CoreSelect, CoreRepeat, CoreIf, CoreIfElse, CoreMatch, CoreBind, MakeBranch, MakeArm, GuardCondition, GuardWeight, MakeWeight, ArmLabelRanges, ArmLabelDefault, JoinBranch, JoinNothing, JoinSelect, WithNothing, WithSet, MakeBind, OtherEndsOne, OtherEndsSeveral}
 use Rattle.pst_ast.specs.ActivitySpelling.{spell_activity, spell_statement, spell_core, spell_branch, spell_arm, spell_statement_row, spell_branch_row, spell_arm_row, spell_with, spell_join, spell_end, spell_next_end, spell_other_ends, spell_bind, spell_weight, spell_guard, spell_arm_label}
-use Rattle.pst_ast.specs.ActivityProper.{with_ends_open, statement_ends_open, core_ends_open, IsProperWith, IsProperJoin, IsProperOtherEnds, IsProperBind, IsProperWeight, IsProperGuard, IsProperArmLabel, IsProperStatement, IsProperCore, IsProperBranch, IsProperArm, AreProperStatement, AreProperBranch, AreProperArm, IsProperActivity}
+use Rattle.pst_ast.specs.ActivityProper.{statement_ends_open, IsProperWith, IsProperJoin, IsProperOtherEnds, IsProperBind, IsProperWeight, IsProperGuard, IsProperArmLabel, IsProperStatement, IsProperCore, IsProperBranch, IsProperArm, AreProperStatement, AreProperBranch, AreProperArm, IsProperActivity}
 use Rattle.pst_ast.specs.ActivityLimits.{counts_activity, counts_statement, counts_core, counts_branch, counts_arm, counts_statement_row, counts_branch_row, counts_arm_row, counts_with, counts_join, counts_end, counts_next_end, counts_other_ends, counts_bind, counts_weight, counts_guard, counts_arm_label}
-use Rattle.pst_reading.specs.Kinds.{is_mark, is_name, next_is}
-use Rattle.pst_reading.specs.Parser.{Parser, Done, Look, followed_by, next, mark_by, name_by, if_mark}
+use Rattle.pst_reading.specs.Kinds.{is_name, next_is}
+use Rattle.pst_reading.specs.Parser.{Done}
 use Rattle.pst_reading.specs.Lists.{list_by}
-use Rattle.pst_reading.specs.Options.{option_by, row_by}
-use Rattle.pst_parse_act.specs.Activities.{scoped_name_by, type_name_by, next_name_by, names_by, end_by, next_end_by, one_end_by, several_ends_by, other_ends_by, bind_by, branch_join_by, nothing_join_by, select_join_by, join_by, begins_join, weight_by, condition_guard_by, weight_guard_by, guard_by, begins_guard, between_by, range_by, next_range_by, range_row, next_ranges_by, ranges_by, ranges_label_by, default_label_by, arm_label_by, with_set_by, with_nothing_by, with_by, do_by, handle_by, statement_row, statements_by, sequence_word_by, sequence_by, together_by, branch_by, branch_row, branches_by, select_by, name_alone, index_of, CounterTree, counter_behind, counter_by, repeated_by, else_by, maybe_else_by, if_by, arm_by, arm_row, arms_by, match_by, bound_by, core_by, empty_by, labeled_by, traversed_by, named_by, plain_by, statement_by, statement_at, activity_by, activity_at}
+use Rattle.pst_parse_act.specs.Activities.{end_by, next_end_by, other_ends_by, bind_by, join_by, begins_join, weight_by, guard_by, begins_guard, arm_label_by, with_by, do_by, handle_by, statement_row, statements_by, sequence_word_by, sequence_by, together_by, branch_by, branch_row, branches_by, select_by, repeated_by, maybe_else_by, if_by, arm_by, arm_row, arms_by, match_by, bound_by, core_by, named_by, plain_by, statement_by, statement_at, activity_by, activity_at}
 use Rattle.pst_reading.proofs.Explaining.{Meaning, Means, Behind, Explains, refused_here}
 use Rattle.pst_reading.proofs.Accounts.{Accounts, account_done, account_mark, account_name, account_part, account_if_mark, account_look, account_test, account_word, account_option, account_list, account_row}
 use Rattle.pst_parse_expr.specs.Constraints.{Within, is_at, is_other, outermost_at, constraint_at}
 use Rattle.pst_parse_expr.proofs.Answering.{explains}
 use Rattle.pst_parse_expr.proofs.ConstraintExplains.{constraint_explains}
-use Rattle.pst_parse_act.proofs.ActivityRows.{IsAny, spell_word, counts_word, spell_counter, counts_counter, IsProperCounter, name_expr, alone_is, statements_spelled, statements_counted, statements_proper, branches_spelled, branches_counted, branches_proper, arms_spelled, arms_counted, arms_proper, ranges_spelled, ranges_counted, ranges_proper}
-
--- ---- names
-
-scoped_name_explains : (d : ℕ) → Accounts (Means spell_scoped_name IsAny (counts_scoped_name d)) (scoped_name_by d)
-scoped_name_explains d =
-    let M = Means spell_scoped_name IsAny (counts_scoped_name d) in
-    account_mark M kind.ColonColon _ _ (λ colons.
-    let M1 = Behind M (mark kind.ColonColon colons ∷ []) (counted d 0 ∷ []) in
-    account_name M1 _ _ (λ name.
-    let M2 = Behind M1 (name_token name ∷ []) (counted d 0 ∷ []) in
-    account_done M2 (record { colons = colons; name = name }) (record { is = refl; proper = tt; counted = refl })))
-
-type_name_explains : (d : ℕ) → Accounts (Means spell_type_name IsAny (counts_type_name d)) (type_name_by d)
-type_name_explains d =
-    let M = Means spell_type_name IsAny (counts_type_name d) in
-    account_name M _ _ (λ first.
-    let M1 = Behind M (name_token first ∷ []) (counted d 0 ∷ []) in
-    account_part M1 (spell_option spell_scoped_name) (OptionIs IsAny) (counts_option (counts_scoped_name d)) _ _ (account_option spell_scoped_name IsAny (counts_scoped_name d) (is_at kind.ColonColon) (scoped_name_by d) (scoped_name_explains d)) (λ second p.
-    let M2 = Behind M1 (spell_option spell_scoped_name second) (counts_option (counts_scoped_name d) second) in
-    account_done M2 (record { first = first; second = second }) (record { is = rw append-nil refl; proper = tt; counted = rw append-nil refl })))
-
-next_name_explains : (d : ℕ) → Accounts (Means spell_next_name IsAny (counts_next_name d)) (next_name_by d)
-next_name_explains d =
-    let M = Means spell_next_name IsAny (counts_next_name d) in
-    account_mark M kind.Comma _ _ (λ comma.
-    let M1 = Behind M (mark kind.Comma comma ∷ []) (counted d 0 ∷ []) in
-    account_name M1 _ _ (λ name.
-    let M2 = Behind M1 (name_token name ∷ []) (counted d 0 ∷ []) in
-    account_done M2 (record { comma = comma; name = name }) (record { is = refl; proper = tt; counted = refl })))
-
-names_explains : (turns d : ℕ) → Accounts (Means spell_names IsProperNames (counts_names d)) (names_by turns d)
-names_explains turns d =
-    let M = Means spell_names IsProperNames (counts_names d) in
-    account_name M _ _ (λ first.
-    let M1 = Behind M (name_token first ∷ []) (counted d 0 ∷ []) in
-    account_part M1 (flat_map spell_next_name) (AllByRecursion IsAny) (flat_map (counts_next_name d)) _ _ (account_list spell_next_name IsAny (counts_next_name d) (is_at kind.Comma) (next_name_by d) (next_name_explains d) turns) (λ rest p.
-    let M2 = Behind M1 (flat_map spell_next_name rest) (flat_map (counts_next_name d) rest) in
-    account_done M2 (MakeNames first rest) (record { is = rw append-nil refl; proper = tt; counted = rw append-nil refl })))
+use Rattle.pst_parse_act.proofs.ActivityRows.{spell_word, counts_word, statements_spelled, statements_counted, statements_proper, branches_spelled, branches_counted, branches_proper, arms_spelled, arms_counted, arms_proper}
+use Rattle.pst_parse_expr.proofs.SharedLaws.{IsAny}
+use Rattle.pst_parse_expr.proofs.Takes.{expr_takes}
+use Rattle.pst_reading.proofs.Peeking.{takes}
+use Rattle.pst_parse_part.proofs.TimesExplain.{spell_times, IsProperTimes, counts_times, times_explains, times_spelled, times_counted}
+use Rattle.pst_parse_part.proofs.RangesExplain.{ranges_explains}
+use Rattle.pst_parse_part.proofs.NamesExplain.{type_name_explains, names_explains}
+use Rattle.pst_parse_part.specs.Times.{times_by}
+use Rattle.pst_parse_part.specs.Ranges.{ranges_by}
+use Rattle.pst_parse_part.specs.Names.{names_by, type_name_by}
 
 -- ---- bind
 
@@ -144,7 +105,7 @@ module _ (X : Within ExprTree) (turns : ℕ) (EX : (d : ℕ) → Accounts (Means
       let M1 = Behind M (mark kind.JoinBranch word ∷ []) (counted d 0 ∷ []) in
       account_mark M1 kind.LeftParenthesis _ _ (λ left.
       let M2 = Behind M1 (mark kind.LeftParenthesis left ∷ []) (counted d 0 ∷ []) in
-      account_part M2 spell_names IsProperNames (counts_names d) _ _ (names_explains turns d) (λ names p.
+      account_part M2 spell_names IsProperNames (counts_names d) (names_by turns d) _ (record { all = names_explains turns d }) (λ names p.
       let M3 = Behind M2 (spell_names names) (counts_names d names) in
       account_mark M3 kind.RightParenthesis _ _ (λ right.
       let M4 = Behind M3 (mark kind.RightParenthesis right ∷ []) (counted d 0 ∷ []) in
@@ -195,47 +156,13 @@ module _ (X : Within ExprTree) (turns : ℕ) (EX : (d : ℕ) → Accounts (Means
       let M7 = Behind M6 (mark kind.Colon colon ∷ []) (counted d 0 ∷ []) in
       account_done M7 (GuardWeight weight colon) (record { is = refl; proper = p; counted = refl }))))
 
-  range_explains : (d : ℕ) → Accounts (Means spell_range IsProperRange (counts_own_range d)) (range_by X d)
-  range_explains d =
-      let M = Means spell_range IsProperRange (counts_own_range d) in
-      account_part M spell_expr IsProperExpr (counts_expr d 0) _ _ (EX d) (λ low p.
-      let M1 = Behind M (spell_expr low) (counts_expr d 0 low) in
-      account_if_mark M1 kind.DotDot _ _
-      (account_mark M1 kind.DotDot _ _ (λ dots.
-      let M2 = Behind M1 (mark kind.DotDot dots ∷ []) (counted d 0 ∷ []) in
-      account_part M2 spell_expr IsProperExpr (counts_expr d 0) _ _ (EX d) (λ high q.
-      let M3 = Behind M2 (spell_expr high) (counts_expr d 0 high) in
-      account_done M3 (RangeBetween low dots high) (record { is = rw append-nil refl; proper = (p, q); counted = rw append-nil refl }))))
-      (account_done M1 (RangeSingle low) (record { is = append-nil (spell_expr low); proper = p; counted = append-nil (counts_expr d 0 low) })))
-
-  next_range_explains : (d : ℕ) → Accounts (Means spell_next_range IsProperNextRange (counts_own_next_range d)) (next_range_by X d)
-  next_range_explains d =
-      let M = Means spell_next_range IsProperNextRange (counts_own_next_range d) in
-      account_mark M kind.Comma _ _ (λ comma.
-      let M1 = Behind M (mark kind.Comma comma ∷ []) (counted d 0 ∷ []) in
-      account_part M1 spell_range IsProperRange (counts_own_range d) _ _ (range_explains d) (λ range p.
-      let M2 = Behind M1 (spell_range range) (counts_own_range d range) in
-      account_done M2 (MakeNextRange comma range) (record { is = rw append-nil refl; proper = p; counted = rw append-nil refl })))
-
-  next_ranges_explains : (d : ℕ) → Accounts (Means spell_next_range_row AreProperNextRange (counts_own_range_row d)) (next_ranges_by X turns d)
-  next_ranges_explains d = account_row spell_next_range IsProperNextRange (counts_own_next_range d) range_row spell_next_range_row AreProperNextRange (counts_own_range_row d) ranges_spelled ranges_proper (ranges_counted d) (list_by (is_at kind.Comma) (next_range_by X d) turns) (account_list spell_next_range IsProperNextRange (counts_own_next_range d) (is_at kind.Comma) (next_range_by X d) (next_range_explains d) turns)
-
-  ranges_explains : (d : ℕ) → Accounts (Means spell_ranges IsProperRanges (counts_own_ranges d)) (ranges_by X turns d)
-  ranges_explains d =
-      let M = Means spell_ranges IsProperRanges (counts_own_ranges d) in
-      account_part M spell_range IsProperRange (counts_own_range d) _ _ (range_explains d) (λ first p.
-      let M1 = Behind M (spell_range first) (counts_own_range d first) in
-      account_part M1 spell_next_range_row AreProperNextRange (counts_own_range_row d) _ _ (next_ranges_explains d) (λ rest q.
-      let M2 = Behind M1 (spell_next_range_row rest) (counts_own_range_row d rest) in
-      account_done M2 (MakeRanges first rest) (record { is = ap (λ (u : List Token). spell_range first ++ u) (append-nil (spell_next_range_row rest)); proper = (p, q); counted = ap (λ (u : List Count). counts_own_range d first ++ u) (append-nil (counts_own_range_row d rest)) })))
-
-  arm_label_explains : (d : ℕ) → Accounts (Means spell_arm_label IsProperArmLabel (counts_arm_label d)) (arm_label_by X turns d)
+  arm_label_explains : (d : ℕ) → Accounts (Means spell_arm_label IsProperArmLabel (counts_arm_label d)) (arm_label_by turns d)
   arm_label_explains d =
       let M = Means spell_arm_label IsProperArmLabel (counts_arm_label d) in
       account_if_mark M kind.LeftBracket _ _
       (account_mark M kind.LeftBracket _ _ (λ left.
       let M1 = Behind M (mark kind.LeftBracket left ∷ []) (counted d 0 ∷ []) in
-      account_part M1 spell_ranges IsProperRanges (counts_own_ranges d) _ _ (ranges_explains d) (λ ranges p.
+      account_part M1 spell_ranges IsProperRanges (counts_own_ranges d) (ranges_by turns d) _ (record { all = ranges_explains turns d }) (λ ranges p.
       let M2 = Behind M1 (spell_ranges ranges) (counts_own_ranges d ranges) in
       account_mark M2 kind.RightBracket _ _ (λ right.
       let M3 = Behind M2 (mark kind.RightBracket right ∷ []) (counted d 0 ∷ []) in
@@ -243,36 +170,6 @@ module _ (X : Within ExprTree) (turns : ℕ) (EX : (d : ℕ) → Accounts (Means
       (account_mark M kind.Default _ _ (λ place.
       let M4 = Behind M (mark kind.Default place ∷ []) (counted d 0 ∷ []) in
       account_done M4 (ArmLabelDefault place) (record { is = refl; proper = tt; counted = refl })))
-
-  counter_explains : (d : ℕ) → Accounts (Means spell_counter IsProperCounter (counts_counter d)) (counter_by X d)
-  counter_explains d =
-      let M = Means spell_counter IsProperCounter (counts_counter d) in
-      account_part M spell_expr IsProperExpr (counts_expr d 0) (X d) _ (EX d) (λ head p.
-      let M1 = Behind M (spell_expr head) (counts_expr d 0 head) in
-      account_look (Counter head) (λ n. counter_behind X d head (index_of (is_at kind.Colon n) head)) (λ n. behind head p (is_at kind.Colon n)))
-    where
-      Counter : ExprTree → Meaning CounterTree
-      Counter head = Behind (Means spell_counter IsProperCounter (counts_counter d)) (spell_expr head) (counts_expr d 0 head)
-
-      alone : (head : ExprTree) → IsProperExpr head → Accounts (Counter head) (Done (None, head))
-      alone head p = account_done (Counter head) (None, head) (record { is = append-nil (spell_expr head); proper = p; counted = append-nil (counts_expr d 0 head) })
-
-      labeled : (name : Name) → Accounts (Counter (name_expr name)) (counter_behind X d (name_expr name) (Some name))
-      labeled name =
-          let M = Counter (name_expr name) in
-          account_mark M kind.Colon _ _ (λ colon.
-          let M1 = Behind M (mark kind.Colon colon ∷ []) (counted d 0 ∷ []) in
-          account_part M1 spell_expr IsProperExpr (counts_expr d 0) _ _ (EX d) (λ count q.
-          let M2 = Behind M1 (spell_expr count) (counts_expr d 0 count) in
-          account_done M2 (Some (record { name = name; colon = colon }), count) (record { is = rw append-nil refl; proper = q; counted = rw append-nil refl })))
-
-      found : (head : ExprTree) → IsProperExpr head → (o : Option Name) → name_alone head ≡ o → Accounts (Counter head) (counter_behind X d head o)
-      found head p None e = alone head p
-      found head p (Some name) e = subst (λ (h : ExprTree). Accounts (Counter h) (counter_behind X d h (Some name))) (sym (alone_is head name e)) (labeled name)
-
-      behind : (head : ExprTree) → IsProperExpr head → (b : Bool) → Accounts (Counter head) (counter_behind X d head (index_of b head))
-      behind head p true = found head p (name_alone head) refl
-      behind head p false = alone head p
 
 with_explains : (S : Within ConstraintTree) → ((d : ℕ) → Accounts (Means spell_constraint IsProperConstraint (counts_constraint d)) (S d)) → (d : ℕ) → Accounts (Means spell_with IsProperWith (counts_with d)) (with_by S d)
 with_explains S ES d =
@@ -287,7 +184,7 @@ with_explains S ES d =
     let M3 = Behind M (mark kind.Semicolon place ∷ []) (counted d 0 ∷ []) in
     account_done M3 (WithNothing place) (record { is = refl; proper = tt; counted = refl })))
 
-module _ (X : Within ExprTree) (S : Within ConstraintTree) (T : Within StatementTree) (turns : ℕ) (EX : (d : ℕ) → Accounts (Means spell_expr IsProperExpr (counts_expr d 0)) (X d)) (ES : (d : ℕ) → Accounts (Means spell_constraint IsProperConstraint (counts_constraint d)) (S d)) (ET : (d : ℕ) → Accounts (Means spell_statement IsProperStatement (counts_statement d)) (T d)) where
+module _ (X : Within ExprTree) (S : Within ConstraintTree) (T : Within StatementTree) (turns : ℕ) (EX : (d : ℕ) → Accounts (Means spell_expr IsProperExpr (counts_expr d 0)) (X d)) (TX : (d : ℕ) (t : Token) → is_name t ≡ true → takes (X d) t ≡ Some (counted d 0)) (ES : (d : ℕ) → Accounts (Means spell_constraint IsProperConstraint (counts_constraint d)) (S d)) (ET : (d : ℕ) → Accounts (Means spell_statement IsProperStatement (counts_statement d)) (T d)) where
   abbrev IsCore : ℕ → Meaning CoreTree
   IsCore d = Means spell_core IsProperCore (counts_core d)
 
@@ -296,7 +193,7 @@ module _ (X : Within ExprTree) (S : Within ConstraintTree) (T : Within Statement
       let M = IsCore d in
       account_mark M kind.Do _ _ (λ word.
       let M1 = Behind M (mark kind.Do word ∷ []) (counted d 0 ∷ []) in
-      account_part M1 spell_type_name IsAny (counts_type_name d) _ _ (type_name_explains d) (λ name p.
+      account_part M1 spell_type_name IsAny (counts_type_name d) (type_name_by d) _ (record { all = type_name_explains d }) (λ name p.
       let M2 = Behind M1 (spell_type_name name) (counts_type_name d name) in
       account_part M2 spell_with IsProperWith (counts_with d) _ _ (with_explains S ES d) (λ w q.
       let M3 = Behind M2 (spell_with w) (counts_with d w) in
@@ -374,19 +271,15 @@ module _ (X : Within ExprTree) (S : Within ConstraintTree) (T : Within Statement
       let M = IsCore d in
       account_mark M kind.Repeat _ _ (λ word.
       let M1 = Behind M (mark kind.Repeat word ∷ []) (counted d 0 ∷ []) in
-      account_mark M1 kind.LeftParenthesis _ _ (λ left.
-      let M2 = Behind M1 (mark kind.LeftParenthesis left ∷ []) (counted d 0 ∷ []) in
-      account_part M2 spell_counter IsProperCounter (counts_counter d) _ _ (counter_explains X turns EX d) (λ k p.
-      let M3 = Behind M2 (spell_counter k) (counts_counter d k) in
-      account_mark M3 kind.RightParenthesis _ _ (λ right.
-      let M4 = Behind M3 (mark kind.RightParenthesis right ∷ []) (counted d 0 ∷ []) in
-      account_part M4 spell_statement IsProperStatement (counts_statement d) _ _ (ET d) (λ statement q.
-      let M5 = Behind M4 (spell_statement statement) (counts_statement d statement) in
-      account_done M5 (CoreRepeat word left k.0 k.1 right statement) (record {
-        is = ap (λ (u : List Token). mark kind.Repeat word ∷ mark kind.LeftParenthesis left ∷ u) (ap (λ (u : List Token). spell_counter k ++ mark kind.RightParenthesis right ∷ u) (append-nil (spell_statement statement)) ∙ append_assoc (spell_option spell_label k.0) (spell_expr k.1) (mark kind.RightParenthesis right ∷ spell_statement statement));
+      account_part M1 spell_times IsProperTimes (counts_times d) (times_by X d) _ (record { all = times_explains X (λ x. (EX x).all) TX d }) (λ t p.
+      let M2 = Behind M1 (spell_times t) (counts_times d t) in
+      account_part M2 spell_statement IsProperStatement (counts_statement d) _ _ (ET d) (λ statement q.
+      let M3 = Behind M2 (spell_statement statement) (counts_statement d statement) in
+      account_done M3 (CoreRepeat word t.0 t.1 t.2 t.3 statement) (record {
+        is = rw append-nil (ap (λ (u : List Token). mark kind.Repeat word ∷ u) (times_spelled t (spell_statement statement)));
         proper = (p, q);
-        counted = ap (λ (u : List Count). counted d 0 ∷ counted d 0 ∷ u) (ap (λ (u : List Count). counts_counter d k ++ counted d 0 ∷ u) (append-nil (counts_statement d statement)) ∙ append_assoc (counts_option (counts_label d) k.0) (counts_expr d 0 k.1) (counted d 0 ∷ counts_statement d statement));
-      }))))))
+        counted = rw append-nil (ap (λ (u : List Count). counted d 0 ∷ u) (times_counted d t (counts_statement d statement)));
+      }))))
 
   if_explains : (d : ℕ) → Accounts (IsCore d) (if_by X T d)
   if_explains d =
@@ -527,7 +420,7 @@ module _ (X : Within ExprTree) (S : Within ConstraintTree) (T : Within Statement
 pub statement_at_explains : (size d : ℕ) → Accounts (Means spell_statement IsProperStatement (counts_statement d)) (statement_at size d)
 unfolding statement_at
 statement_at_explains zero d = record { all = λ ts. refused_here (Means spell_statement IsProperStatement (counts_statement d)) ts (record { value = StatementEmpty origin; text = mark kind.Semicolon origin ∷ []; counts = counted (suc d) 0 ∷ []; more = mark kind.Semicolon origin ∷ []; spelled = record { is = refl; proper = tt; counted = refl }; is = refl }) }
-statement_at_explains (suc size) d = statement_explains (outermost_at (suc size)) (constraint_at (suc size)) (statement_at size) size (λ x. record { all = explains x (suc size) }) (λ x. record { all = constraint_explains (suc size) x }) (statement_at_explains size) d
+statement_at_explains (suc size) d = statement_explains (outermost_at (suc size)) (constraint_at (suc size)) (statement_at size) size (λ x. record { all = explains x (suc size) }) (λ x t e. expr_takes size x t e) (λ x. record { all = constraint_explains (suc size) x }) (statement_at_explains size) d
 
 pub activity_explains : (size d : ℕ) → Explains (Means spell_activity IsProperActivity (counts_activity d)) (activity_at size d)
-activity_explains size d = (activity_explained (outermost_at size) (constraint_at size) (statement_at size) size (λ x. record { all = explains x size }) (λ x. record { all = constraint_explains size x }) (statement_at_explains size) d).all
+activity_explains size d = (activity_explained (outermost_at (suc size)) (constraint_at size) (statement_at size) size (λ x. record { all = explains x (suc size) }) (λ x t e. expr_takes size x t e) (λ x. record { all = constraint_explains size x }) (statement_at_explains size) d).all

@@ -1,9 +1,8 @@
 -- What the next token decides, at a place.
-use Rattle.std.proofs.Common.{◌≡◌, ℕ, suc, ◌+◌, ◌≤◌, Bool, true, false, if◌then◌else◌, List, length, drop, Option, refl, ap, ◌∙◌, arith}
+use Rattle.std.proofs.Common.{◌≡◌, ℕ, ◌≤◌, Bool, true, false, if◌then◌else◌, List, drop, refl, ap, ◌∙◌, arith}
 use Rattle.pst_base.specs.declared.position.Place.{Place}
 use Rattle.pst_token.specs.declared.kind.Kind.TheVariants as kind
 use Rattle.pst_token.specs.declared.token.Token.{Token}
-use Rattle.pst_ast.specs.declared.leaf.Name.{Name}
 use Rattle.pst_ast.specs.Limits.{is_over}
 use Rattle.pst_ast.specs.declared.fault.SyntaxFault.{SyntaxFault}
 use Rattle.pst_ast.specs.declared.fault.SyntaxFault.TheVariants as the_fault
@@ -14,15 +13,7 @@ use Rattle.pst_ast.specs.ExpressionTree.{ExprTree}
 use Rattle.pst_reading.specs.Parser.{Done, Look, Outcome, Refused, TooDeep, run, next}
 use Rattle.pst_reading.specs.Gives.{Family, SettlesFrom, FailsFrom}
 use Rattle.pst_reading.proofs.Reaching.{Reaches, choose}
-use Rattle.pst_parse_expr.specs.Constraints.{is_at, outermost_at}
-use Rattle.pst_parse_act.specs.Activities.{CounterTree, counter_behind, index_of, maybe_else_by, else_by, statement_at}
-
--- whether what was read is an index
-pub decided : (whole : Family CounterTree) (tokens : List Token) (start at d : ℕ) (head : ExprTree) (place : ℕ) (o : Option Name) → index_of (is_at kind.Colon (next (drop place tokens))) head ≡ o → Reaches whole tokens start at (λ m n. Look (λ next. counter_behind (outermost_at (suc m)) d head (index_of (is_at kind.Colon next) head))) place → Reaches whole tokens start at (λ m n. counter_behind (outermost_at (suc m)) d head o) place
-decided whole tokens start at d head place o e r = record {
-  same = λ size prefixes m n. r.same size prefixes m n ∙ ap (λ (x : Option Name). run is_over (counter_behind (outermost_at (suc size)) d head x) (drop place tokens)) e;
-  from = r.from;
-}
+use Rattle.pst_parse_act.specs.Activities.{maybe_else_by, else_by, statement_at}
 
 -- a name, or not
 pub name_decides : {A : Type 0} (whole : Family A) (tokens : List Token) (start at : ℕ) (p q : Family A) (place : ℕ) (b : Bool) → next_is is_name (next (drop place tokens)) ≡ b → Reaches whole tokens start at (λ m n. Look (λ next. if next_is is_name next then p m n else q m n)) place → Reaches whole tokens start at (λ m n. if b then p m n else q m n) place

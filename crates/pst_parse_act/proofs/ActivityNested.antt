@@ -1,5 +1,5 @@
 -- Sets of constraints and statements within other parts.
-use Rattle.std.proofs.Common.{◌≡◌, ℕ, suc, ◌<◌, ◌≤◌, List, length, refl, subst}
+use Rattle.std.proofs.Common.{◌≡◌, ℕ, suc, ◌<◌, ◌≤◌, List, length, subst}
 use Rattle.pst_token.specs.declared.token.Token.{Token}
 use Rattle.pst_ast.specs.declared.fault.SyntaxFault.{SyntaxFault}
 use Rattle.pst_ast.specs.declared.fault.SyntaxFault.TheVariants as the_fault

@@ -1,37 +1,22 @@
 -- No activity has the token `End` in it.
-use Rattle.std.proofs.Common.{List, [], ◌∷◌, ◌++◌, Option, Some, None}
+use Rattle.std.proofs.Common.{List, [], ◌∷◌, Option, Some, None}
 use Rattle.std.specs.List.{flat_map}
-use Rattle.pst_token.specs.declared.kind.Kind.TheVariants as kind
-use Rattle.pst_ast.specs.declared.shared.NextName.{NextName}
 use Rattle.pst_ast.specs.declared.shared.LabelNode.{LabelNode}
-use Rattle.pst_ast.specs.declared.shared.TypeName.{TypeName}
-use Rattle.pst_ast.specs.declared.shared.ScopedName.{ScopedName}
 use Rattle.pst_ast.specs.declared.activity.NextEnd.{NextEnd}
-use Rattle.pst_ast.specs.declared.activity.TogetherWord.{TogetherWord}
 use Rattle.pst_ast.specs.declared.activity.TogetherWord.TheVariants as the_together_word
-use Rattle.pst_base.specs.declared.position.Place.{Place}
-use Rattle.pst_ast.specs.Marks.{mark, spell_option}
-use Rattle.pst_ast.specs.ExpressionTree.{RangesTree, MakeRanges, RangeTree, RangeSingle, RangeBetween, MakeNextRange, NextRangeRow, NoNextRangeRow, MoreNextRangeRow}
-use Rattle.pst_ast.specs.ExpressionSpelling.{spell_expr, spell_ranges, spell_range, spell_next_range_row}
-use Rattle.pst_ast.specs.SharedTree.{NamesTree, MakeNames}
-use Rattle.pst_ast.specs.SharedSpelling.{spell_label, spell_names, spell_next_name, spell_scoped_name, spell_type_name}
+use Rattle.pst_ast.specs.Marks.{spell_option}
+use Rattle.pst_ast.specs.ExpressionSpelling.{spell_expr, spell_ranges}
+use Rattle.pst_ast.specs.SharedSpelling.{spell_label, spell_names, spell_type_name}
 use Rattle.pst_ast.specs.ActivityTree.{ActivityTree, MakeActivity, StatementTree, StatementEmpty, StatementLabeled, StatementPlain, CoreTree, CoreDo, CoreHandle, CoreSequence, CoreTogether, CoreSelect, CoreRepeat, CoreIf, CoreIfElse, CoreMatch, CoreBind, BranchTree, MakeBranch, ArmTree, MakeArm, GuardTree, GuardCondition, GuardWeight, WeightTree, MakeWeight, ArmLabelTree, ArmLabelRanges, ArmLabelDefault, JoinTree, JoinBranch, JoinNothing, JoinSelect, WithTree, WithNothing, WithSet, BindTree, MakeBind, OtherEndsTree, OtherEndsOne, OtherEndsSeveral, StatementRow, NoStatementRow, MoreStatementRow, BranchRow, NoBranchRow, MoreBranchRow, ArmRow, NoArmRow, MoreArmRow}
 use Rattle.pst_ast.specs.ActivitySpelling.{spell_activity, spell_statement, spell_core, spell_branch, spell_arm, spell_statement_row, spell_branch_row, spell_arm_row, spell_with, spell_join, spell_next_end, spell_other_ends, spell_bind, spell_weight, spell_guard, spell_arm_label}
 use Rattle.pst_reading.proofs.Whole.{NoEnd, both_free}
-use Rattle.pst_parse_expr.proofs.NoEnd.{expr_free}
+use Rattle.pst_parse_expr.proofs.NoEnd.{expr_free, ranges_free}
 use Rattle.pst_parse_expr.proofs.ConstraintNoEnd.{set_free}
-
-next_names_free : (ns : List NextName) → NoEnd (flat_map spell_next_name ns)
-next_names_free [] = tt
-next_names_free (n ∷ ns) = (λ f. cc, (λ f. cc, next_names_free ns))
+use Rattle.pst_parse_part.proofs.NoEnd.{names_free, type_name_free}
 
 next_ends_free : (es : List NextEnd) → NoEnd (flat_map spell_next_end es)
 next_ends_free [] = tt
 next_ends_free (e ∷ es) = (λ f. cc, (λ f. cc, (λ f. cc, (λ f. cc, next_ends_free es))))
-
-scoped_free : (o : Option ScopedName) → NoEnd (spell_option spell_scoped_name o)
-scoped_free None = tt
-scoped_free (Some n) = (λ f. cc, (λ f. cc, tt))
 
 label_free : (o : Option LabelNode) → NoEnd (spell_option spell_label o)
 label_free None = tt
@@ -43,7 +28,7 @@ with_free (WithSet p s) = (λ f. cc, set_free s)
 
 join_free : (o : Option JoinTree) → NoEnd (spell_option spell_join o)
 join_free None = tt
-join_free (Some (JoinBranch w l (MakeNames n ns) r)) = (λ f. cc, (λ f. cc, (λ f. cc, both_free (flat_map spell_next_name ns) _ (next_names_free ns) (λ f. cc, tt))))
+join_free (Some (JoinBranch w l names r)) = (λ f. cc, (λ f. cc, both_free (spell_names names) _ (names_free names) (λ f. cc, tt)))
 join_free (Some (JoinNothing p)) = (λ f. cc, tt)
 join_free (Some (JoinSelect w l e r)) = (λ f. cc, (λ f. cc, both_free (spell_expr e) _ (expr_free e) (λ f. cc, tt)))
 
@@ -66,16 +51,8 @@ guard_free None = tt
 guard_free (Some (GuardCondition l e r w c)) = (λ f. cc, both_free (spell_expr e) _ (expr_free e) (λ f. cc, both_free (spell_option spell_weight w) _ (maybe_weight_free w) (λ f. cc, tt)))
 guard_free (Some (GuardWeight w c)) = both_free (spell_weight w) _ (weight_free w) (λ f. cc, tt)
 
-range_free : (r : RangeTree) → NoEnd (spell_range r)
-range_free (RangeSingle e) = expr_free e
-range_free (RangeBetween l p h) = both_free (spell_expr l) _ (expr_free l) (λ f. cc, expr_free h)
-
-next_ranges_free : (r : NextRangeRow) → NoEnd (spell_next_range_row r)
-next_ranges_free NoNextRangeRow = tt
-next_ranges_free (MoreNextRangeRow (MakeNextRange c r) rs) = (λ f. cc, both_free (spell_range r) _ (range_free r) (next_ranges_free rs))
-
 arm_label_free : (a : ArmLabelTree) → NoEnd (spell_arm_label a)
-arm_label_free (ArmLabelRanges l (MakeRanges r rs) z) = (λ f. cc, both_free (spell_ranges (MakeRanges r rs)) _ (both_free (spell_range r) _ (range_free r) (next_ranges_free rs)) (λ f. cc, tt))
+arm_label_free (ArmLabelRanges l rs z) = (λ f. cc, both_free (spell_ranges rs) _ (ranges_free rs) (λ f. cc, tt))
 arm_label_free (ArmLabelDefault p) = (λ f. cc, tt)
 
 mutual
@@ -85,7 +62,7 @@ mutual
   statement_free (StatementPlain c) = core_free c
 
   core_free : (c : CoreTree) → NoEnd (spell_core c)
-  core_free (CoreDo p n w) = (λ f. cc, (λ f. cc, both_free (spell_option spell_scoped_name n.second) _ (scoped_free n.second) (with_free w)))
+  core_free (CoreDo p n w) = (λ f. cc, both_free (spell_type_name n) _ (type_name_free n) (with_free w))
   core_free (CoreHandle n w) = (λ f. cc, with_free w)
   core_free (CoreSequence None l s r) = (λ f. cc, both_free (spell_statement_row s) _ (statements_free s) (λ f. cc, tt))
   core_free (CoreSequence (Some w) l s r) = (λ f. cc, (λ f. cc, both_free (spell_statement_row s) _ (statements_free s) (λ f. cc, tt)))

@@ -1,55 +1,29 @@
 -- What statements give, from what their parts give.
-use Rattle.std.proofs.Common.{◌≡◌, ℕ, zero, suc, ◌+◌, ◌-◌, ◌≤◌, ◌<◌, Bool, true, false, ◌||◌, if◌then◌else◌, List, [], ◌∷◌, ◌++◌, length, Some, Option, None, refl, sym, ap, subst, ◌∙◌, arith, append-nil, append_assoc, length-append}
-use Rattle.std.specs.List.{flat_map, AllByRecursion}
+use Rattle.std.proofs.Common.{◌≡◌, ℕ, suc, ◌+◌, ◌-◌, ◌≤◌, true, false, List, length, Option, arith, drop, Err}
 use Rattle.pst_base.specs.declared.position.Place.{Place}
-use Rattle.pst_token.specs.declared.kind.Kind.{Kind}
 use Rattle.pst_token.specs.declared.kind.Kind.TheVariants as kind
 use Rattle.pst_token.specs.declared.token.Token.{Token}
 use Rattle.pst_ast.specs.declared.leaf.Name.{Name}
-use Rattle.pst_ast.specs.declared.shared.LabelNode.{LabelNode}
-use Rattle.pst_ast.specs.declared.shared.NextName.{NextName}
-use Rattle.pst_ast.specs.declared.shared.ScopedName.{ScopedName}
-use Rattle.pst_ast.specs.declared.shared.TypeName.{TypeName}
-use Rattle.pst_ast.specs.declared.activity.EndNode.{EndNode}
-use Rattle.pst_ast.specs.declared.activity.NextEnd.{NextEnd}
 use Rattle.pst_ast.specs.declared.activity.TogetherWord.{TogetherWord}
-use Rattle.pst_ast.specs.declared.activity.TogetherWord.TheVariants as the_together_word
-use Rattle.pst_ast.specs.Closing.{origin}
-use Rattle.pst_ast.specs.Marks.{mark, name_token, spell_option, OptionIs, together_word_kind}
-use Rattle.pst_ast.specs.Limits.{Count, counted, counts_option}
-use Rattle.pst_ast.specs.ExpressionTree.{ExprTree, ExprUnary, ExprBinary, ExprIn, UnaryPrefix, UnaryPrimary, PrimaryNumber, PrimaryTrue, PrimaryFalse, PrimaryPath, PrimaryGroup, PathDotted, PathItem, PathLongItem, MakePart, NoNextPartRow, MoreNextPartRow, NoIndex, SomeIndex, RangesTree, MakeRanges, RangeTree, RangeSingle, RangeBetween, NextRangeTree, MakeNextRange, NextRangeRow, NoNextRangeRow, MoreNextRangeRow}
-use Rattle.pst_ast.specs.ExpressionSpelling.{spell_expr, spell_ranges, spell_range, spell_next_range, spell_next_range_row}
-use Rattle.pst_ast.specs.ExpressionProper.{IsProperExpr, IsProperRanges, IsProperRange, IsProperNextRange, AreProperNextRange}
-use Rattle.pst_ast.specs.ExpressionLimits.{counts_expr}
-use Rattle.pst_ast.specs.SharedTree.{NamesTree, MakeNames}
-use Rattle.pst_ast.specs.SharedSpelling.{spell_label, spell_names, spell_next_name, spell_scoped_name, spell_type_name}
-use Rattle.pst_ast.specs.SharedProper.{IsProperNames}
-use Rattle.pst_ast.specs.SharedLimits.{counts_label, counts_names, counts_next_name, counts_scoped_name, counts_type_name, counts_own_range, counts_own_next_range, counts_own_range_row, counts_own_ranges}
-use Rattle.pst_ast.specs.ConstraintTree.{ConstraintTree}
-use Rattle.pst_ast.specs.ConstraintSpelling.{spell_constraint}
-use Rattle.pst_ast.specs.ConstraintProper.{IsProperConstraint, constraint_ends_open}
-use Rattle.pst_ast.specs.ConstraintLimits.{counts_constraint}
-use Rattle.pst_ast.specs.ActivityTree.{ActivityTree, MakeActivity, StatementTree, StatementEmpty, StatementLabeled, StatementPlain, CoreTree, CoreDo, CoreHandle, CoreSequence, CoreTogether, CoreSelect, CoreRepeat, CoreIf, CoreIfElse, CoreMatch, CoreBind, BranchTree, MakeBranch, ArmTree, MakeArm, GuardTree, GuardCondition, GuardWeight, WeightTree, MakeWeight, ArmLabelTree, ArmLabelRanges, ArmLabelDefault, JoinTree, JoinBranch, JoinNothing, JoinSelect, WithTree, WithNothing, WithSet, BindTree, MakeBind, OtherEndsTree, OtherEndsOne, OtherEndsSeveral, StatementRow, NoStatementRow, MoreStatementRow, BranchRow, NoBranchRow, MoreBranchRow, ArmRow, NoArmRow, MoreArmRow}
-use Rattle.pst_ast.specs.ActivitySpelling.{spell_activity, spell_statement, spell_core, spell_branch, spell_arm, spell_statement_row, spell_branch_row, spell_arm_row, spell_with, spell_join, spell_end, spell_next_end, spell_other_ends, spell_bind, spell_weight, spell_guard, spell_arm_label}
-use Rattle.pst_ast.specs.ActivityProper.{with_ends_open, statement_ends_open, core_ends_open, IsProperWith, IsProperJoin, IsProperOtherEnds, IsProperBind, IsProperWeight, IsProperGuard, IsProperArmLabel, IsProperStatement, IsProperCore, IsProperBranch, IsProperArm, AreProperStatement, AreProperBranch, AreProperArm, IsProperActivity}
-use Rattle.pst_ast.specs.ActivityLimits.{counts_activity, counts_statement, counts_core, counts_branch, counts_arm, counts_statement_row, counts_branch_row, counts_arm_row, counts_with, counts_join, counts_end, counts_next_end, counts_other_ends, counts_bind, counts_weight, counts_guard, counts_arm_label}
-use Rattle.pst_reading.specs.Kinds.{is_mark, is_name, next_is}
-use Rattle.pst_reading.specs.Parser.{Parser, Done, Look, followed_by, next, mark_by, name_by, if_mark}
-use Rattle.pst_reading.specs.Lists.{list_by}
-use Rattle.pst_reading.specs.Options.{option_by, row_by}
-use Rattle.pst_parse_act.specs.Activities.{scoped_name_by, type_name_by, next_name_by, names_by, end_by, next_end_by, one_end_by, several_ends_by, other_ends_by, bind_by, branch_join_by, nothing_join_by, select_join_by, join_by, begins_join, weight_by, condition_guard_by, weight_guard_by, guard_by, begins_guard, between_by, range_by, next_range_by, range_row, next_ranges_by, ranges_by, ranges_label_by, default_label_by, arm_label_by, with_set_by, with_nothing_by, with_by, do_by, handle_by, statement_row, statements_by, sequence_word_by, sequence_by, together_by, branch_by, branch_row, branches_by, select_by, name_alone, index_of, CounterTree, counter_behind, counter_by, repeated_by, else_by, maybe_else_by, if_by, arm_by, arm_row, arms_by, match_by, bound_by, core_by, empty_by, labeled_by, traversed_by, named_by, plain_by, statement_by, statement_at, activity_by, activity_at}
-use Rattle.std.proofs.Common.{drop, Err, Ok}
-use Rattle.pst_ast.specs.Limits.{is_over}
+use Rattle.pst_ast.specs.Marks.{together_word_kind}
+use Rattle.pst_ast.specs.Limits.{counted, is_over}
+use Rattle.pst_ast.specs.ExpressionTree.{ExprTree}
+use Rattle.pst_ast.specs.ActivityTree.{MakeActivity, StatementTree, StatementLabeled, StatementPlain, CoreTree, CoreHandle, CoreSequence, CoreTogether, CoreSelect, CoreRepeat, CoreIf, CoreIfElse, CoreMatch, BranchTree, MakeBranch, ArmTree, MakeArm, GuardTree, ArmLabelTree, JoinTree, WithTree}
+use Rattle.pst_ast.specs.ActivityProper.{statement_ends_open}
+use Rattle.pst_reading.specs.Kinds.{is_mark, next_is}
+use Rattle.pst_reading.specs.Parser.{Done, followed_by, next, mark_by, name_by, Took, run}
+use Rattle.pst_parse_act.specs.Activities.{statement_row, branch_row, arm_row, statement_at}
 use Rattle.pst_ast.specs.declared.fault.SyntaxFault.{SyntaxFault}
-use Rattle.pst_reading.specs.Parser.{Outcome, Took, run}
-use Rattle.pst_reading.specs.Gives.{Family, SettlesFrom, FailsFrom, Expects}
+use Rattle.pst_reading.specs.Gives.{SettlesFrom, FailsFrom, Expects}
 use Rattle.pst_reading.proofs.Reaching.{Reaches, begin, step, mark_step, name_step, choose, ends, fails, mark_fails, name_fails}
 use Rattle.pst_reading.proofs.Optional.{row_settles, row_fails}
-use Rattle.pst_parse_expr.specs.Constraints.{is_at, is_other, outermost_at, constraint_at}
-use Rattle.pst_parse_expr.specs.ConstraintFamilies.{outermost_family, set_family}
-use Rattle.pst_parse_act.specs.ActivityFamilies.{scoped_name_family, type_name_family, next_name_family, names_family, end_family, next_end_family, one_end_family, several_ends_family, other_ends_family, bind_family, branch_join_family, nothing_join_family, select_join_family, join_family, weight_family, condition_guard_family, weight_guard_family, guard_family, range_family, next_range_family, ranges_family, ranges_label_family, default_label_family, arm_label_family, counter_family, with_set_family, with_nothing_family, with_family, do_family, handle_family, sequence_word_family, nested_family, sequence_family, branch_family, select_family, repeated_family, if_family, arm_family, match_family, bound_family, core_family, empty_family, named_family, plain_family, statement_family, together_family, activity_family, maybe_scoped_name_family, maybe_join_family, maybe_weight_family, maybe_guard_family, maybe_sequence_word_family, next_names_family, next_ends_family, next_ranges_family, statements_family, branches_family, arms_family, range_row_family, statement_row_family, branch_row_family, arm_row_family}
+use Rattle.pst_parse_expr.specs.Constraints.{outermost_at}
+use Rattle.pst_parse_expr.specs.ConstraintFamilies.{outermost_family}
+use Rattle.pst_parse_act.specs.ActivityFamilies.{arm_label_family, with_family, sequence_family, branch_family, select_family, repeated_family, if_family, arm_family, match_family, core_family, named_family, plain_family, statement_family, together_family, activity_family, maybe_join_family, maybe_guard_family, maybe_sequence_word_family, statements_family, branches_family, arms_family, statement_row_family, branch_row_family, arm_row_family}
 use Rattle.pst_parse_act.proofs.ActivityNested.{statement_nested, statement_nested_fails}
 use Rattle.pst_parse_act.proofs.ActivityLooks.{no_else_behind, else_behind}
+use Rattle.pst_parse_part.specs.TimesFamilies.{times_family}
+use Rattle.pst_parse_part.specs.Times.{TimesTree, times_by}
 
 module _ (tokens : List Token) (at d : ℕ) where
   pub sequence_core_sequence_fails : at ≤ length tokens → (e : SyntaxFault) → FailsFrom (maybe_sequence_word_family d) tokens (at) (at) e → FailsFrom (sequence_family d) tokens at at e
@@ -115,20 +89,22 @@ module _ (tokens : List Token) (at d : ℕ) where
   pub repeat_core_repeat_fails : (inner : ℕ) → (deeper : inner ≡ suc d) → (e : SyntaxFault) → at ≤ length tokens → Expects (mark_by kind.Repeat (counted d 0)) tokens (at) (Err e) → FailsFrom (repeated_family d) tokens at at e
   repeat_core_repeat_fails inner deeper e le h = mark_fails (repeated_family d) tokens at at kind.Repeat _ _ (at) e le h (begin (repeated_family d) tokens at at)
 
-  pub repeat_core_left_parenthesis_fails : (inner : ℕ) → (deeper : inner ≡ suc d) → (repeat : Place) → (repeat_taken : run is_over (mark_by kind.Repeat (counted d 0)) (drop (at) tokens) ≡ Took repeat (drop (at + 1) tokens)) → (repeat_inside : at + 1 ≤ length tokens) → (e : SyntaxFault) → at + 1 ≤ length tokens → Expects (mark_by kind.LeftParenthesis (counted d 0)) tokens (at + 1) (Err e) → FailsFrom (repeated_family d) tokens at at e
-  repeat_core_left_parenthesis_fails inner deeper repeat repeat_taken repeat_inside e le h = mark_fails (repeated_family d) tokens at at kind.LeftParenthesis _ _ (at + 1) e le h (mark_step (repeated_family d) tokens at at kind.Repeat _ _ (at) (at + 1) repeat (omega arith) repeat_taken (begin (repeated_family d) tokens at at))
+  module _ (inner : ℕ) (deeper : inner ≡ suc d) (repeat : Place) (taken : run is_over (mark_by kind.Repeat (counted d 0)) (drop at tokens) ≡ Took repeat (drop (at + 1) tokens)) where
+    repeat_read : Reaches (repeated_family d) tokens at at (λ m n. followed_by (times_by (outermost_at (suc m)) d) (λ t. followed_by (statement_at m d) (λ s. Done (CoreRepeat repeat t.0 t.1 t.2 t.3 s)))) (at + 1)
+    repeat_read = mark_step (repeated_family d) tokens at at kind.Repeat _ _ at (at + 1) repeat (omega arith) taken (begin (repeated_family d) tokens at at)
 
-  pub repeat_core_counter_fails : (inner : ℕ) → (deeper : inner ≡ suc d) → (repeat : Place) → (repeat_taken : run is_over (mark_by kind.Repeat (counted d 0)) (drop (at) tokens) ≡ Took repeat (drop (at + 1) tokens)) → (repeat_inside : at + 1 ≤ length tokens) → (left_parenthesis : Place) → (left_parenthesis_taken : run is_over (mark_by kind.LeftParenthesis (counted d 0)) (drop (at + 1) tokens) ≡ Took left_parenthesis (drop (at + 1 + 1) tokens)) → (left_parenthesis_inside : at + 1 + 1 ≤ length tokens) → at + 2 ≤ length tokens → (e : SyntaxFault) → FailsFrom (counter_family d) tokens (at + 2) (at + 2) e → FailsFrom (repeated_family d) tokens at at e
-  repeat_core_counter_fails inner deeper repeat repeat_taken repeat_inside left_parenthesis left_parenthesis_taken left_parenthesis_inside le e h = fails (repeated_family d) tokens at at (counter_family d) _ (at + 2) (at + 2) e (omega arith) h (mark_step (repeated_family d) tokens at at kind.LeftParenthesis _ _ (at + 1) (at + 2) left_parenthesis (omega arith) left_parenthesis_taken (mark_step (repeated_family d) tokens at at kind.Repeat _ _ (at) (at + 1) repeat (omega arith) repeat_taken (begin (repeated_family d) tokens at at)))
+    pub repeat_core_times_fails : (e : SyntaxFault) → FailsFrom (times_family d) tokens (at + 1) (at + 1) e → FailsFrom (repeated_family d) tokens at at e
+    repeat_core_times_fails e h = fails (repeated_family d) tokens at at (times_family d) _ (at + 1) (at + 1) e (omega arith) h repeat_read
 
-  pub repeat_core_right_parenthesis_fails : (inner : ℕ) → (deeper : inner ≡ suc d) → (repeat : Place) → (repeat_taken : run is_over (mark_by kind.Repeat (counted d 0)) (drop (at) tokens) ≡ Took repeat (drop (at + 1) tokens)) → (repeat_inside : at + 1 ≤ length tokens) → (left_parenthesis : Place) → (left_parenthesis_taken : run is_over (mark_by kind.LeftParenthesis (counted d 0)) (drop (at + 1) tokens) ≡ Took left_parenthesis (drop (at + 1 + 1) tokens)) → (left_parenthesis_inside : at + 1 + 1 ≤ length tokens) → (counter : CounterTree) → (behind : ℕ) → (counter_more : at + 2 + 1 ≤ behind) → (counter_inside : behind ≤ length tokens) → (counter_settles : SettlesFrom (counter_family d) tokens (at + 2) (at + 2) (Took counter (drop behind tokens))) → (e : SyntaxFault) → behind ≤ length tokens → Expects (mark_by kind.RightParenthesis (counted d 0)) tokens (behind) (Err e) → FailsFrom (repeated_family d) tokens at at e
-  repeat_core_right_parenthesis_fails inner deeper repeat repeat_taken repeat_inside left_parenthesis left_parenthesis_taken left_parenthesis_inside counter behind counter_more counter_inside counter_settles e le h = mark_fails (repeated_family d) tokens at at kind.RightParenthesis _ _ (behind) e le h (step (repeated_family d) tokens at at (counter_family d) _ (at + 2) (at + 2) behind counter (omega arith) (omega arith) counter_settles (mark_step (repeated_family d) tokens at at kind.LeftParenthesis _ _ (at + 1) (at + 2) left_parenthesis (omega arith) left_parenthesis_taken (mark_step (repeated_family d) tokens at at kind.Repeat _ _ (at) (at + 1) repeat (omega arith) repeat_taken (begin (repeated_family d) tokens at at))))
+    module _ (times : TimesTree) (behind : ℕ) (more : at + 1 + 1 ≤ behind) (inside : behind ≤ length tokens) (given : SettlesFrom (times_family d) tokens (at + 1) (at + 1) (Took times (drop behind tokens))) where
+      times_read : Reaches (repeated_family d) tokens at at (λ m n. followed_by (statement_at m d) (λ s. Done (CoreRepeat repeat times.0 times.1 times.2 times.3 s))) behind
+      times_read = step (repeated_family d) tokens at at (times_family d) _ (at + 1) (at + 1) behind times (omega arith) (omega (arith, more)) given repeat_read
 
-  pub repeat_core_repeated_fails : (inner : ℕ) → (deeper : inner ≡ suc d) → (repeat : Place) → (repeat_taken : run is_over (mark_by kind.Repeat (counted d 0)) (drop (at) tokens) ≡ Took repeat (drop (at + 1) tokens)) → (repeat_inside : at + 1 ≤ length tokens) → (left_parenthesis : Place) → (left_parenthesis_taken : run is_over (mark_by kind.LeftParenthesis (counted d 0)) (drop (at + 1) tokens) ≡ Took left_parenthesis (drop (at + 1 + 1) tokens)) → (left_parenthesis_inside : at + 1 + 1 ≤ length tokens) → (counter : CounterTree) → (behind : ℕ) → (counter_more : at + 2 + 1 ≤ behind) → (counter_inside : behind ≤ length tokens) → (counter_settles : SettlesFrom (counter_family d) tokens (at + 2) (at + 2) (Took counter (drop behind tokens))) → (right_parenthesis : Place) → (right_parenthesis_taken : run is_over (mark_by kind.RightParenthesis (counted d 0)) (drop (behind) tokens) ≡ Took right_parenthesis (drop (behind + 1) tokens)) → (right_parenthesis_inside : behind + 1 ≤ length tokens) → behind + 1 ≤ length tokens → (e : SyntaxFault) → FailsFrom (statement_family inner) tokens (behind + 1) (behind + 1) e → FailsFrom (repeated_family d) tokens at at e
-  repeat_core_repeated_fails inner deeper repeat repeat_taken repeat_inside left_parenthesis left_parenthesis_taken left_parenthesis_inside counter behind counter_more counter_inside counter_settles right_parenthesis right_parenthesis_taken right_parenthesis_inside le e h = fails (repeated_family d) tokens at at (λ m n. statement_at m d) _ at (behind + 1) e (omega arith) (statement_nested_fails tokens at (behind + 1) inner d deeper e (omega arith) (omega arith) h) (mark_step (repeated_family d) tokens at at kind.RightParenthesis _ _ (behind) (behind + 1) right_parenthesis (omega arith) right_parenthesis_taken (step (repeated_family d) tokens at at (counter_family d) _ (at + 2) (at + 2) behind counter (omega arith) (omega arith) counter_settles (mark_step (repeated_family d) tokens at at kind.LeftParenthesis _ _ (at + 1) (at + 2) left_parenthesis (omega arith) left_parenthesis_taken (mark_step (repeated_family d) tokens at at kind.Repeat _ _ (at) (at + 1) repeat (omega arith) repeat_taken (begin (repeated_family d) tokens at at)))))
+      pub repeat_core_repeated_fails : (e : SyntaxFault) → FailsFrom (statement_family inner) tokens behind behind e → FailsFrom (repeated_family d) tokens at at e
+      repeat_core_repeated_fails e h = fails (repeated_family d) tokens at at (λ m n. statement_at m d) _ at behind e (omega arith) (statement_nested_fails tokens at behind inner d deeper e (omega (arith, more)) inside h) times_read
 
-  pub repeat_core_given : (inner : ℕ) → (deeper : inner ≡ suc d) → (repeat : Place) → (repeat_taken : run is_over (mark_by kind.Repeat (counted d 0)) (drop (at) tokens) ≡ Took repeat (drop (at + 1) tokens)) → (repeat_inside : at + 1 ≤ length tokens) → (left_parenthesis : Place) → (left_parenthesis_taken : run is_over (mark_by kind.LeftParenthesis (counted d 0)) (drop (at + 1) tokens) ≡ Took left_parenthesis (drop (at + 1 + 1) tokens)) → (left_parenthesis_inside : at + 1 + 1 ≤ length tokens) → (counter : CounterTree) → (behind : ℕ) → (counter_more : at + 2 + 1 ≤ behind) → (counter_inside : behind ≤ length tokens) → (counter_settles : SettlesFrom (counter_family d) tokens (at + 2) (at + 2) (Took counter (drop behind tokens))) → (right_parenthesis : Place) → (right_parenthesis_taken : run is_over (mark_by kind.RightParenthesis (counted d 0)) (drop (behind) tokens) ≡ Took right_parenthesis (drop (behind + 1) tokens)) → (right_parenthesis_inside : behind + 1 ≤ length tokens) → (repeated : StatementTree) → (after : ℕ) → (repeated_more : behind + 1 + 1 ≤ after) → (repeated_inside : after ≤ length tokens) → (repeated_settles : SettlesFrom (statement_family inner) tokens (behind + 1) (behind + 1) (Took repeated (drop after tokens))) → SettlesFrom (repeated_family d) tokens at at (Took (CoreRepeat repeat left_parenthesis counter.0 counter.1 right_parenthesis repeated) (drop (after) tokens))
-  repeat_core_given inner deeper repeat repeat_taken repeat_inside left_parenthesis left_parenthesis_taken left_parenthesis_inside counter behind counter_more counter_inside counter_settles right_parenthesis right_parenthesis_taken right_parenthesis_inside repeated after repeated_more repeated_inside repeated_settles = ends (repeated_family d) tokens at at _ (after) (step (repeated_family d) tokens at at (λ m n. statement_at m d) _ at (behind + 1) after repeated (omega arith) (omega arith) (statement_nested tokens at (behind + 1) inner d deeper _ (omega arith) (omega arith) repeated_settles) (mark_step (repeated_family d) tokens at at kind.RightParenthesis _ _ (behind) (behind + 1) right_parenthesis (omega arith) right_parenthesis_taken (step (repeated_family d) tokens at at (counter_family d) _ (at + 2) (at + 2) behind counter (omega arith) (omega arith) counter_settles (mark_step (repeated_family d) tokens at at kind.LeftParenthesis _ _ (at + 1) (at + 2) left_parenthesis (omega arith) left_parenthesis_taken (mark_step (repeated_family d) tokens at at kind.Repeat _ _ (at) (at + 1) repeat (omega arith) repeat_taken (begin (repeated_family d) tokens at at))))))
+      pub repeat_core_given : (s : StatementTree) (after : ℕ) → behind + 1 ≤ after → SettlesFrom (statement_family inner) tokens behind behind (Took s (drop after tokens)) → SettlesFrom (repeated_family d) tokens at at (Took (CoreRepeat repeat times.0 times.1 times.2 times.3 s) (drop after tokens))
+      repeat_core_given s after le h = ends (repeated_family d) tokens at at _ after (step (repeated_family d) tokens at at (λ m n. statement_at m d) _ at behind after s (omega arith) (omega (arith, le)) (statement_nested tokens at behind inner d deeper _ (omega (arith, more)) inside h) times_read)
 
   pub only_if__fails : (inner : ℕ) → (deeper : inner ≡ suc d) → (e : SyntaxFault) → at ≤ length tokens → Expects (mark_by kind.If (counted d 0)) tokens (at) (Err e) → FailsFrom (if_family d) tokens at at e
   only_if__fails inner deeper e le h = mark_fails (if_family d) tokens at at kind.If _ _ (at) e le h (begin (if_family d) tokens at at)

@@ -1,10 +1,7 @@
 -- Rows of the program's trees are those of their lists.
-use Rattle.std.proofs.Common.{◌≡◌, Bool, true, false, if◌then◌else◌, ◌==◌, List, [], ◌∷◌, length, Option, None, refl, ap, sym, ◌∙◌}
-use Rattle.std.proofs.Common.{arith}
-use Rattle.std.proofs.lemmas.Bool.{ne_eqb}
+use Rattle.std.proofs.Common.{◌≡◌, List, Option, refl, ap, ◌∙◌}
 use Rattle.std.specs.Prelude.{map}
 use Rattle.std.specs.Global.{Vec}
-use Rattle.std.specs.Vec.{vec_len}
 use Rattle.std.specs.Option.{option_map}
 use Rattle.pst_base.specs.declared.position.Place.{Place}
 use Rattle.pst_ast.specs.declared.activity.CoreNode.{Row_of-StatementNode, end_of-StatementNode, more_of-StatementNode, items-the_row-StatementNode, items_hidden-the_row-StatementNode-0, Row_of-BranchNode, end_of-BranchNode, more_of-BranchNode, items-the_row-BranchNode, items_hidden-the_row-BranchNode-1, Row_of-ArmNode, end_of-ArmNode, more_of-ArmNode, items-the_row-ArmNode, items_hidden-the_row-ArmNode-2}
@@ -18,33 +15,8 @@ use Rattle.pst_ast.specs.declared.activity.TogetherWord.{TogetherWord}
 use Rattle.pst_ast.specs.declared.expression.ExprNode.{ExprNode}
 use Rattle.pst_ast.specs.ActivityTree.{CoreSequence, CoreTogether, CoreSelect, CoreMatch, StatementRow, MoreStatementRow, BranchRow, MoreBranchRow, ArmRow, MoreArmRow}
 use Rattle.pst_ast.specs.ActivityView.{view_core, view_join, view_statement, view_statement_row, view_branch, view_branch_row, view_arm, view_arm_row}
-use Rattle.pst_ast.specs.declared.expression.NextPart.{NextPart}
-use Rattle.pst_ast.specs.declared.expression.PartNode.{PartNode}
-use Rattle.pst_ast.specs.declared.expression.PathNode.TheVariants as the_path
-use Rattle.pst_ast.specs.declared.expression.NextRange.{NextRange}
-use Rattle.pst_ast.specs.ExpressionTree.{NextRangeRow, MoreNextRangeRow, PathDotted}
-use Rattle.pst_ast.specs.ExpressionView.{view_expr, view_next_range, view_path, view_part}
-use Rattle.pst_parse_expr.specs.Families as families
-use Rattle.pst_parse_expr.specs.Families.{part_row}
-use Rattle.pst_parse_expr.proofs.Turns.{dotted_view}
-use Rattle.pst_parse_act.specs.Activities.{range_row, statement_row, branch_row, arm_row, path_alone, part_alone}
-
-pub range_rows : (rs : List NextRange) → families.range_row rs ≡ range_row (map view_next_range rs)
-range_rows [] = refl
-range_rows (r ∷ rs) = ap (λ (x : NextRangeRow). MoreNextRangeRow (view_next_range r) x) (range_rows rs)
-
--- a path is a name where nothing is behind its first part and that has no index
-pub alone_path : (first : PartNode) (v : Vec NextPart) (b : Bool) → b ≡ (vec_len v == 0) → path_alone (view_path (the_path.Dotted first v)) ≡ (if b then part_alone (view_part first) else None)
-alone_path first v b e = let same : (vec_len v == 0) ≡ (length v.items == 0) = cc v.ok.0 in ap path_alone (dotted_view first v) ∙ go v.items b (e ∙ same)
-  where
-    clash : false ≡ true → ⊥
-    clash f = cc
-
-    go : (xs : List NextPart) (b : Bool) → b ≡ (length xs == 0) → path_alone (PathDotted (view_part first) (part_row xs)) ≡ (if b then part_alone (view_part first) else None)
-    go [] true e = refl
-    go [] false e = absurd (clash e)
-    go (x ∷ xs) true e = absurd (clash (sym (e ∙ ne_eqb (length (x ∷ xs)) 0 (λ f. absurd (omega (arith, f))))))
-    go (x ∷ xs) false e = refl
+use Rattle.pst_ast.specs.ExpressionView.{view_expr}
+use Rattle.pst_parse_act.specs.Activities.{statement_row, branch_row, arm_row}
 
 -- ---- statements, branches and arms
 

@@ -1,59 +1,27 @@
 -- Activities, parsed from left to right: depth derivations that count are open at the tokens of a part itself.
-use Rattle.std.specs.Prelude.{ℕ, zero, suc, if◌then◌else◌, Bool, true, false, ◌||◌, List, [], ◌∷◌, Option, Some, None}
+use Rattle.std.specs.Prelude.{ℕ, zero, suc, if◌then◌else◌, Bool, true, false, ◌||◌, List, [], ◌∷◌, Option}
 use Rattle.pst_base.specs.declared.position.Place.{Place}
 use Rattle.pst_token.specs.declared.kind.Kind.TheVariants as kind
 use Rattle.pst_token.specs.declared.token.Token.{Token}
 use Rattle.pst_ast.specs.declared.leaf.Name.{Name}
-use Rattle.pst_ast.specs.declared.shared.LabelNode.{LabelNode}
-use Rattle.pst_ast.specs.declared.shared.NextName.{NextName}
-use Rattle.pst_ast.specs.declared.shared.ScopedName.{ScopedName}
-use Rattle.pst_ast.specs.declared.shared.TypeName.{TypeName}
 use Rattle.pst_ast.specs.declared.activity.EndNode.{EndNode}
 use Rattle.pst_ast.specs.declared.activity.NextEnd.{NextEnd}
 use Rattle.pst_ast.specs.declared.activity.TogetherWord.{TogetherWord}
 use Rattle.pst_ast.specs.declared.activity.TogetherWord.TheVariants as the_together_word
 use Rattle.pst_ast.specs.Marks.{together_word_kind}
-use Rattle.pst_ast.specs.Limits.{Count, counted}
-use Rattle.pst_ast.specs.ExpressionTree.{ExprTree, ExprUnary, UnaryPrimary, PrimaryPath, PathTree, PathDotted, PartTree, MakePart, NoNextPartRow, NoIndex, SomeIndex, RangesTree, MakeRanges, RangeTree, RangeSingle, RangeBetween, NextRangeTree, MakeNextRange, NextRangeRow, NoNextRangeRow, MoreNextRangeRow}
-use Rattle.pst_ast.specs.SharedTree.{NamesTree, MakeNames}
+use Rattle.pst_ast.specs.Limits.{counted}
+use Rattle.pst_ast.specs.ExpressionTree.{ExprTree}
 use Rattle.pst_ast.specs.ConstraintTree.{ConstraintTree}
 use Rattle.pst_ast.specs.ActivityTree.{ActivityTree, MakeActivity, StatementTree, StatementEmpty, StatementLabeled, StatementPlain, CoreTree, CoreDo, CoreHandle, CoreSequence, CoreTogether, CoreSelect, CoreRepeat, CoreIf, CoreIfElse, CoreMatch, CoreBind, BranchTree, MakeBranch, ArmTree, MakeArm, GuardTree, GuardCondition, GuardWeight, WeightTree, MakeWeight, ArmLabelTree, ArmLabelRanges, ArmLabelDefault, JoinTree, JoinBranch, JoinNothing, JoinSelect, WithTree, WithNothing, WithSet, BindTree, MakeBind, OtherEndsTree, OtherEndsOne, OtherEndsSeveral, StatementRow, NoStatementRow, MoreStatementRow, BranchRow, NoBranchRow, MoreBranchRow, ArmRow, NoArmRow, MoreArmRow}
 use Rattle.pst_ast.specs.ActivityProper.{statement_ends_open}
 use Rattle.pst_reading.specs.Kinds.{is_mark, is_name, next_is}
-use Rattle.pst_reading.specs.Parser.{Parser, Done, Spent, Look, ◌>>=◌, followed_by, mark_by, name_by, if_mark}
+use Rattle.pst_reading.specs.Parser.{Parser, Done, Spent, Look, ◌>>=◌, mark_by, name_by, if_mark}
 use Rattle.pst_reading.specs.Lists.{list_by}
 use Rattle.pst_reading.specs.Options.{option_by, row_by}
 use Rattle.pst_parse_expr.specs.Constraints.{Within, is_at, is_other, outermost_at, constraint_at}
-
--- ---- names
-
--- "::" NAME
-abbrev pub scoped_name_by : Within ScopedName
-scoped_name_by depth = do
-  colons ← mark_by kind.ColonColon (counted depth 0)
-  name ← name_by (counted depth 0)
-  Done (record { colons = colons; name = name })
-
--- tname = NAME [ "::" NAME ]
-abbrev pub type_name_by : Within TypeName
-type_name_by depth = do
-  first ← name_by (counted depth 0)
-  second ← option_by (is_at kind.ColonColon) (scoped_name_by depth)
-  Done (record { first = first; second = second })
-
--- "," NAME
-abbrev pub next_name_by : Within NextName
-next_name_by depth = do
-  comma ← mark_by kind.Comma (counted depth 0)
-  name ← name_by (counted depth 0)
-  Done (record { comma = comma; name = name })
-
--- NAME { "," NAME }
-abbrev pub names_by : ℕ → Within NamesTree
-names_by turns depth = do
-  first ← name_by (counted depth 0)
-  rest ← list_by (is_at kind.Comma) (next_name_by depth) turns
-  Done (MakeNames first rest)
+use Rattle.pst_parse_part.specs.Times.{times_by}
+use Rattle.pst_parse_part.specs.Ranges.{ranges_by}
+use Rattle.pst_parse_part.specs.Names.{type_name_by, names_by}
 
 -- ---- bind
 
@@ -163,47 +131,13 @@ guard_by expr depth = if_mark kind.LeftParenthesis (condition_guard_by expr dept
 unfoldable pub begins_guard : Option Token → Bool
 begins_guard next = next_is (is_mark kind.LeftParenthesis) next || next_is (is_mark kind.LeftBracket) next
 
--- ---- what stands before the statement of an arm; each end of a range is an outermost expression of its own
-
-abbrev pub between_by : Within ExprTree → ℕ → ExprTree → Parser RangeTree
-between_by expr depth low = do
-  dots ← mark_by kind.DotDot (counted depth 0)
-  high ← expr depth
-  Done (RangeBetween low dots high)
-
--- range = expr [ ".." expr ]
-abbrev pub range_by : Within ExprTree → Within RangeTree
-range_by expr depth = do
-  low ← expr depth
-  if_mark kind.DotDot (between_by expr depth low) (Done (RangeSingle low))
-
--- "," range
-abbrev pub next_range_by : Within ExprTree → Within NextRangeTree
-next_range_by expr depth = do
-  comma ← mark_by kind.Comma (counted depth 0)
-  range ← range_by expr depth
-  Done (MakeNextRange comma range)
-
-abbrev pub range_row : List NextRangeTree → NextRangeRow
-range_row [] = NoNextRangeRow
-range_row (range ∷ ranges) = MoreNextRangeRow range (range_row ranges)
-
--- { "," range }
-abbrev pub next_ranges_by : Within ExprTree → ℕ → Within NextRangeRow
-next_ranges_by expr turns depth = row_by range_row (list_by (is_at kind.Comma) (next_range_by expr depth) turns)
-
--- ranges = range { "," range }
-abbrev pub ranges_by : Within ExprTree → ℕ → Within RangesTree
-ranges_by expr turns depth = do
-  first ← range_by expr depth
-  rest ← next_ranges_by expr turns depth
-  Done (MakeRanges first rest)
+-- ---- what stands before the statement of an arm
 
 -- "[" ranges "]"
-abbrev pub ranges_label_by : Within ExprTree → ℕ → Within ArmLabelTree
-ranges_label_by expr turns depth = do
+abbrev pub ranges_label_by : ℕ → Within ArmLabelTree
+ranges_label_by turns depth = do
   left_bracket ← mark_by kind.LeftBracket (counted depth 0)
-  ranges ← ranges_by expr turns depth
+  ranges ← ranges_by turns depth
   right_bracket ← mark_by kind.RightBracket (counted depth 0)
   Done (ArmLabelRanges left_bracket ranges right_bracket)
 
@@ -213,8 +147,8 @@ default_label_by depth = do
   place ← mark_by kind.Default (counted depth 0)
   Done (ArmLabelDefault place)
 
-abbrev pub arm_label_by : Within ExprTree → ℕ → Within ArmLabelTree
-arm_label_by expr turns depth = if_mark kind.LeftBracket (ranges_label_by expr turns depth) (default_label_by depth)
+abbrev pub arm_label_by : ℕ → Within ArmLabelTree
+arm_label_by turns depth = if_mark kind.LeftBracket (ranges_label_by turns depth) (default_label_by depth)
 
 -- ---- traversals
 
@@ -311,52 +245,13 @@ select_by expr statement turns depth = do
 
 -- ---- repeat
 
--- the name of a part without an index
-abbrev pub part_alone : PartTree → Option Name
-part_alone (MakePart name NoIndex) = Some name
-part_alone (MakePart name (SomeIndex index)) = None
-
--- a path that is a name and nothing more
-abbrev pub path_alone : PathTree → Option Name
-path_alone (PathDotted part NoNextPartRow) = part_alone part
-path_alone _ = None
-
--- an expression that is a name and nothing more
-abbrev pub name_alone : ExprTree → Option Name
-name_alone (ExprUnary (UnaryPrimary (PrimaryPath path))) = path_alone path
-name_alone _ = None
-
--- the index's name, where the expression is a name and a colon comes next
-abbrev pub index_of : Bool → ExprTree → Option Name
-index_of true head = name_alone head
-index_of false head = None
-
--- the index that stands before the count, where one does, and the count
-abbrev pub CounterTree : Type 0
-CounterTree = Option LabelNode × ExprTree
-
-abbrev pub counter_behind : Within ExprTree → ℕ → ExprTree → Option Name → Parser CounterTree
-counter_behind expr depth head None = Done (None, head)
-counter_behind expr depth head (Some name) = do
-  colon ← mark_by kind.Colon (counted depth 0)
-  count ← expr depth
-  Done (Some (record { name = name; colon = colon }), count)
-
--- [ NAME ":" ] expr; the name is read as an expression
-abbrev pub counter_by : Within ExprTree → Within CounterTree
-counter_by expr depth = do
-  head ← expr depth
-  Look (λ next. counter_behind expr depth head (index_of (is_at kind.Colon next) head))
-
 -- "repeat" "(" [ NAME ":" ] expr ")" stmt
 abbrev pub repeated_by : Within ExprTree → Within StatementTree → Within CoreTree
 repeated_by expr statement depth = do
   repeat_place ← mark_by kind.Repeat (counted depth 0)
-  left_parenthesis ← mark_by kind.LeftParenthesis (counted depth 0)
-  counter ← counter_by expr depth
-  right_parenthesis ← mark_by kind.RightParenthesis (counted depth 0)
+  times ← times_by expr depth
   repeated ← statement depth
-  Done (CoreRepeat repeat_place left_parenthesis counter.0 counter.1 right_parenthesis repeated)
+  Done (CoreRepeat repeat_place times.0 times.1 times.2 times.3 repeated)
 
 -- ---- if
 
@@ -386,7 +281,7 @@ if_by expr statement depth = do
 -- arm = ( "[" ranges "]" | "default" ) ":" stmt
 abbrev pub arm_by : Within ExprTree → Within StatementTree → ℕ → Within ArmTree
 arm_by expr statement turns depth = do
-  label ← arm_label_by expr turns depth
+  label ← arm_label_by turns depth
   colon ← mark_by kind.Colon (counted depth 0)
   chosen ← statement depth
   Done (MakeArm label colon chosen)

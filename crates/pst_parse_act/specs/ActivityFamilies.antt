@@ -1,48 +1,23 @@
 -- The parsers of activities for each size: each function of the program has one of these.
-use Rattle.std.specs.Prelude.{ℕ, suc, List, [], map, Option}
-use Rattle.std.specs.Option.{option_map}
+use Rattle.std.specs.Prelude.{ℕ, suc, List, map, Option}
 use Rattle.std.specs.Global.{Vec}
 use Rattle.pst_base.specs.declared.position.Place.{Place}
 use Rattle.pst_token.specs.declared.kind.Kind.TheVariants as kind
-use Rattle.pst_ast.specs.declared.shared.LabelNode.{LabelNode}
-use Rattle.pst_ast.specs.declared.shared.NextName.{NextName}
-use Rattle.pst_ast.specs.declared.shared.ScopedName.{ScopedName}
-use Rattle.pst_ast.specs.declared.shared.TypeName.{TypeName}
-use Rattle.pst_ast.specs.declared.expression.NextRange.{NextRange}
 use Rattle.pst_ast.specs.declared.activity.EndNode.{EndNode}
 use Rattle.pst_ast.specs.declared.activity.NextEnd.{NextEnd}
-use Rattle.pst_ast.specs.declared.activity.JoinNode.{JoinNode}
-use Rattle.pst_ast.specs.declared.activity.WeightNode.{WeightNode}
-use Rattle.pst_ast.specs.declared.activity.GuardNode.{GuardNode}
 use Rattle.pst_ast.specs.declared.activity.StatementNode.{StatementNode}
 use Rattle.pst_ast.specs.declared.activity.BranchNode.{BranchNode}
 use Rattle.pst_ast.specs.declared.activity.ArmNode.{ArmNode}
 use Rattle.pst_ast.specs.declared.activity.TogetherWord.{TogetherWord}
-use Rattle.pst_ast.specs.ExpressionTree.{ExprTree, RangesTree, RangeTree, NextRangeTree, NextRangeRow}
-use Rattle.pst_ast.specs.ExpressionView.{view_expr, view_next_range}
-use Rattle.pst_ast.specs.SharedTree.{NamesTree}
 use Rattle.pst_ast.specs.ActivityTree.{ActivityTree, StatementTree, CoreTree, BranchTree, ArmTree, GuardTree, WeightTree, ArmLabelTree, JoinTree, WithTree, BindTree, OtherEndsTree, StatementRow, BranchRow, ArmRow}
-use Rattle.pst_ast.specs.ActivityView.{view_join, view_weight, view_guard, view_statement, view_branch, view_arm}
+use Rattle.pst_ast.specs.ActivityView.{view_statement, view_branch, view_arm}
 use Rattle.pst_reading.specs.Gives.{Family}
 use Rattle.pst_reading.specs.Lists.{listed}
 use Rattle.pst_reading.specs.Options.{option_by, row_by}
 use Rattle.pst_parse_expr.specs.Constraints.{is_at, is_other, outermost_at, constraint_at}
-use Rattle.pst_parse_act.specs.declared.labels.Counter.{Counter}
-use Rattle.pst_parse_act.specs.Activities.{scoped_name_by, type_name_by, next_name_by, names_by, end_by, next_end_by, one_end_by, several_ends_by, other_ends_by, bind_by, branch_join_by, nothing_join_by, select_join_by, join_by, begins_join, weight_by, condition_guard_by, weight_guard_by, guard_by, begins_guard, between_by, range_by, next_range_by, range_row, next_ranges_by, ranges_by, ranges_label_by, default_label_by, arm_label_by, with_set_by, with_nothing_by, with_by, do_by, handle_by, statement_row, statements_by, sequence_word_by, sequence_by, together_by, branch_by, branch_row, branches_by, select_by, name_alone, index_of, CounterTree, counter_behind, counter_by, repeated_by, else_by, maybe_else_by, if_by, arm_by, arm_row, arms_by, match_by, bound_by, core_by, empty_by, labeled_by, traversed_by, named_by, plain_by, statement_by, statement_at, activity_by, activity_at}
+use Rattle.pst_parse_act.specs.Activities.{end_by, next_end_by, one_end_by, several_ends_by, other_ends_by, bind_by, branch_join_by, nothing_join_by, select_join_by, join_by, begins_join, weight_by, condition_guard_by, weight_guard_by, guard_by, begins_guard, ranges_label_by, default_label_by, arm_label_by, with_set_by, with_nothing_by, with_by, do_by, handle_by, statement_row, sequence_word_by, sequence_by, together_by, branch_by, branch_row, select_by, repeated_by, if_by, arm_by, arm_row, match_by, bound_by, core_by, empty_by, named_by, plain_by, statement_by, statement_at, activity_at}
 
 -- ---- one part
-
-abbrev pub scoped_name_family : ℕ → Family ScopedName
-scoped_name_family depth size prefixes = scoped_name_by depth
-
-abbrev pub type_name_family : ℕ → Family TypeName
-type_name_family depth size prefixes = type_name_by depth
-
-abbrev pub next_name_family : ℕ → Family NextName
-next_name_family depth size prefixes = next_name_by depth
-
-abbrev pub names_family : ℕ → Family NamesTree
-names_family depth size prefixes = names_by size depth
 
 abbrev pub end_family : ℕ → Family EndNode
 end_family depth size prefixes = end_by depth
@@ -86,26 +61,14 @@ weight_guard_family depth size prefixes = weight_guard_by (outermost_at (suc siz
 abbrev pub guard_family : ℕ → Family GuardTree
 guard_family depth size prefixes = guard_by (outermost_at (suc size)) depth
 
-abbrev pub range_family : ℕ → Family RangeTree
-range_family depth size prefixes = range_by (outermost_at (suc size)) depth
-
-abbrev pub next_range_family : ℕ → Family NextRangeTree
-next_range_family depth size prefixes = next_range_by (outermost_at (suc size)) depth
-
-abbrev pub ranges_family : ℕ → Family RangesTree
-ranges_family depth size prefixes = ranges_by (outermost_at (suc size)) size depth
-
 abbrev pub ranges_label_family : ℕ → Family ArmLabelTree
-ranges_label_family depth size prefixes = ranges_label_by (outermost_at (suc size)) size depth
+ranges_label_family depth size prefixes = ranges_label_by size depth
 
 abbrev pub default_label_family : ℕ → Family ArmLabelTree
 default_label_family depth size prefixes = default_label_by depth
 
 abbrev pub arm_label_family : ℕ → Family ArmLabelTree
-arm_label_family depth size prefixes = arm_label_by (outermost_at (suc size)) size depth
-
-abbrev pub counter_family : ℕ → Family CounterTree
-counter_family depth size prefixes = counter_by (outermost_at (suc size)) depth
+arm_label_family depth size prefixes = arm_label_by size depth
 
 abbrev pub with_set_family : ℕ → Family WithTree
 with_set_family depth size prefixes = with_set_by (constraint_at (suc size)) depth
@@ -175,9 +138,6 @@ activity_family depth size prefixes = activity_at size depth
 
 -- ---- parts that may be left out
 
-abbrev pub maybe_scoped_name_family : ℕ → Family (Option ScopedName)
-maybe_scoped_name_family depth size prefixes = option_by (is_at kind.ColonColon) (scoped_name_family depth size prefixes)
-
 abbrev pub maybe_join_family : ℕ → Family (Option JoinTree)
 maybe_join_family depth size prefixes = option_by begins_join (join_family depth size prefixes)
 
@@ -192,14 +152,8 @@ maybe_sequence_word_family depth size prefixes = option_by (is_at kind.Sequence)
 
 -- ---- parts in a row
 
-abbrev pub next_names_family : ℕ → Family (List NextName)
-next_names_family depth = listed (is_at kind.Comma) (next_name_family depth)
-
 abbrev pub next_ends_family : ℕ → Family (List NextEnd)
 next_ends_family depth = listed (is_at kind.Comma) (next_end_family depth)
-
-abbrev pub next_ranges_family : ℕ → Family (List NextRangeTree)
-next_ranges_family depth = listed (is_at kind.Comma) (next_range_family depth)
 
 abbrev pub statements_family : ℕ → Family (List StatementTree)
 statements_family depth = listed (is_other kind.RightBrace) (nested_family depth)
@@ -209,9 +163,6 @@ branches_family depth = listed (is_other kind.RightBrace) (branch_family depth)
 
 abbrev pub arms_family : ℕ → Family (List ArmTree)
 arms_family depth = listed (is_other kind.RightBrace) (arm_family depth)
-
-abbrev pub range_row_family : ℕ → Family NextRangeRow
-range_row_family depth size prefixes = row_by range_row (next_ranges_family depth size prefixes)
 
 abbrev pub statement_row_family : ℕ → Family StatementRow
 statement_row_family depth size prefixes = row_by statement_row (statements_family depth size prefixes)
@@ -223,12 +174,6 @@ abbrev pub arm_row_family : ℕ → Family ArmRow
 arm_row_family depth size prefixes = row_by arm_row (arms_family depth size prefixes)
 
 -- ---- what the program has, without where it lies in memory
-
-abbrev pub view_counter : Counter → CounterTree
-view_counter c = (c.index, view_expr c.count)
-
-abbrev pub view_next_ranges : Vec NextRange → List NextRangeTree
-view_next_ranges v = map view_next_range v.items
 
 abbrev pub view_statements : Vec StatementNode → List StatementTree
 view_statements v = map view_statement v.items

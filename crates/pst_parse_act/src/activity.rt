@@ -8,12 +8,13 @@ ghost use Rattle.pst_ast.specs.Marks.{together_word_kind};
 ghost use Rattle.pst_reading.specs.Reads.{Reads, ReadsOpen};
 ghost use Rattle.pst_parse_act.specs.ActivityFamilies.{sequence_word_family, maybe_sequence_word_family, sequence_family, together_family, branch_family, branches_family, select_family, repeated_family, if_family, arm_family, arms_family, match_family, core_family, empty_family, named_family, plain_family, statement_family, statements_family, view_statements, view_branches, view_arms};
 
-use crate::labels::{arm_label, maybe_guard, read_counter};
+use crate::labels::{arm_label, maybe_guard};
 use crate::parts::maybe_join;
 use crate::traversal::{bound_core, do_core, handle_core, with_part};
 use pst_ast::{ArmNode, BranchNode, CoreNode, LabelNode, StatementNode, SyntaxFault, TogetherWord};
 use pst_base::Place;
 use pst_parse_expr::shared::outermost;
+use pst_parse_part::times::{Times, read_times};
 use pst_reading::{boxed, expect, expect_name, is, is_name, push};
 use pst_token::{Kind, Token};
 use std::alloc::Global;
@@ -190,17 +191,22 @@ fn repeat_core(
     ensures { ReadsOpen view_core core_ends_open (repeated_family depth) tokens.now at at result }
 {
     let repeat = expect(tokens, at, Kind::Repeat, depth, 0)?;
-    let left_parenthesis = expect(tokens, at + 1, Kind::LeftParenthesis, depth, 0)?;
-    let (counter, behind) = read_counter(alloc, tokens, at + 2, depth)?;
-    let right_parenthesis = expect(tokens, behind, Kind::RightParenthesis, depth, 0)?;
-    let (repeated, after) = statement(alloc, tokens, behind + 1, depth + 1)?;
+    let (times, behind) = read_times(alloc, tokens, at + 1, depth)?;
+    let (repeated, after) = statement(alloc, tokens, behind, depth + 1)?;
+    let statement = boxed(alloc, repeated)?;
+    let Times {
+        left_parenthesis,
+        index,
+        count,
+        right_parenthesis,
+    } = times;
     let core = CoreNode::Repeat {
         repeat,
         left_parenthesis,
-        index: counter.index,
-        count: counter.count,
+        index,
+        count,
         right_parenthesis,
-        statement: boxed(alloc, repeated)?,
+        statement,
     };
     Ok((core, after))
 }

@@ -1,104 +1,19 @@
-//! Names, `bind` and join forms. A parser stands at a place, and `depth` derivations that count are
+//! `bind` and join forms. A parser stands at a place, and `depth` derivations that count are
 //! open at the tokens of its part; it answers the part and the place behind it.
 ghost use Rattle.std.specs.Prelude.{◌≡◌, ◌≤◌, ◌-◌, length, drop};
 ghost use Rattle.std.specs.Option.{option_map};
-ghost use Rattle.pst_ast.specs.SharedView.{view_names};
 ghost use Rattle.pst_ast.specs.ActivityView.{view_other_ends, view_bind, view_join};
 ghost use Rattle.pst_reading.specs.Parser.{next};
 ghost use Rattle.pst_reading.specs.Reads.{Reads};
 ghost use Rattle.pst_parse_act.specs.Activities;
-ghost use Rattle.pst_parse_act.specs.ActivityFamilies.{scoped_name_family, maybe_scoped_name_family, type_name_family, next_name_family, next_names_family, names_family, end_family, next_end_family, next_ends_family, one_end_family, several_ends_family, other_ends_family, bind_family, branch_join_family, nothing_join_family, select_join_family, join_family, maybe_join_family};
+ghost use Rattle.pst_parse_act.specs.ActivityFamilies.{end_family, next_end_family, next_ends_family, one_end_family, several_ends_family, other_ends_family, bind_family, branch_join_family, nothing_join_family, select_join_family, join_family, maybe_join_family};
 
-use pst_ast::{
-    BindNode, EndNode, JoinNode, NamesNode, NextEnd, NextName, OtherEnds, ScopedName, SyntaxFault,
-    TypeName,
-};
+use pst_ast::{BindNode, EndNode, JoinNode, NextEnd, OtherEnds, SyntaxFault};
 use pst_parse_expr::shared::outermost;
+use pst_parse_part::names::names;
 use pst_reading::{expect, expect_name, is, push};
 use pst_token::{Kind, Token};
 use std::alloc::Global;
-
-// `::` and a name.
-fn scoped_name(tokens: &[Token], at: usize, depth: u32) -> Result<(ScopedName, usize), SyntaxFault>
-    requires inside { at ≤ length tokens.now }
-    ensures { Reads (λ name. name) (scoped_name_family depth) tokens.now at at 1 result }
-{
-    let colons = expect(tokens, at, Kind::ColonColon, depth, 0)?;
-    let name = expect_name(tokens, at + 1, depth, 0)?;
-    Ok((ScopedName { colons, name }, at + 2))
-}
-
-// `::` and a name, where `::` comes next.
-fn maybe_scoped_name(
-    tokens: &[Token],
-    at: usize,
-    depth: u32,
-) -> Result<(Option<ScopedName>, usize), SyntaxFault>
-    requires inside { at ≤ length tokens.now }
-    ensures { Reads (λ name. name) (maybe_scoped_name_family depth) tokens.now at at 0 result }
-{
-    if !is(tokens, at, Kind::ColonColon) {
-        return Ok((None, at));
-    }
-    let (name, after) = scoped_name(tokens, at, depth)?;
-    Ok((Some(name), after))
-}
-
-// The name of a type.
-pub fn type_name(tokens: &[Token], at: usize, depth: u32) -> Result<(TypeName, usize), SyntaxFault>
-    requires inside { at ≤ length tokens.now }
-    ensures { Reads (λ name. name) (type_name_family depth) tokens.now at at 1 result }
-{
-    let first = expect_name(tokens, at, depth, 0)?;
-    let (second, after) = maybe_scoped_name(tokens, at + 1, depth)?;
-    Ok((TypeName { first, second }, after))
-}
-
-// A name behind a comma.
-fn next_name(tokens: &[Token], at: usize, depth: u32) -> Result<(NextName, usize), SyntaxFault>
-    requires inside { at ≤ length tokens.now }
-    ensures { Reads (λ name. name) (next_name_family depth) tokens.now at at 1 result }
-{
-    let comma = expect(tokens, at, Kind::Comma, depth, 0)?;
-    let name = expect_name(tokens, at + 1, depth, 0)?;
-    Ok((NextName { comma, name }, at + 2))
-}
-
-// Names behind commas.
-fn next_names(
-    alloc: Global,
-    tokens: &[Token],
-    at: usize,
-    depth: u32,
-) -> Result<(Vec<NextName>, usize), SyntaxFault>
-    requires inside { at ≤ length tokens.now }
-    requires behind { 1 ≤ at }
-    ensures { Reads (λ v. v.items) (next_names_family depth) tokens.now (at - 1) at 0 result }
-{
-    let mut names = Vec::new(alloc);
-    let mut place = at;
-    'names: while is(tokens, place, Kind::Comma) {
-        let (name, after) = next_name(tokens, place, depth)?;
-        push(&mut names, name)?;
-        place = after;
-    }
-    Ok((names, place))
-}
-
-// Names with commas between them.
-fn names(
-    alloc: Global,
-    tokens: &[Token],
-    at: usize,
-    depth: u32,
-) -> Result<(NamesNode, usize), SyntaxFault>
-    requires inside { at ≤ length tokens.now }
-    ensures { Reads view_names (names_family depth) tokens.now at at 1 result }
-{
-    let first = expect_name(tokens, at, depth, 0)?;
-    let (rest, after) = next_names(alloc, tokens, at + 1, depth)?;
-    Ok((NamesNode { first, rest }, after))
-}
 
 // An end of a bind: a handle and a reference of its action.
 fn end(tokens: &[Token], at: usize, depth: u32) -> Result<(EndNode, usize), SyntaxFault>

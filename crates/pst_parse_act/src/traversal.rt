@@ -7,9 +7,10 @@ ghost use Rattle.pst_ast.specs.ActivityProper.{with_ends_open, core_ends_open};
 ghost use Rattle.pst_reading.specs.Reads.{ReadsOpen};
 ghost use Rattle.pst_parse_act.specs.ActivityFamilies.{with_set_family, with_nothing_family, with_family, do_family, handle_family, bound_family};
 
-use crate::parts::{bind, type_name};
+use crate::parts::bind;
 use pst_ast::{CoreNode, SyntaxFault, WithNode};
 use pst_parse_expr::constraint::set;
+use pst_parse_part::names::type_name;
 use pst_reading::{expect, expect_name, is};
 use pst_token::{Kind, Token};
 use std::alloc::Global;

@@ -1,44 +1,46 @@
 -- Bodies read what they spell again.
-use Rattle.std.proofs.Common.{◌≡◌, ℕ, zero, suc, ◌≤◌, ◌<◌, Bool, true, false, ◌&&◌, if◌then◌else◌, List, [], ◌∷◌, ◌++◌, length, Some, Option, None, refl, sym, ap, subst, ◌∙◌, arith, append-nil, append_assoc, length-append}
+use Rattle.std.proofs.Common.{◌≡◌, ℕ, zero, suc, ◌≤◌, ◌<◌, Bool, true, false, if◌then◌else◌, List, [], ◌∷◌, ◌++◌, length, Some, Option, None, refl, sym, ap, subst, ◌∙◌, arith, append-nil, append_assoc, length-append}
 use Rattle.std.specs.List.{flat_map, AllByRecursion}
 use Rattle.pst_base.specs.declared.position.Place.{Place}
-use Rattle.pst_token.specs.declared.kind.Kind.{Kind}
 use Rattle.pst_token.specs.declared.kind.Kind.TheVariants as kind
 use Rattle.pst_token.specs.declared.token.Token.{Token}
 use Rattle.pst_ast.specs.declared.leaf.Name.{Name}
-use Rattle.pst_ast.specs.declared.shared.LabelNode.{LabelNode}
 use Rattle.pst_ast.specs.Marks.{mark, name_token, spell_option, OptionIs}
 use Rattle.pst_ast.specs.Limits.{Count, counted, counts_option}
 use Rattle.pst_ast.specs.ExpressionTree.{ExprTree}
 use Rattle.pst_ast.specs.ExpressionSpelling.{spell_expr}
 use Rattle.pst_ast.specs.ExpressionProper.{IsProperExpr}
 use Rattle.pst_ast.specs.ExpressionLimits.{counts_expr}
-use Rattle.pst_ast.specs.SharedTree.{NextExprTree, MakeNextExpr, LowTree, MakeLow, WidthTree, MakeWidth, PlainTree, PlainInt, PlainBit, PlainBool}
-use Rattle.pst_ast.specs.SharedSpelling.{spell_label, spell_next_expr, spell_low, spell_width, spell_plain}
-use Rattle.pst_ast.specs.SharedProper.{IsProperNextExpr, IsProperLow, IsProperWidth, IsProperPlain}
-use Rattle.pst_ast.specs.SharedLimits.{counts_label, counts_next_expr, counts_low, counts_width, counts_plain}
+use Rattle.pst_ast.specs.SharedTree.{NextExprTree, MakeNextExpr, PlainTree, PlainInt, PlainBit, PlainBool}
+use Rattle.pst_ast.specs.SharedSpelling.{spell_label, spell_next_expr, spell_plain}
+use Rattle.pst_ast.specs.SharedProper.{IsProperNextExpr, IsProperPlain}
+use Rattle.pst_ast.specs.SharedLimits.{counts_label, counts_next_expr, counts_plain}
 use Rattle.pst_ast.specs.BodyTree.{BodyTree, MakeBody, BodyStatementTree, BodyStatementEmpty, BodyStatementLocal, BodyStatementAssign, BodyStatementCall, BodyStatementBlock, BodyStatementIf, BodyStatementIfElse, BodyStatementRepeat, ValueTree, MakeValue, SourceTree, SourceCall, SourceExpr, MakeCall, ArgumentsTree, MakeArguments, BodyStatementRow, NoBodyStatementRow, MoreBodyStatementRow}
 use Rattle.pst_ast.specs.BodySpelling.{spell_arguments, spell_call, spell_source, spell_value, spell_body_statement, spell_body_statement_row, spell_body}
 use Rattle.pst_ast.specs.BodyProper.{body_ends_open, IsProperArguments, IsProperSource, IsProperValue, IsProperBodyStatement, AreProperBodyStatement, IsProperBody}
 use Rattle.pst_ast.specs.BodyLimits.{counts_arguments, counts_source, counts_value, counts_body_statement, counts_body}
 use Rattle.pst_reading.specs.Kinds.{is_mark, is_name, next_is}
 use Rattle.pst_reading.specs.Parser.{Parser, Done, next}
-use Rattle.pst_reading.specs.Peeking.{name_then}
 use Rattle.pst_reading.proofs.Becoming.{Becomes, stays, becomes_both, becomes_followed}
 use Rattle.pst_reading.proofs.Marks.{choice_becomes, look_becomes, test_becomes}
-use Rattle.pst_reading.proofs.Tokens.{mark_is_so, name_is_so}
+use Rattle.pst_reading.proofs.Tokens.{mark_is_so}
 use Rattle.pst_reading.proofs.Chains.{becomes_mark, becomes_name}
 use Rattle.pst_reading.proofs.Lists.{list_again}
 use Rattle.pst_reading.proofs.Peeking.{takes, takes_followed, peek_becomes}
 use Rattle.pst_parse_expr.specs.Constraints.{Within, outermost_at, is_at, is_other, ConditionTree, condition_by, next_expr_by, next_exprs_by}
-use Rattle.pst_parse_expr.proofs.Stops.{IsNo, Separates, separated, semicolon_closes, right_parenthesis_closes, right_bracket_closes, comma_closes, colon_closes}
+use Rattle.pst_parse_expr.proofs.Stops.{IsNo, Separates, separated, semicolon_closes, right_parenthesis_closes, comma_closes}
 use Rattle.pst_parse_expr.proofs.ExprAgain.{expr_again}
 use Rattle.pst_parse_expr.proofs.Starts.{starts_expr, no_parenthesis_begins}
-use Rattle.pst_parse_expr.proofs.Takes.{expr_takes, expr_apart, colon_outside, parenthesis_outside}
+use Rattle.pst_parse_expr.proofs.Takes.{expr_takes, expr_apart, parenthesis_outside}
 use Rattle.pst_parse_expr.proofs.SharedLaws.{spell_condition, IsProperCondition, counts_condition, same_text, bracketed, condition_again, next_expr_again, next_expr_starts, some_next_expr, brace_ends, brace_is_no_else}
-use Rattle.pst_parse_body.specs.Types.{low_expr, low_there, low_by, width_close, width_low, width_expr, width_there, width_by, int_width, int_by, bit_width, bit_by, bool_by, plain_by, begins_plain}
-use Rattle.pst_parse_body.specs.Bodies.{label_colon, label_by, TimesTree, times_close, times_count, times_label, times_inner, times_by, arguments_rest, some_arguments, arguments_by, call_close, call_arguments, call_tail, call_by, source_call, source_expr, source_by, value_source, value_by, maybe_value_by, local_end, local_value, local_name, local_by, assigned, assign_end, assign_by, call_end, called_by, behind_name, named_by, otherwise_by, else_by, maybe_else_by, behind_then, then_by, if_condition_by, if_by, repeated_by, times_statement, loop_by, statement_row, statements_by, block_close, block_statements, block_by, empty_by, local_or_named, statement_by, statement_at, body_close, body_statements, body_open, body_word, body_at}
-use Rattle.pst_parse_body.proofs.BodyExplains.{spell_times, IsProperTimes, counts_times, row_spelled, row_counted, label_takes, call_takes}
+use Rattle.pst_parse_body.specs.Types.{begins_plain}
+use Rattle.pst_parse_part.specs.Plain.{plain_by}
+use Rattle.pst_parse_body.specs.Bodies.{arguments_rest, some_arguments, arguments_by, call_close, call_arguments, call_tail, call_by, source_call, source_expr, source_by, value_source, value_by, maybe_value_by, local_end, local_value, local_name, local_by, assigned, assign_end, assign_by, call_end, called_by, behind_name, named_by, otherwise_by, else_by, maybe_else_by, behind_then, then_by, if_condition_by, if_by, repeated_by, times_statement, loop_by, statement_row, statements_by, block_close, block_statements, block_by, empty_by, local_or_named, statement_by, statement_at, body_close, body_statements, body_open, body_word, body_at}
+use Rattle.pst_parse_part.specs.Times.{TimesTree, times_by}
+use Rattle.pst_parse_body.proofs.BodyExplains.{row_spelled, row_counted, call_takes}
+use Rattle.pst_parse_part.proofs.TimesExplain.{spell_times, IsProperTimes, counts_times, times_spelled}
+use Rattle.pst_parse_part.proofs.PlainAgain.{plain_rereads}
+use Rattle.pst_parse_part.proofs.TimesAgain.{name_and_mark, times_again}
 
 -- what may follow a statement: behind an open `if` no `else`
 abbrev pub StopsStatement : BodyStatementTree → Option Token → Type 0
@@ -61,14 +63,6 @@ all_proper (s ∷ ss) h = (h.0, all_proper ss h.1)
 
 -- ---- tokens told apart
 
-no_colon_at_bracket : (p : Place) → IsNo kind.Colon (Some (mark kind.RightBracket p))
-unfolding is_mark
-no_colon_at_bracket p = refl
-
-no_colon_at_parenthesis : (p : Place) → IsNo kind.Colon (Some (mark kind.RightParenthesis p))
-unfolding is_mark
-no_colon_at_parenthesis p = refl
-
 no_comma_at_parenthesis : (p : Place) → is_at kind.Comma (Some (mark kind.RightParenthesis p)) ≡ false
 unfolding is_mark
 no_comma_at_parenthesis p = refl
@@ -88,21 +82,6 @@ no_equal_at_parenthesis p = refl
 no_parenthesis_at_semicolon : (p : Place) → IsNo kind.LeftParenthesis (Some (mark kind.Semicolon p))
 unfolding is_mark
 no_parenthesis_at_semicolon p = refl
-
-no_int_at_bit : (p : Place) → IsNo kind.Int (Some (mark kind.Bit p))
-unfolding is_mark
-no_int_at_bit p = refl
-
-no_int_at_bool : (p : Place) → IsNo kind.Int (Some (mark kind.Bool p))
-unfolding is_mark
-no_int_at_bool p = refl
-
-no_bit_at_bool : (p : Place) → IsNo kind.Bit (Some (mark kind.Bool p))
-unfolding is_mark
-no_bit_at_bool p = refl
-
-name_and_mark : (k : Kind) (n : Name) (p : Place) (ts : List Token) → name_then k (name_token n ∷ mark k p ∷ ts) ≡ true
-name_and_mark k n p ts = ap (λ (b : Bool). b && is_mark k (mark k p)) (name_is_so n) ∙ mark_is_so k p
 
 -- which statement the next token begins
 record BeginsStatement (semicolon left if_word repeat plain : Bool) (n : Option Token) : Type 0 where
@@ -176,96 +155,7 @@ some_statement (BodyStatementIfElse i l e r t x o) = omega arith
 some_statement (BodyStatementRepeat r l i e c s) = omega arith
 
 module _ (X : Within ExprTree) (size : ℕ) (AX : (d : ℕ) (e : ExprTree) (rest : List Token) → IsProperExpr e → length (spell_expr e) ≤ size → Separates 0 (next rest) → Becomes (X d) (spell_expr e ++ rest) (counts_expr d 0 e) (Done e) rest) where
-  -- ---- plain types
-
-  low_again : (d : ℕ) (low : Option LowTree) (r : Place) (rest : List Token) → OptionIs IsProperLow low → length (spell_option spell_low low) ≤ size → Becomes (low_by X d) (spell_option spell_low low ++ mark kind.RightBracket r ∷ rest) (counts_option (counts_low d) low) (Done low) (mark kind.RightBracket r ∷ rest)
-  low_again d None r rest proper short = choice_becomes kind.Colon (low_there X d) (Done None) (Done None) (mark kind.RightBracket r ∷ rest) (mark kind.RightBracket r ∷ rest) [] false (no_colon_at_bracket r) (stays (Done None) (mark kind.RightBracket r ∷ rest))
-  low_again d (Some (MakeLow colon e)) r rest proper short =
-      let us = mark kind.RightBracket r ∷ rest in
-      let low = Some (MakeLow colon e) in
-      choice_becomes kind.Colon (low_there X d) (Done None) (Done low) (mark kind.Colon colon ∷ (spell_expr e ++ us)) us (counted d 0 ∷ counts_expr d 0 e) true (mark_is_so kind.Colon colon)
-      (becomes_mark kind.Colon (counted d 0) (low_expr X d) colon (Done low) (spell_expr e ++ us) us (counts_expr d 0 e)
-      (becomes_followed (X d) (Done e) (λ x. Done (Some (MakeLow colon x))) (spell_expr e ++ us) us (counts_expr d 0 e) (AX d e us proper (omega (arith, short)) (right_bracket_closes r))))
-
-  -- what stands behind the expression of a width
-  low_separates : (low : Option LowTree) (r : Place) (rest : List Token) → Separates 0 (next (spell_option spell_low low ++ mark kind.RightBracket r ∷ rest))
-  low_separates None r rest = right_bracket_closes r
-  low_separates (Some (MakeLow colon e)) r rest = colon_closes colon
-
-  width_again : (d : ℕ) (w : Option WidthTree) (rest : List Token) → OptionIs IsProperWidth w → length (spell_option spell_width w) ≤ size → IsNo kind.LeftBracket (next rest) → Becomes (width_by X d) (spell_option spell_width w ++ rest) (counts_option (counts_width d) w) (Done w) rest
-  width_again d None rest proper short none = choice_becomes kind.LeftBracket (width_there X d) (Done None) (Done None) rest rest [] false none (stays (Done None) rest)
-  width_again d (Some (MakeWidth l e low r)) rest proper short none =
-      let c = counted d 0 in
-      let w = Some (MakeWidth l e low r) in
-      let us = mark kind.RightBracket r ∷ rest in
-      let vs = spell_option spell_low low ++ us in
-      let cs = counts_option (counts_low d) low in
-      let inner = spell_option spell_low low ++ mark kind.RightBracket r ∷ [] in
-      let long = length-append (spell_expr e) inner in
-      let longer = length-append (spell_option spell_low low) (mark kind.RightBracket r ∷ []) in
-      same_text (width_by X d) (Done w) (spell_width (MakeWidth l e low r) ++ rest) (mark kind.LeftBracket l ∷ (spell_expr e ++ vs)) rest (counts_width d (MakeWidth l e low r)) (counts_width d (MakeWidth l e low r))
-      (ap (λ (u : List Token). mark kind.LeftBracket l ∷ u) (ap (λ (u : List Token). spell_expr e ++ u) (sym (append_assoc (spell_option spell_low low) (mark kind.RightBracket r ∷ []) rest)) ∙ sym (append_assoc (spell_expr e) inner rest))) refl
-      (choice_becomes kind.LeftBracket (width_there X d) (Done None) (Done w) (mark kind.LeftBracket l ∷ (spell_expr e ++ vs)) rest (counts_width d (MakeWidth l e low r)) true (mark_is_so kind.LeftBracket l)
-      (becomes_mark kind.LeftBracket c (width_expr X d) l (Done w) (spell_expr e ++ vs) rest (counts_expr d 0 e ++ (cs ++ c ∷ []))
-      (becomes_both (X d) (width_low X d l) e (Done w) (spell_expr e ++ vs) vs rest (counts_expr d 0 e) (cs ++ c ∷ []) (AX d e vs proper.0 (omega (arith, short, long)) (low_separates low r rest))
-      (becomes_both (low_by X d) (width_close d l e) low (Done w) vs us rest cs (c ∷ []) (low_again d low r rest proper.1 (omega (arith, short, long, longer)))
-      (becomes_mark kind.RightBracket c (λ x. Done (Some (MakeWidth l e low x))) r (Done w) rest rest [] (stays (Done w) rest))))))
-
-  plain_again : (d : ℕ) (p : PlainTree) (rest : List Token) → IsProperPlain p → length (spell_plain p) ≤ size → IsNo kind.LeftBracket (next rest) → Becomes (plain_by X d) (spell_plain p ++ rest) (counts_plain d p) (Done p) rest
-  plain_again d (PlainInt p w) rest proper short none =
-      let ts = spell_option spell_width w ++ rest in
-      let cs = counts_option (counts_width d) w in
-      choice_becomes kind.Int (int_by X d) _ (Done (PlainInt p w)) (mark kind.Int p ∷ ts) rest (counted d 0 ∷ cs) true (mark_is_so kind.Int p)
-      (becomes_mark kind.Int (counted d 0) (int_width X d) p (Done (PlainInt p w)) ts rest cs
-      (becomes_followed (width_by X d) (Done w) (λ x. Done (PlainInt p x)) ts rest cs (width_again d w rest proper (omega (arith, short)) none)))
-  plain_again d (PlainBit p w) rest proper short none =
-      let ts = spell_option spell_width w ++ rest in
-      let cs = counts_option (counts_width d) w in
-      choice_becomes kind.Int (int_by X d) _ (Done (PlainBit p w)) (mark kind.Bit p ∷ ts) rest (counted d 0 ∷ cs) false (no_int_at_bit p)
-      (choice_becomes kind.Bit (bit_by X d) (bool_by d) (Done (PlainBit p w)) (mark kind.Bit p ∷ ts) rest (counted d 0 ∷ cs) true (mark_is_so kind.Bit p)
-      (becomes_mark kind.Bit (counted d 0) (bit_width X d) p (Done (PlainBit p w)) ts rest cs
-      (becomes_followed (width_by X d) (Done w) (λ x. Done (PlainBit p x)) ts rest cs (width_again d w rest proper (omega (arith, short)) none))))
-  plain_again d (PlainBool p) rest proper short none =
-      choice_becomes kind.Int (int_by X d) _ (Done (PlainBool p)) (mark kind.Bool p ∷ rest) rest (counted d 0 ∷ []) false (no_int_at_bool p)
-      (choice_becomes kind.Bit (bit_by X d) (bool_by d) (Done (PlainBool p)) (mark kind.Bool p ∷ rest) rest (counted d 0 ∷ []) false (no_bit_at_bool p)
-      (becomes_mark kind.Bool (counted d 0) (λ x. Done (PlainBool x)) p (Done (PlainBool p)) rest rest [] (stays (Done (PlainBool p)) rest)))
-
   module _ (TX : (d : ℕ) (t : Token) → is_name t ≡ true → takes (X d) t ≡ Some (counted d 0)) where
-    -- ---- counts
-
-    count_again : (d : ℕ) (l : Place) (i : Option LabelNode) (e : ExprTree) (r : Place) (rest : List Token) → IsProperExpr e → length (spell_expr e) ≤ size → Becomes (times_count X d l i) (spell_expr e ++ mark kind.RightParenthesis r ∷ rest) (counts_expr d 0 e ++ counted d 0 ∷ []) (Done (l, i, e, r)) rest
-    count_again d l i e r rest proper short =
-        let us = mark kind.RightParenthesis r ∷ rest in
-        becomes_both (X d) (times_close d l i) e (Done (l, i, e, r)) (spell_expr e ++ us) us rest (counts_expr d 0 e) (counted d 0 ∷ []) (AX d e us proper short (right_parenthesis_closes r))
-        (becomes_mark kind.RightParenthesis (counted d 0) (λ x. Done (l, i, e, x)) r (Done (l, i, e, r)) rest rest [] (stays (Done (l, i, e, r)) rest))
-
-    inner_again : (d : ℕ) (l : Place) (i : Option LabelNode) (e : ExprTree) (r : Place) (rest : List Token) → IsProperExpr e → length (spell_expr e) ≤ size → Becomes (times_inner X d l) (spell_option spell_label i ++ (spell_expr e ++ mark kind.RightParenthesis r ∷ rest)) (counts_option (counts_label d) i ++ (counts_expr d 0 e ++ counted d 0 ∷ [])) (Done (l, i, e, r)) rest
-    inner_again d l None e r rest proper short =
-        let ts = spell_expr e ++ mark kind.RightParenthesis r ∷ rest in
-        peek_becomes kind.Colon (counted d 0) (times_label X d l) (times_count X d l None) (λ t f. label_takes d (λ label. times_count X d l (Some label)) t f) (λ t f. takes_followed (X d) (times_close d l None) t (counted d 0) (TX d t f)) false (Done (l, None, e, r)) ts rest (counts_expr d 0 e ++ counted d 0 ∷ [])
-        (expr_apart kind.Colon colon_outside e (mark kind.RightParenthesis r ∷ rest) (no_colon_at_parenthesis r))
-        (count_again d l None e r rest proper short)
-    inner_again d l (Some i) e r rest proper short =
-        let c = counted d 0 in
-        let us = spell_expr e ++ mark kind.RightParenthesis r ∷ rest in
-        let cs = counts_expr d 0 e ++ c ∷ [] in
-        let whole : TimesTree = (l, Some i, e, r) in
-        peek_becomes kind.Colon c (times_label X d l) (times_count X d l None) (λ t f. label_takes d (λ label. times_count X d l (Some label)) t f) (λ t f. takes_followed (X d) (times_close d l None) t c (TX d t f)) true (Done whole) (name_token i.name ∷ mark kind.Colon i.colon ∷ us) rest (c ∷ c ∷ cs)
-        (name_and_mark kind.Colon i.name i.colon us)
-        (becomes_both (label_by d) (λ label. times_count X d l (Some label)) i (Done whole) (name_token i.name ∷ mark kind.Colon i.colon ∷ us) us rest (c ∷ c ∷ []) cs
-        (becomes_name c (label_colon d) i.name (Done i) (mark kind.Colon i.colon ∷ us) us (c ∷ [])
-        (becomes_mark kind.Colon c (λ x. Done (record { name = i.name; colon = x })) i.colon (Done i) us us [] (stays (Done i) us)))
-        (count_again d l (Some i) e r rest proper short))
-
-    times_text : (t : TimesTree) (rest : List Token) → mark kind.LeftParenthesis t.0 ∷ (spell_option spell_label t.1 ++ (spell_expr t.2 ++ mark kind.RightParenthesis t.3 ∷ rest)) ≡ spell_times t ++ rest
-    times_text t rest = ap (λ (u : List Token). mark kind.LeftParenthesis t.0 ∷ u) (ap (λ (u : List Token). spell_option spell_label t.1 ++ u) (sym (append_assoc (spell_expr t.2) (mark kind.RightParenthesis t.3 ∷ []) rest)) ∙ sym (append_assoc (spell_option spell_label t.1) (spell_expr t.2 ++ mark kind.RightParenthesis t.3 ∷ []) rest))
-
-    times_again : (d : ℕ) (t : TimesTree) (rest : List Token) → IsProperTimes t → length (spell_expr t.2) ≤ size → Becomes (times_by X d) (spell_times t ++ rest) (counts_times d t) (Done t) rest
-    times_again d t rest proper short =
-        let ts = spell_option spell_label t.1 ++ (spell_expr t.2 ++ mark kind.RightParenthesis t.3 ∷ rest) in
-        same_text (times_by X d) (Done t) (spell_times t ++ rest) (mark kind.LeftParenthesis t.0 ∷ ts) rest (counts_times d t) (counts_times d t) (times_text t rest) refl
-        (becomes_mark kind.LeftParenthesis (counted d 0) (times_inner X d) t.0 (Done t) ts rest (counts_option (counts_label d) t.1 ++ (counts_expr d 0 t.2 ++ counted d 0 ∷ [])) (inner_again d t.0 t.1 t.2 t.3 rest proper short))
-
     -- ---- calls and values
 
     arguments_again : (d : ℕ) (a : Option ArgumentsTree) (r : Place) (rest : List Token) → OptionIs IsProperArguments a → length (spell_option spell_arguments a) < size → Becomes (arguments_by X size d) (spell_option spell_arguments a ++ mark kind.RightParenthesis r ∷ rest) (counts_option (counts_arguments d) a) (Done a) (mark kind.RightParenthesis r ∷ rest)
@@ -366,7 +256,7 @@ module _ (X : Within ExprTree) (size : ℕ) (AX : (d : ℕ) (e : ExprTree) (rest
           same_text (statement_by X S size (suc d)) (Done s) (spell_body_statement s ++ rest) (spell_plain plain ++ name_token n ∷ us) rest (counts_body_statement d s) (counts_body_statement d s)
           (ap (λ (u : List Token). spell_plain plain ++ name_token n ∷ u) (sym (append_assoc (spell_option spell_value v) (mark kind.Semicolon p ∷ []) rest)) ∙ sym (append_assoc (spell_plain plain) tail rest)) refl
           (choices (suc d) false false false false true (spell_plain plain ++ name_token n ∷ us) rest (counts_body_statement d s) (Done s) (begins_local plain (name_token n ∷ us))
-          (becomes_both (plain_by X (suc d)) (local_name X size (suc d)) plain (Done s) (spell_plain plain ++ name_token n ∷ us) (name_token n ∷ us) rest (counts_plain (suc d) plain) (c ∷ (cs ++ c ∷ [])) (plain_again (suc d) plain (name_token n ∷ us) proper (omega (arith, short, long)) (no_bracket_at_name n))
+          (becomes_both (plain_by size (suc d)) (local_name X size (suc d)) plain (Done s) (spell_plain plain ++ name_token n ∷ us) (name_token n ∷ us) rest (counts_plain (suc d) plain) (c ∷ (cs ++ c ∷ [])) ((plain_rereads size (suc d) plain proper (omega (arith, short, long))).again (name_token n ∷ us) (no_bracket_at_name n))
           (becomes_name c (local_value X size (suc d) plain) n (Done s) us rest (cs ++ c ∷ [])
           (becomes_both (maybe_value_by X size (suc d)) (local_end (suc d) plain n) v (Done s) us vs rest cs (c ∷ []) (maybe_value_again (suc d) v p rest properv (omega (arith, short, long, longer)))
           (becomes_mark kind.Semicolon c (λ x. Done (BodyStatementLocal plain n v x)) p (Done s) rest rest [] (stays (Done s) rest))))))
@@ -473,11 +363,11 @@ module _ (X : Within ExprTree) (size : ℕ) (AX : (d : ℕ) (e : ExprTree) (rest
           let labels = counts_option (counts_label (suc d)) t.1 in
           let inner = spell_expr t.2 ++ mark kind.RightParenthesis t.3 ∷ spell_body_statement s in
           same_text (statement_by X S size (suc d)) (Done whole) (spell_body_statement whole ++ rest) (mark kind.Repeat r ∷ (spell_times t ++ us)) rest (counts_body_statement d whole) (c ∷ (counts_times (suc d) t ++ ds))
-          (ap (λ (u : List Token). mark kind.Repeat r ∷ u) (sym (times_text t us) ∙ ap (λ (u : List Token). mark kind.LeftParenthesis t.0 ∷ u) (ap (λ (u : List Token). label ++ u) (sym (append_assoc (spell_expr t.2) (mark kind.RightParenthesis t.3 ∷ spell_body_statement s) rest)) ∙ sym (append_assoc label inner rest))))
+          (ap (λ (u : List Token). mark kind.Repeat r ∷ u) (times_spelled t us ∙ ap (λ (u : List Token). mark kind.LeftParenthesis t.0 ∷ u) (ap (λ (u : List Token). label ++ u) (sym (append_assoc (spell_expr t.2) (mark kind.RightParenthesis t.3 ∷ spell_body_statement s) rest)) ∙ sym (append_assoc label inner rest))))
           (ap (λ (u : List Count). c ∷ c ∷ u) (append_assoc labels (counts_expr (suc d) 0 t.2 ++ c ∷ []) ds ∙ ap (λ (u : List Count). labels ++ u) (append_assoc (counts_expr (suc d) 0 t.2) (c ∷ []) ds)))
           (choices (suc d) false false false true false (mark kind.Repeat r ∷ (spell_times t ++ us)) rest (c ∷ (counts_times (suc d) t ++ ds)) (Done whole) (begins_repeat r)
           (becomes_mark kind.Repeat c (times_statement X S (suc d)) r (Done whole) (spell_times t ++ us) rest (counts_times (suc d) t ++ ds)
-          (becomes_both (times_by X (suc d)) (repeated_by S (suc d) r) t (Done whole) (spell_times t ++ us) us rest (counts_times (suc d) t) ds (times_again (suc d) t us proper short)
+          (becomes_both (times_by X (suc d)) (repeated_by S (suc d) r) t (Done whole) (spell_times t ++ us) us rest (counts_times (suc d) t) ds (times_again X size AX TX (suc d) t us proper short)
           (becomes_followed (S (suc d)) (Done s) (λ x. Done (BodyStatementRepeat r t.0 t.1 t.2 t.3 x)) us rest ds (AS (suc d) s rest propers shorts stops)))))
 
       -- statements up to a brace

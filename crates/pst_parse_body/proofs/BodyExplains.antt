@@ -1,11 +1,10 @@
 -- What the rules of bodies explain.
-use Rattle.std.proofs.Common.{◌≡◌, ℕ, zero, suc, Bool, true, false, if◌then◌else◌, List, [], ◌∷◌, ◌++◌, Option, Some, None, refl, ap, ◌∙◌, append-nil, append_assoc}
+use Rattle.std.proofs.Common.{◌≡◌, ℕ, zero, suc, Bool, true, false, if◌then◌else◌, List, [], ◌∷◌, ◌++◌, Some, None, refl, ap, append-nil, append_assoc}
 use Rattle.std.specs.List.{flat_map, AllByRecursion}
 use Rattle.pst_base.specs.declared.position.Place.{Place}
 use Rattle.pst_token.specs.declared.kind.Kind.TheVariants as kind
 use Rattle.pst_token.specs.declared.token.Token.{Token}
 use Rattle.pst_ast.specs.declared.leaf.Name.{Name}
-use Rattle.pst_ast.specs.declared.shared.LabelNode.{LabelNode}
 use Rattle.pst_ast.specs.Closing.{origin}
 use Rattle.pst_ast.specs.Marks.{mark, name_token, spell_option, OptionIs}
 use Rattle.pst_ast.specs.Limits.{Count, counted, counts_option}
@@ -13,15 +12,15 @@ use Rattle.pst_ast.specs.ExpressionTree.{ExprTree}
 use Rattle.pst_ast.specs.ExpressionSpelling.{spell_expr}
 use Rattle.pst_ast.specs.ExpressionProper.{IsProperExpr}
 use Rattle.pst_ast.specs.ExpressionLimits.{counts_expr}
-use Rattle.pst_ast.specs.SharedSpelling.{spell_label, spell_next_expr, spell_plain}
+use Rattle.pst_ast.specs.SharedSpelling.{spell_next_expr, spell_plain}
 use Rattle.pst_ast.specs.SharedProper.{IsProperNextExpr, IsProperPlain}
-use Rattle.pst_ast.specs.SharedLimits.{counts_label, counts_next_expr, counts_plain}
+use Rattle.pst_ast.specs.SharedLimits.{counts_next_expr, counts_plain}
 use Rattle.pst_ast.specs.BodyTree.{MakeBody, BodyStatementTree, BodyStatementEmpty, BodyStatementLocal, BodyStatementCall, BodyStatementBlock, BodyStatementIf, BodyStatementIfElse, BodyStatementRepeat, ValueTree, MakeValue, SourceCall, SourceExpr, CallTree, MakeCall, MakeArguments}
 use Rattle.pst_ast.specs.BodySpelling.{spell_arguments, spell_call, spell_source, spell_value, spell_body_statement, spell_body_statement_row, spell_body}
 use Rattle.pst_ast.specs.BodyProper.{body_ends_open, IsProperArguments, IsProperCall, IsProperSource, IsProperValue, IsProperBodyStatement, AreProperBodyStatement, IsProperBody}
 use Rattle.pst_ast.specs.BodyLimits.{counts_arguments, counts_call, counts_source, counts_value, counts_body_statement, counts_body_statement_row, counts_body}
 use Rattle.pst_reading.specs.Kinds.{is_mark, is_name, next_is}
-use Rattle.pst_reading.specs.Parser.{Parser, Done, Wrong, Take, followed_by, next, name_by}
+use Rattle.pst_reading.specs.Parser.{Parser, Done, followed_by, next}
 use Rattle.pst_reading.proofs.Explaining.{Meaning, Means, Explains, Behind, explains_then, explains_done, refused_here}
 use Rattle.pst_reading.proofs.Marks.{explains_choice}
 use Rattle.pst_reading.proofs.Chains.{explains_mark, explains_name, explains_part}
@@ -30,21 +29,13 @@ use Rattle.pst_reading.proofs.Peeking.{takes, takes_followed, peek_explained}
 use Rattle.pst_parse_expr.specs.Constraints.{Within, outermost_at, is_at, is_other, ConditionTree, condition_by, next_expr_by, next_exprs_by}
 use Rattle.pst_parse_expr.proofs.Answering.{explains}
 use Rattle.pst_parse_expr.proofs.Takes.{expr_takes}
-use Rattle.pst_parse_expr.proofs.SharedLaws.{IsAny, spell_condition, IsProperCondition, counts_condition, condition_explains, next_expr_explains}
-use Rattle.pst_parse_body.specs.Types.{plain_by, begins_plain}
-use Rattle.pst_parse_body.specs.Bodies.{label_colon, label_by, TimesTree, times_close, times_count, times_label, times_inner, times_by, arguments_rest, some_arguments, arguments_by, call_close, call_arguments, call_tail, call_by, source_call, source_expr, source_by, value_source, value_by, maybe_value_by, local_end, local_value, local_name, local_by, assigned, assign_end, assign_by, call_end, called_by, behind_name, named_by, otherwise_by, else_by, maybe_else_by, behind_then, then_by, if_condition_by, if_by, repeated_by, times_statement, loop_by, statement_row, statements_by, block_close, block_statements, block_by, empty_by, local_or_named, statement_by, statement_at, body_close, body_statements, body_open, body_word, body_at}
-use Rattle.pst_parse_body.proofs.TypeExplains.{plain_explains}
-
--- ---- parts that have no rule of their own
-
-abbrev pub spell_times : TimesTree → List Token
-spell_times t = mark kind.LeftParenthesis t.0 ∷ (spell_option spell_label t.1 ++ (spell_expr t.2 ++ mark kind.RightParenthesis t.3 ∷ []))
-
-abbrev pub IsProperTimes : TimesTree → Type 0
-IsProperTimes t = IsProperExpr t.2
-
-abbrev pub counts_times : ℕ → TimesTree → List Count
-counts_times d t = counted d 0 ∷ (counts_option (counts_label d) t.1 ++ (counts_expr d 0 t.2 ++ counted d 0 ∷ []))
+use Rattle.pst_parse_expr.proofs.SharedLaws.{spell_condition, IsProperCondition, counts_condition, condition_explains, next_expr_explains}
+use Rattle.pst_parse_body.specs.Types.{begins_plain}
+use Rattle.pst_parse_part.specs.Plain.{plain_by}
+use Rattle.pst_parse_body.specs.Bodies.{arguments_rest, some_arguments, arguments_by, call_close, call_arguments, call_tail, call_by, source_call, source_expr, source_by, value_source, value_by, maybe_value_by, local_end, local_value, local_name, local_by, assigned, assign_end, assign_by, call_end, called_by, behind_name, named_by, otherwise_by, else_by, maybe_else_by, behind_then, then_by, if_condition_by, if_by, repeated_by, times_statement, loop_by, statement_row, statements_by, block_close, block_statements, block_by, empty_by, local_or_named, statement_by, statement_at, body_close, body_statements, body_open, body_word, body_at}
+use Rattle.pst_parse_part.specs.Times.{times_by}
+use Rattle.pst_parse_part.proofs.TimesExplain.{spell_times, IsProperTimes, counts_times, name_takes, times_explains, times_spelled, times_counted}
+use Rattle.pst_parse_part.proofs.PlainExplain.{plain_explains}
 
 -- ---- rows of statements are those of their lists
 
@@ -60,51 +51,10 @@ row_proper : (ss : List BodyStatementTree) → AllByRecursion IsProperBodyStatem
 row_proper [] h = tt
 row_proper (s ∷ ss) h = (h.0, row_proper ss h.1)
 
--- a name is taken first
-pub name_takes : {A : Type 0} (c : Count) (f : Name → Parser A) (t : Token) → is_name t ≡ true → takes (followed_by (name_by c) f) t ≡ Some c
-name_takes c f t e = takes_followed (name_by c) f t c (alone t e)
-  where
-    alone : (u : Token) → is_name u ≡ true → takes (name_by c) u ≡ Some c
-    alone u g = ap (λ (b : Bool). takes {A = Name} (if b then Take c (λ token. Done (record { id = token.name; place = token.place })) else Wrong) u) g
-
-pub label_takes : {A : Type 0} (d : ℕ) (f : LabelNode → Parser A) (t : Token) → is_name t ≡ true → takes (followed_by (label_by d) f) t ≡ Some (counted d 0)
-label_takes d f t e = takes_followed (label_by d) f t (counted d 0) (name_takes (counted d 0) (label_colon d) t e)
-
 pub call_takes : {A : Type 0} (X : Within ExprTree) (turns d : ℕ) (f : CallTree → Parser A) (t : Token) → is_name t ≡ true → takes (followed_by (call_by X turns d) f) t ≡ Some (counted d 0)
 call_takes X turns d f t e = takes_followed (call_by X turns d) f t (counted d 0) (name_takes (counted d 0) (call_tail X turns d) t e)
 
 module _ (X : Within ExprTree) (S : Within BodyStatementTree) (turns : ℕ) (EX : (d : ℕ) → Explains (Means spell_expr IsProperExpr (counts_expr d 0)) (X d)) (TX : (d : ℕ) (t : Token) → is_name t ≡ true → takes (X d) t ≡ Some (counted d 0)) (ES : (d : ℕ) → Explains (Means spell_body_statement IsProperBodyStatement (counts_body_statement d)) (S d)) where
-  -- ---- counts
-
-  label_explains : (d : ℕ) → Explains (Means spell_label IsAny (counts_label d)) (label_by d)
-  label_explains d =
-      let c = counted d 0 in
-      let M = Means spell_label IsAny (counts_label d) in
-      explains_name M c (label_colon d) (λ name.
-      let M1 = Behind M (name_token name ∷ []) (c ∷ []) in
-      explains_mark M1 kind.Colon c _ (λ colon.
-      explains_done (Behind M1 (mark kind.Colon colon ∷ []) (c ∷ [])) (record { name = name; colon = colon }) (record { is = refl; proper = tt; counted = refl })))
-
-  abbrev BehindLeft : ℕ → Place → Meaning TimesTree
-  BehindLeft d l = Behind (Means spell_times IsProperTimes (counts_times d)) (mark kind.LeftParenthesis l ∷ []) (counted d 0 ∷ [])
-
-  count_explains : (d : ℕ) (l : Place) (i : Option LabelNode) → Explains (Behind (BehindLeft d l) (spell_option spell_label i) (counts_option (counts_label d) i)) (times_count X d l i)
-  count_explains d l i =
-      let c = counted d 0 in
-      let M1 = Behind (BehindLeft d l) (spell_option spell_label i) (counts_option (counts_label d) i) in
-      explains_part M1 spell_expr IsProperExpr (counts_expr d 0) (X d) (times_close d l i) (EX d) (λ e p.
-      let M2 = Behind M1 (spell_expr e) (counts_expr d 0 e) in
-      explains_mark M2 kind.RightParenthesis c _ (λ r.
-      explains_done (Behind M2 (mark kind.RightParenthesis r ∷ []) (c ∷ [])) (l, i, e, r) (record { is = refl; proper = p; counted = refl })))
-
-  times_explains : (d : ℕ) → Explains (Means spell_times IsProperTimes (counts_times d)) (times_by X d)
-  times_explains d =
-      let c = counted d 0 in
-      explains_mark (Means spell_times IsProperTimes (counts_times d)) kind.LeftParenthesis c (times_inner X d) (λ l ts.
-      peek_explained kind.Colon c (times_label X d l) (times_count X d l None) (λ t e. label_takes d (λ label. times_count X d l (Some label)) t e) (λ t e. takes_followed (X d) (times_close d l None) t c (TX d t e)) (BehindLeft d l) ts
-      (explains_part (BehindLeft d l) spell_label IsAny (counts_label d) (label_by d) (λ label. times_count X d l (Some label)) (label_explains d) (λ i p. count_explains d l (Some i)) ts)
-      (count_explains d l None ts))
-
   -- ---- calls and values
 
   arguments_explain : (d : ℕ) → Explains (Means (spell_option spell_arguments) (OptionIs IsProperArguments) (counts_option (counts_arguments d))) (arguments_by X turns d)
@@ -171,7 +121,7 @@ module _ (X : Within ExprTree) (S : Within BodyStatementTree) (turns : ℕ) (EX 
   local_explains d =
       let c = counted (suc d) 0 in
       let M = IsStatement d in
-      explains_part M spell_plain IsProperPlain (counts_plain (suc d)) (plain_by X (suc d)) (local_name X turns (suc d)) (plain_explains X EX (suc d)) (λ plain p.
+      explains_part M spell_plain IsProperPlain (counts_plain (suc d)) (plain_by turns (suc d)) (local_name X turns (suc d)) (plain_explains turns (suc d)) (λ plain p.
       let M1 = Behind M (spell_plain plain) (counts_plain (suc d) plain) in
       explains_name M1 c (local_value X turns (suc d) plain) (λ name.
       let M2 = Behind M1 (name_token name ∷ []) (c ∷ []) in
@@ -252,16 +202,10 @@ module _ (X : Within ExprTree) (S : Within BodyStatementTree) (turns : ℕ) (EX 
       let M = IsStatement d in
       explains_mark M kind.Repeat c (times_statement X S (suc d)) (λ r.
       let M1 = Behind M (mark kind.Repeat r ∷ []) (c ∷ []) in
-      explains_part M1 spell_times IsProperTimes (counts_times (suc d)) (times_by X (suc d)) (repeated_by S (suc d) r) (times_explains (suc d)) (λ t p.
+      explains_part M1 spell_times IsProperTimes (counts_times (suc d)) (times_by X (suc d)) (repeated_by S (suc d) r) (times_explains X EX TX (suc d)) (λ t p.
       let M2 = Behind M1 (spell_times t) (counts_times (suc d) t) in
       explains_part M2 spell_body_statement IsProperBodyStatement (counts_body_statement (suc d)) (S (suc d)) _ (ES (suc d)) (λ s q.
-      explains_done (Behind M2 (spell_body_statement s) (counts_body_statement (suc d) s)) (BodyStatementRepeat r t.0 t.1 t.2 t.3 s) (record { is = rw append-nil (ap (λ (u : List Token). mark kind.Repeat r ∷ u) (inside t (spell_body_statement s))); proper = (p, q); counted = rw append-nil (ap (λ (u : List Count). c ∷ u) (inside_counted t (counts_body_statement (suc d) s))) }))))
-    where
-      inside : (t : TimesTree) (more : List Token) → spell_times t ++ more ≡ mark kind.LeftParenthesis t.0 ∷ (spell_option spell_label t.1 ++ (spell_expr t.2 ++ mark kind.RightParenthesis t.3 ∷ more))
-      inside t more = ap (λ (u : List Token). mark kind.LeftParenthesis t.0 ∷ u) (append_assoc (spell_option spell_label t.1) (spell_expr t.2 ++ mark kind.RightParenthesis t.3 ∷ []) more ∙ ap (λ (u : List Token). spell_option spell_label t.1 ++ u) (append_assoc (spell_expr t.2) (mark kind.RightParenthesis t.3 ∷ []) more))
-
-      inside_counted : (t : TimesTree) (more : List Count) → counts_times (suc d) t ++ more ≡ counted (suc d) 0 ∷ (counts_option (counts_label (suc d)) t.1 ++ (counts_expr (suc d) 0 t.2 ++ counted (suc d) 0 ∷ more))
-      inside_counted t more = ap (λ (u : List Count). counted (suc d) 0 ∷ u) (append_assoc (counts_option (counts_label (suc d)) t.1) (counts_expr (suc d) 0 t.2 ++ counted (suc d) 0 ∷ []) more ∙ ap (λ (u : List Count). counts_option (counts_label (suc d)) t.1 ++ u) (append_assoc (counts_expr (suc d) 0 t.2) (counted (suc d) 0 ∷ []) more))
+      explains_done (Behind M2 (spell_body_statement s) (counts_body_statement (suc d) s)) (BodyStatementRepeat r t.0 t.1 t.2 t.3 s) (record { is = rw append-nil (ap (λ (u : List Token). mark kind.Repeat r ∷ u) (times_spelled t (spell_body_statement s))); proper = (p, q); counted = rw append-nil (ap (λ (u : List Count). c ∷ u) (times_counted (suc d) t (counts_body_statement (suc d) s))) }))))
 
   statements_explain : (d : ℕ) → Explains (Means (flat_map spell_body_statement) (AllByRecursion IsProperBodyStatement) (flat_map (counts_body_statement d))) (statements_by S turns d)
   statements_explain d = list_explains spell_body_statement IsProperBodyStatement (counts_body_statement d) (is_other kind.RightBrace) (S d) (ES d) turns

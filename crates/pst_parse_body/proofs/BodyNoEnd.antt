@@ -4,26 +4,13 @@ use Rattle.std.specs.List.{flat_map}
 use Rattle.pst_ast.specs.declared.shared.LabelNode.{LabelNode}
 use Rattle.pst_ast.specs.Marks.{spell_option}
 use Rattle.pst_ast.specs.ExpressionSpelling.{spell_expr}
-use Rattle.pst_ast.specs.SharedTree.{LowTree, MakeLow, WidthTree, MakeWidth, PlainTree, PlainInt, PlainBit, PlainBool}
-use Rattle.pst_ast.specs.SharedSpelling.{spell_label, spell_low, spell_width, spell_plain}
+use Rattle.pst_ast.specs.SharedSpelling.{spell_label, spell_plain}
 use Rattle.pst_ast.specs.BodyTree.{BodyTree, MakeBody, BodyStatementTree, BodyStatementEmpty, BodyStatementLocal, BodyStatementAssign, BodyStatementCall, BodyStatementBlock, BodyStatementIf, BodyStatementIfElse, BodyStatementRepeat, ValueTree, MakeValue, SourceTree, SourceCall, SourceExpr, CallTree, MakeCall, ArgumentsTree, MakeArguments, BodyStatementRow, NoBodyStatementRow, MoreBodyStatementRow}
 use Rattle.pst_ast.specs.BodySpelling.{spell_arguments, spell_call, spell_source, spell_value, spell_body_statement, spell_body_statement_row, spell_body}
 use Rattle.pst_reading.proofs.Whole.{NoEnd, both_free}
 use Rattle.pst_parse_expr.proofs.NoEnd.{expr_free}
 use Rattle.pst_parse_expr.proofs.ConstraintNoEnd.{next_exprs_free}
-
-low_free : (low : Option LowTree) → NoEnd (spell_option spell_low low)
-low_free None = tt
-low_free (Some (MakeLow colon e)) = (λ f. cc, expr_free e)
-
-width_free : (w : Option WidthTree) → NoEnd (spell_option spell_width w)
-width_free None = tt
-width_free (Some (MakeWidth l e low r)) = (λ f. cc, both_free (spell_expr e) _ (expr_free e) (both_free (spell_option spell_low low) _ (low_free low) (λ f. cc, tt)))
-
-plain_free : (p : PlainTree) → NoEnd (spell_plain p)
-plain_free (PlainInt p w) = (λ f. cc, width_free w)
-plain_free (PlainBit p w) = (λ f. cc, width_free w)
-plain_free (PlainBool p) = (λ f. cc, tt)
+use Rattle.pst_parse_part.proofs.NoEnd.{plain_free}
 
 arguments_free : (a : Option ArgumentsTree) → NoEnd (spell_option spell_arguments a)
 arguments_free None = tt

@@ -23,8 +23,11 @@ use Rattle.pst_reading.proofs.Reaching.{Reaches, begin, step, mark_step, name_st
 use Rattle.pst_parse_expr.specs.Constraints.{outermost_at, ConditionTree}
 use Rattle.pst_parse_expr.specs.ConstraintFamilies.{condition_family}
 use Rattle.pst_parse_body.specs.Types.{begins_plain}
-use Rattle.pst_parse_body.specs.Bodies.{TimesTree, local_end, local_value, local_name, assigned, assign_end, assign_by, call_end, called_by, behind_name, otherwise_by, else_by, maybe_else_by, behind_then, then_by, if_condition_by, repeated_by, times_statement, statement_row, block_close, block_statements, empty_by, local_or_named, statement_at, body_close, body_statements, body_open, body_word}
-use Rattle.pst_parse_body.specs.BodyFamilies.{plain_family, times_family, call_family, value_family, maybe_value_family, local_family, named_family, block_family, if_family, loop_family, statement_family, nested_family, statements_family, body_family}
+use Rattle.pst_parse_body.specs.Bodies.{local_end, local_value, local_name, assigned, assign_end, assign_by, call_end, called_by, behind_name, otherwise_by, else_by, maybe_else_by, behind_then, then_by, if_condition_by, repeated_by, times_statement, statement_row, block_close, block_statements, empty_by, local_or_named, statement_at, body_close, body_statements, body_open, body_word}
+use Rattle.pst_parse_part.specs.Times.{TimesTree}
+use Rattle.pst_parse_body.specs.BodyFamilies.{call_family, value_family, maybe_value_family, local_family, named_family, block_family, if_family, loop_family, statement_family, nested_family, statements_family, body_family}
+use Rattle.pst_parse_part.specs.Families.{plain_family}
+use Rattle.pst_parse_part.specs.TimesFamilies.{times_family}
 
 -- a statement within another part, behind at least one token of it
 nested_at : (tokens : List Token) (start at d : ℕ) (o : Outcome BodyStatementTree) → start < at → at ≤ length tokens → SettlesFrom (statement_family (suc d)) tokens at at o → SettlesFrom (nested_family d) tokens start at o

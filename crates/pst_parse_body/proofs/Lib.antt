@@ -1,9 +1,6 @@
-pub mod TypeExplains
 pub mod BodyExplains
 pub mod BodyAgain
 pub mod BodyNoEnd
 pub mod BodyAnswering
-pub mod PlainRules
 pub mod CallRules
-pub mod Nearer
 pub mod BodyRules

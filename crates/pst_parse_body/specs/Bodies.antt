@@ -3,7 +3,6 @@ use Rattle.std.specs.Prelude.{ℕ, zero, suc, if◌then◌else◌, Bool, true, f
 use Rattle.pst_base.specs.declared.position.Place.{Place}
 use Rattle.pst_token.specs.declared.kind.Kind.TheVariants as kind
 use Rattle.pst_ast.specs.declared.leaf.Name.{Name}
-use Rattle.pst_ast.specs.declared.shared.LabelNode.{LabelNode}
 use Rattle.pst_ast.specs.ExpressionTree.{ExprTree}
 use Rattle.pst_ast.specs.SharedTree.{PlainTree}
 use Rattle.pst_ast.specs.BodyTree.{BodyTree, MakeBody, BodyStatementTree, BodyStatementEmpty, BodyStatementLocal, BodyStatementAssign, BodyStatementCall, BodyStatementBlock, BodyStatementIf, BodyStatementIfElse, BodyStatementRepeat, ValueTree, MakeValue, SourceTree, SourceCall, SourceExpr, CallTree, MakeCall, ArgumentsTree, MakeArguments, BodyStatementRow, NoBodyStatementRow, MoreBodyStatementRow}
@@ -13,35 +12,9 @@ use Rattle.pst_reading.specs.Parser.{Parser, Done, Spent, Look, followed_by, mar
 use Rattle.pst_reading.specs.Lists.{list_by}
 use Rattle.pst_reading.specs.Peeking.{if_name_then}
 use Rattle.pst_parse_expr.specs.Constraints.{Within, outermost_at, is_other, ConditionTree, condition_by, next_exprs_by}
-use Rattle.pst_parse_body.specs.Types.{plain_by, begins_plain}
-
--- ---- "(" [ NAME ":" ] expr ")"
-
-abbrev pub label_colon : ℕ → Name → Parser LabelNode
-label_colon depth name = followed_by (mark_by kind.Colon (counted depth 0)) (λ colon. Done (record { name = name; colon = colon }))
-
--- NAME ":"
-abbrev pub label_by : Within LabelNode
-label_by depth = followed_by (name_by (counted depth 0)) (label_colon depth)
-
--- the places of the brackets, the index and the count
-abbrev pub TimesTree : Type 0
-TimesTree = Place × Option LabelNode × ExprTree × Place
-
-abbrev pub times_close : ℕ → Place → Option LabelNode → ExprTree → Parser TimesTree
-times_close depth left index count = followed_by (mark_by kind.RightParenthesis (counted depth 0)) (λ right. Done (left, index, count, right))
-
-abbrev pub times_count : Within ExprTree → ℕ → Place → Option LabelNode → Parser TimesTree
-times_count expr depth left index = followed_by (expr depth) (times_close depth left index)
-
-abbrev pub times_label : Within ExprTree → ℕ → Place → Parser TimesTree
-times_label expr depth left = followed_by (label_by depth) (λ label. times_count expr depth left (Some label))
-
-abbrev pub times_inner : Within ExprTree → ℕ → Place → Parser TimesTree
-times_inner expr depth left = if_name_then kind.Colon (counted depth 0) (times_label expr depth left) (times_count expr depth left None)
-
-abbrev pub times_by : Within ExprTree → Within TimesTree
-times_by expr depth = followed_by (mark_by kind.LeftParenthesis (counted depth 0)) (times_inner expr depth)
+use Rattle.pst_parse_body.specs.Types.{begins_plain}
+use Rattle.pst_parse_part.specs.Plain.{plain_by}
+use Rattle.pst_parse_part.specs.Times.{TimesTree, times_by}
 
 -- ---- call = NAME "(" [ expr { "," expr } ] ")"
 
@@ -100,7 +73,7 @@ abbrev pub local_name : Within ExprTree → ℕ → ℕ → PlainTree → Parser
 local_name expr turns depth plain = followed_by (name_by (counted depth 0)) (local_value expr turns depth plain)
 
 abbrev pub local_by : Within ExprTree → ℕ → Within BodyStatementTree
-local_by expr turns depth = followed_by (plain_by expr depth) (local_name expr turns depth)
+local_by expr turns depth = followed_by (plain_by turns depth) (local_name expr turns depth)
 
 -- ---- NAME "=" source ";" | call ";"
 

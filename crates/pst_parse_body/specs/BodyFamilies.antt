@@ -2,44 +2,17 @@
 use Rattle.std.specs.Prelude.{ℕ, suc, List, Option, map}
 use Rattle.std.specs.Option.{option_map}
 use Rattle.std.specs.Global.{Box, Vec}
-use Rattle.pst_base.specs.declared.position.Place.{Place}
 use Rattle.pst_token.specs.declared.kind.Kind.TheVariants as kind
 use Rattle.pst_ast.specs.declared.leaf.Name.{Name}
-use Rattle.pst_ast.specs.declared.shared.LabelNode.{LabelNode}
-use Rattle.pst_ast.specs.declared.shared.LowNode.{LowNode}
-use Rattle.pst_ast.specs.declared.shared.WidthNode.{WidthNode}
 use Rattle.pst_ast.specs.declared.body.ArgumentsNode.{ArgumentsNode}
 use Rattle.pst_ast.specs.declared.body.ValueNode.{ValueNode}
 use Rattle.pst_ast.specs.declared.body.BodyStatement.{BodyStatement}
-use Rattle.pst_ast.specs.ExpressionView.{view_expr}
-use Rattle.pst_ast.specs.SharedTree.{LowTree, WidthTree, PlainTree}
-use Rattle.pst_ast.specs.SharedView.{view_low, view_width}
 use Rattle.pst_ast.specs.BodyTree.{BodyTree, BodyStatementTree, ValueTree, SourceTree, CallTree, ArgumentsTree}
 use Rattle.pst_ast.specs.BodyView.{view_arguments, view_boxed_value, view_body_statement}
 use Rattle.pst_reading.specs.Gives.{Family}
 use Rattle.pst_reading.specs.Lists.{listed}
 use Rattle.pst_parse_expr.specs.Constraints.{outermost_at, is_other}
-use Rattle.pst_parse_body.specs.declared.times.Times.{Times}
-use Rattle.pst_parse_body.specs.Types.{low_by, width_by, plain_by}
-use Rattle.pst_parse_body.specs.Bodies.{label_by, TimesTree, times_count, times_by, arguments_by, call_tail, source_by, value_by, maybe_value_by, local_by, named_by, if_by, loop_by, block_by, statement_by, statement_at, body_at}
-
-abbrev pub low_family : ℕ → Family (Option LowTree)
-low_family depth size prefixes = low_by (outermost_at (suc size)) depth
-
-abbrev pub width_family : ℕ → Family (Option WidthTree)
-width_family depth size prefixes = width_by (outermost_at (suc size)) depth
-
-abbrev pub plain_family : ℕ → Family PlainTree
-plain_family depth size prefixes = plain_by (outermost_at (suc size)) depth
-
-abbrev pub label_family : ℕ → Family LabelNode
-label_family depth size prefixes = label_by depth
-
-abbrev pub counted_family : ℕ → Place → Option LabelNode → Family TimesTree
-counted_family depth left index size prefixes = times_count (outermost_at (suc size)) depth left index
-
-abbrev pub times_family : ℕ → Family TimesTree
-times_family depth size prefixes = times_by (outermost_at (suc size)) depth
+use Rattle.pst_parse_body.specs.Bodies.{arguments_by, call_tail, source_by, value_by, maybe_value_by, local_by, named_by, if_by, loop_by, block_by, statement_by, statement_at, body_at}
 
 abbrev pub arguments_family : ℕ → Family (Option ArgumentsTree)
 arguments_family depth size prefixes = arguments_by (outermost_at (suc size)) size depth
@@ -86,15 +59,6 @@ abbrev pub body_family : ℕ → Family BodyTree
 body_family depth size prefixes = body_at size depth
 
 -- what the program has, without where it lies in memory
-abbrev pub view_low_option : Option LowNode → Option LowTree
-view_low_option low = option_map view_low low
-
-abbrev pub view_width_option : Option WidthNode → Option WidthTree
-view_width_option width = option_map view_width width
-
-abbrev pub view_times : Times → TimesTree
-view_times t = (t.left_parenthesis, t.index, view_expr t.count, t.right_parenthesis)
-
 abbrev pub view_arguments_option : Option ArgumentsNode → Option ArgumentsTree
 view_arguments_option arguments = option_map view_arguments arguments
 

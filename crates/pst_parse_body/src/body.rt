@@ -8,10 +8,11 @@ ghost use Rattle.pst_reading.specs.Reads.{Reads, ReadsOpen};
 ghost use Rattle.pst_parse_body.specs.BodyFamilies.{local_family, named_family, block_family, if_family, loop_family, statement_family, statements_family, body_family, view_statements};
 
 use crate::call::{call, maybe_value, value};
-use crate::plain::{begins_plain, plain_type};
-use crate::times::{Times, read_times};
+use crate::plain::begins_plain;
 use pst_ast::{BodyNode, BodyStatement, SyntaxFault};
 use pst_parse_expr::{Condition, read_condition};
+use pst_parse_part::plain::plain;
+use pst_parse_part::times::{Times, read_times};
 use pst_reading::{boxed, expect, expect_name, is, push};
 use pst_token::{Kind, Token};
 use std::alloc::Global;
@@ -211,7 +212,7 @@ fn local(
     requires nesting { depth ≤ 65 }
     ensures { ReadsOpen view_body_statement body_ends_open (local_family depth) tokens.now at at result }
 {
-    let (plain, behind) = plain_type(alloc, tokens, at, depth)?;
+    let (plain, behind) = plain(alloc, tokens, at, depth)?;
     let plain = boxed(alloc, plain)?;
     let name = expect_name(tokens, behind, depth, 0)?;
     let (value, after) = maybe_value(alloc, tokens, behind + 1, depth)?;

@@ -17,7 +17,7 @@ use Rattle.pst_ast.specs.declared.leaf.Name.{Name}
 use Rattle.pst_base.specs.declared.position.Place.{Place}
 use Rattle.pst_parse_decl.proofs.ActionsAgain.{members_begins, action_begins, action_rereads}
 use Rattle.pst_parse_decl.proofs.EnumsAgain.{enum_rereads, function_rereads}
-use Rattle.pst_parse_decl.proofs.Following.{other_mark, other_name, ends_there, reread_next, reread_made, reread_empty}
+use Rattle.pst_parse_part.proofs.Following.{other_mark, other_name, ends_there, reread_next, reread_made, reread_empty}
 use Rattle.pst_parse_decl.proofs.MembersAgain.{members_rereads}
 use Rattle.pst_parse_decl.proofs.ObjectsAgain.{part_starts, some_token, object_rereads, object_begins, IsThere}
 use Rattle.pst_parse_decl.proofs.PoolsAgain.{pool_rereads, pool_bind_rereads}

@@ -13,7 +13,7 @@ use Rattle.pst_ast.specs.DeclarationSpelling.{spell_members, spell_action, spell
 use Rattle.pst_ast.specs.DeclarationTree.{ComponentPartAction, ComponentPartObject, ComponentPartEnum, ComponentPartFunction, ComponentPartPool, ComponentPartPoolBind, ComponentPartMembers, ComponentPartEmpty, MakeComponent, ItemComponent, ItemObject, ItemEnum, ItemFunction, ItemEmpty}
 use Rattle.pst_ast.specs.Limits.{counted}
 use Rattle.pst_parse_decl.proofs.ActionsExplain.{action_explains}
-use Rattle.pst_parse_decl.proofs.ChoicesExplain.{explains_if_mark, explains_if_next, explains_made, explains_empty}
+use Rattle.pst_parse_part.proofs.ChoicesExplain.{explains_if_mark, explains_if_next, explains_made, explains_empty}
 use Rattle.pst_parse_decl.proofs.EnumsExplain.{enum_explains, function_explains}
 use Rattle.pst_parse_decl.proofs.MembersExplain.{members_explains}
 use Rattle.pst_parse_decl.proofs.ObjectsExplain.{object_explains}

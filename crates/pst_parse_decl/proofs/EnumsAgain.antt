@@ -8,10 +8,10 @@ use Rattle.pst_ast.specs.Marks.{mark, name_token, spell_option, OptionIs}
 use Rattle.pst_ast.specs.SharedLimits.{counts_plain}
 use Rattle.pst_ast.specs.SharedSpelling.{spell_plain}
 use Rattle.pst_base.specs.declared.position.Place.{Place}
-use Rattle.pst_parse_decl.proofs.Following.{other_mark, other_name, ends_there, next_list_in, next_part_in, any_option, mark_rereads, expr_rereads, reread_made, reread_empty}
-use Rattle.pst_parse_decl.proofs.TypesAgain.{plain_rereads, plain_begins}
+use Rattle.pst_parse_part.proofs.Following.{other_mark, other_name, ends_there, next_list_in, next_part_in, any_option, mark_rereads, expr_rereads, reread_made, reread_empty}
+use Rattle.pst_parse_part.proofs.PlainAgain.{plain_rereads, plain_begins}
 use Rattle.pst_parse_decl.specs.Enums.{parameters_by, function_rest_by, function_by, next_enum_item_by, enum_by, enum_item_by, parameter_by, enum_value_by, answer_by, next_parameter_by}
-use Rattle.pst_parse_decl.specs.Types.{plain_by}
+use Rattle.pst_parse_part.specs.Plain.{plain_by}
 use Rattle.pst_parse_expr.proofs.SharedLaws.{IsAny}
 use Rattle.pst_parse_expr.proofs.Stops.{IsNo, Separates, right_brace_closes, comma_closes}
 use Rattle.pst_parse_expr.specs.Constraints.{outermost_at, is_at, is_other}

@@ -11,10 +11,10 @@ use Rattle.pst_ast.specs.Marks.{mark, spell_option, OptionIs}
 use Rattle.pst_ast.specs.SharedLimits.{counts_plain}
 use Rattle.pst_ast.specs.SharedProper.{IsProperPlain}
 use Rattle.pst_ast.specs.SharedSpelling.{spell_plain}
-use Rattle.pst_parse_decl.proofs.ChoicesExplain.{explains_if_mark, explains_option, mark_is_explained, explains_made, explains_empty}
-use Rattle.pst_parse_decl.proofs.TypesExplain.{plain_explains}
+use Rattle.pst_parse_part.proofs.ChoicesExplain.{explains_if_mark, explains_option, mark_is_explained, explains_made, explains_empty}
+use Rattle.pst_parse_part.proofs.PlainExplain.{plain_explains}
 use Rattle.pst_parse_decl.specs.Enums.{parameters_by, FunctionRestTree, function_rest_by, function_by, next_enum_item_by, enum_by, enum_item_by, parameter_by, enum_value_by, answer_by, next_parameter_by}
-use Rattle.pst_parse_decl.specs.Types.{plain_by}
+use Rattle.pst_parse_part.specs.Plain.{plain_by}
 use Rattle.pst_parse_expr.proofs.Answering.{explains}
 use Rattle.pst_parse_expr.proofs.SharedLaws.{IsAny}
 use Rattle.pst_parse_expr.specs.Constraints.{outermost_at, is_at, is_other}

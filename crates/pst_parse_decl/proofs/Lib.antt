@@ -1,4 +1,3 @@
-pub mod ChoicesExplain
 pub mod TypesExplain
 pub mod MembersExplain
 pub mod EnumsExplain
@@ -8,7 +7,6 @@ pub mod Behind
 pub mod ObjectsExplain
 pub mod ActionsExplain
 pub mod ComponentsExplain
-pub mod Following
 pub mod TypesAgain
 pub mod MembersAgain
 pub mod EnumsAgain
@@ -19,7 +17,6 @@ pub mod ComponentsAgain
 pub mod NoEnd
 pub mod Counting
 pub mod Answering
-pub mod Maybe
 pub mod Views
 pub mod Contents
 pub mod Unique

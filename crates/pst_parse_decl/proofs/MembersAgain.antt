@@ -9,23 +9,20 @@ use Rattle.pst_ast.specs.ExpressionSpelling.{spell_part}
 use Rattle.pst_ast.specs.ExpressionTree.{PartTree, MakePart}
 use Rattle.pst_ast.specs.Limits.{counted}
 use Rattle.pst_ast.specs.Marks.{mark, name_token, claim_word_kind, reference_word_kind}
-use Rattle.pst_ast.specs.SharedLimits.{counts_next_name, counts_names}
-use Rattle.pst_ast.specs.SharedProper.{IsProperNames}
-use Rattle.pst_ast.specs.SharedSpelling.{spell_next_name, spell_names, spell_type_name, spell_type}
-use Rattle.pst_ast.specs.SharedTree.{NamesTree, MakeNames}
+use Rattle.pst_ast.specs.SharedSpelling.{spell_names, spell_type_name, spell_type}
 use Rattle.pst_ast.specs.declared.declaration.ClaimWord.TheVariants as the_claim_word
 use Rattle.pst_ast.specs.declared.declaration.ClaimWord.{ClaimWord}
 use Rattle.pst_ast.specs.declared.declaration.ReferenceWord.TheVariants as the_reference_word
 use Rattle.pst_ast.specs.declared.declaration.ReferenceWord.{ReferenceWord}
 use Rattle.pst_ast.specs.declared.leaf.Name.{Name}
-use Rattle.pst_ast.specs.declared.shared.NextName.{NextName}
 use Rattle.pst_base.specs.declared.position.Place.{Place}
-use Rattle.pst_parse_decl.proofs.Following.{other_mark, other_name, next_list_in, next_part_in, any_list, index_rereads, reread_empty, IsName}
+use Rattle.pst_parse_part.proofs.Following.{other_mark, other_name, next_list_in, next_part_in, index_rereads, reread_empty, IsName}
 use Rattle.pst_parse_decl.proofs.MembersExplain.{spell_word, counts_word, spell_reference_word, counts_reference_word, spell_claim_word, counts_claim_word}
-use Rattle.pst_parse_decl.proofs.TypesAgain.{type_name_rereads, type_rereads}
-use Rattle.pst_parse_decl.specs.Members.{field_by, word_by, next_field_by, part_by, claim_by, reference_word_by, members_by, names_by, reference_by, claim_word_by, next_name_by}
-use Rattle.pst_parse_decl.specs.Types.{type_by, type_name_by}
-use Rattle.pst_parse_expr.proofs.SharedLaws.{IsAny}
+use Rattle.pst_parse_decl.proofs.TypesAgain.{type_rereads}
+use Rattle.pst_parse_part.proofs.NamesAgain.{type_name_rereads, names_begins, names_rereads}
+use Rattle.pst_parse_decl.specs.Members.{field_by, word_by, next_field_by, part_by, claim_by, reference_word_by, members_by, reference_by, claim_word_by}
+use Rattle.pst_parse_part.specs.Names.{names_by, type_name_by}
+use Rattle.pst_parse_decl.specs.Types.{type_by}
 use Rattle.pst_parse_expr.proofs.Stops.{IsNo}
 use Rattle.pst_parse_expr.specs.Constraints.{is_at}
 use Rattle.pst_parse_expr.specs.Reading.{expr_at, maybe_index_by}
@@ -53,17 +50,8 @@ part_begins E h (MakePart name index) us = h name
 pub next_field_begins : (E : Option Token → Type 0) → ((place : Place) → E (Some (mark kind.Comma place))) → (x : NextFieldTree) (us : List Token) → E (next (spell_next_field x ++ us))
 next_field_begins E h (MakeNextField comma part) us = h comma
 
-pub next_name_begins : (E : Option Token → Type 0) → ((place : Place) → E (Some (mark kind.Comma place))) → (x : NextName) (us : List Token) → E (next (spell_next_name x ++ us))
-next_name_begins E h x us = h x.comma
-
-pub names_begins : (E : Option Token → Type 0) → ((name : Name) → E (Some (name_token name))) → (x : NamesTree) (us : List Token) → E (next (spell_names x ++ us))
-names_begins E h (MakeNames first rest) us = h first
-
 pub next_field_some : (x : NextFieldTree) → 1 ≤ length (spell_next_field x)
 next_field_some (MakeNextField comma part) = omega arith
-
-pub next_name_some : (x : NextName) → 1 ≤ length (spell_next_name x)
-next_name_some x = omega arith
 
 pub next_field_rereads : (size depth : ℕ) (x : NextFieldTree) → IsProperNextField x → length (spell_next_field x) ≤ size → Rereads (IsNo kind.LeftBracket) (next_field_by size depth) (spell_next_field x) (counts_next_field depth x) x
 next_field_rereads size depth (MakeNextField comma part) proper short =
@@ -81,17 +69,6 @@ field_rereads size depth (MakeField rand field_type first rest semicolon) proper
     (reread_part _ (EndsOption (is_at kind.Comma) (IsNo kind.LeftBracket)) (list_by (is_at kind.Comma) (next_field_by size depth) size) _ (flat_map spell_next_field rest) _ rest _ _ _ (reread_list spell_next_field IsProperNextField (counts_next_field depth) (is_at kind.Comma) (IsNo kind.LeftBracket) (next_field_by size depth) size size (λ x p n. (next_field_rereads size depth x p n)) (λ x us p. record { found = next_field_begins (λ n. is_at kind.Comma n ≡ true) (mark_is_so kind.Comma) x us; good = (next_field_begins (IsNo kind.LeftBracket) (λ p. (other_mark kind.LeftBracket kind.Comma p refl)) x us) }) next_field_some rest proper.2 (omega (arith, short, long, long2, long3)) (omega (arith, short, long, long2, long3))) (λ more m. ((other_mark kind.Comma kind.Semicolon semicolon refl), (other_mark kind.LeftBracket kind.Semicolon semicolon refl)))
     (reread_mark _ kind.Semicolon (counted depth 0) _ semicolon _ _ _
     (reread_done _ _)))))
-
-pub next_name_rereads : (depth : ℕ) (x : NextName) → Rereads Anything (next_name_by depth) (spell_next_name x) (counts_next_name depth x) x
-next_name_rereads depth x =
-    reread_mark _ kind.Comma (counted depth 0) _ x.comma _ _ _
-    (reread_name _ (counted depth 0) _ x.name _ _ _
-    (reread_done _ _))
-
-pub names_rereads : (size depth : ℕ) (x : NamesTree) → IsProperNames x → length (spell_names x) ≤ size → Rereads (EndsOption (is_at kind.Comma) Anything) (names_by size depth) (spell_names x) (counts_names depth x) x
-names_rereads size depth (MakeNames first rest) proper short =
-    reread_name _ (counted depth 0) _ first _ _ _
-    (reread_last _ (list_by (is_at kind.Comma) (next_name_by depth) size) _ _ _ rest _ (reread_list spell_next_name IsAny (counts_next_name depth) (is_at kind.Comma) Anything (next_name_by depth) size size (λ x p n. (next_name_rereads depth x)) (λ x us p. record { found = next_name_begins (λ n. is_at kind.Comma n ≡ true) (mark_is_so kind.Comma) x us; good = tt }) next_name_some rest (any_list rest) (omega (arith, short)) (omega (arith, short))) refl)
 
 pub members_rereads : (size depth : ℕ) (x : MembersTree) → IsProperMembers x → length (spell_members x) ≤ size → Rereads Anything (members_by size depth) (spell_members x) (counts_members depth x) x
 members_rereads size depth (MakeMembers member_type names semicolon) proper short =

@@ -9,19 +9,20 @@ use Rattle.pst_ast.specs.ExpressionSpelling.{spell_part, spell_maybe_index}
 use Rattle.pst_ast.specs.ExpressionTree.{MakePart}
 use Rattle.pst_ast.specs.Limits.{Count, counted}
 use Rattle.pst_ast.specs.Marks.{mark, claim_word_kind, reference_word_kind}
-use Rattle.pst_ast.specs.SharedLimits.{counts_next_name, counts_names, counts_type_name, counts_type}
+use Rattle.pst_ast.specs.SharedLimits.{counts_names, counts_type_name, counts_type}
 use Rattle.pst_ast.specs.SharedProper.{IsProperNames, IsProperType}
-use Rattle.pst_ast.specs.SharedSpelling.{spell_next_name, spell_names, spell_type_name, spell_type}
-use Rattle.pst_ast.specs.SharedTree.{MakeNames}
+use Rattle.pst_ast.specs.SharedSpelling.{spell_names, spell_type_name, spell_type}
 use Rattle.pst_ast.specs.declared.declaration.ClaimWord.TheVariants as the_claim_word
 use Rattle.pst_ast.specs.declared.declaration.ClaimWord.{ClaimWord}
 use Rattle.pst_ast.specs.declared.declaration.ReferenceWord.TheVariants as the_reference_word
 use Rattle.pst_ast.specs.declared.declaration.ReferenceWord.{ReferenceWord}
 use Rattle.pst_base.specs.declared.position.Place.{Place}
-use Rattle.pst_parse_decl.proofs.ChoicesExplain.{explains_if_mark, explains_empty, index_explains}
-use Rattle.pst_parse_decl.proofs.TypesExplain.{type_name_explains, type_explains}
-use Rattle.pst_parse_decl.specs.Members.{field_by, word_by, next_field_by, part_by, claim_by, reference_word_by, members_by, names_by, reference_by, claim_word_by, next_name_by}
-use Rattle.pst_parse_decl.specs.Types.{type_by, type_name_by}
+use Rattle.pst_parse_part.proofs.ChoicesExplain.{explains_if_mark, explains_empty, index_explains}
+use Rattle.pst_parse_decl.proofs.TypesExplain.{type_explains}
+use Rattle.pst_parse_part.proofs.NamesExplain.{type_name_explains, names_explains}
+use Rattle.pst_parse_decl.specs.Members.{field_by, word_by, next_field_by, part_by, claim_by, reference_word_by, members_by, reference_by, claim_word_by}
+use Rattle.pst_parse_part.specs.Names.{names_by, type_name_by}
+use Rattle.pst_parse_decl.specs.Types.{type_by}
 use Rattle.pst_parse_expr.proofs.SharedLaws.{IsAny}
 use Rattle.pst_parse_expr.specs.Constraints.{is_at}
 use Rattle.pst_parse_expr.specs.Reading.{expr_at, maybe_index_by}
@@ -65,18 +66,6 @@ field_explains size depth =
     explains_part _ (flat_map spell_next_field) (AllByRecursion IsProperNextField) (flat_map (counts_next_field depth)) (list_by (is_at kind.Comma) (next_field_by size depth) size) _ (list_explains spell_next_field IsProperNextField (counts_next_field depth) (is_at kind.Comma) (next_field_by size depth) (next_field_explains size depth) size) (λ rest h3.
     explains_mark _ kind.Semicolon (counted depth 0) _ (λ semicolon.
     explains_done _ (MakeField rand field_type first rest semicolon) (record { is = refl; proper = (h1, h2, h3); counted = refl }))))))
-
-pub next_name_explains : (depth : ℕ) → Explains (Means spell_next_name IsAny (counts_next_name depth)) (next_name_by depth)
-next_name_explains depth =
-    explains_mark _ kind.Comma (counted depth 0) _ (λ comma.
-    explains_name _ (counted depth 0) _ (λ name.
-    explains_done _ (record { comma = comma; name = name }) (record { is = refl; proper = tt; counted = refl })))
-
-pub names_explains : (size depth : ℕ) → Explains (Means spell_names IsProperNames (counts_names depth)) (names_by size depth)
-names_explains size depth =
-    explains_name _ (counted depth 0) _ (λ first.
-    explains_part _ (flat_map spell_next_name) (AllByRecursion IsAny) (flat_map (counts_next_name depth)) (list_by (is_at kind.Comma) (next_name_by depth) size) _ (list_explains spell_next_name IsAny (counts_next_name depth) (is_at kind.Comma) (next_name_by depth) (next_name_explains depth) size) (λ rest h1.
-    explains_done _ (MakeNames first rest) (record { is = rw append-nil refl; proper = tt; counted = rw append-nil refl })))
 
 pub members_explains : (size depth : ℕ) → Explains (Means spell_members IsProperMembers (counts_members depth)) (members_by size depth)
 members_explains size depth =

@@ -9,8 +9,8 @@ use Rattle.pst_ast.specs.DeclarationSpelling.{spell_base, spell_next_field, spel
 use Rattle.pst_ast.specs.DeclarationTree.{NextFieldTree, FieldTree, ReferenceTree, ClaimTree, MembersTree, ActionPartTree, ActionTree, ObjectPartTree, ObjectTree, EnumValueTree, EnumItemTree, NextEnumItemTree, EnumTree, AnswerTree, ParameterTree, NextParameterTree, ParametersTree, FunctionTree, SizeTree, PoolTree, TargetTree, NextTargetTree, TargetsTree, PoolBindTree, ComponentPartTree, ComponentTree, ItemTree, MakeNextField, MakeField, MakeReference, MakeClaim, MakeMembers, ActionPartField, ActionPartReference, ActionPartClaim, ActionPartMembers, ActionPartConstraint, ActionPartActivity, ActionPartBody, ActionPartEmpty, MakeAction, ObjectPartField, ObjectPartConstraint, ObjectPartEmpty, MakeObject, MakeEnumValue, MakeEnumItem, MakeNextEnumItem, MakeEnum, AnswerVoid, AnswerPlain, MakeParameter, MakeNextParameter, MakeParameters, MakeFunction, MakeSize, MakePool, MakeTarget, MakeNextTarget, TargetsAll, TargetsOne, TargetsSeveral, MakePoolBind, ComponentPartAction, ComponentPartObject, ComponentPartEnum, ComponentPartFunction, ComponentPartPool, ComponentPartPoolBind, ComponentPartMembers, ComponentPartEmpty, MakeComponent, ItemComponent, ItemObject, ItemEnum, ItemFunction, ItemEmpty}
 use Rattle.pst_ast.specs.ExpressionSpelling.{spell_expr, spell_part, spell_ranges}
 use Rattle.pst_ast.specs.Marks.{mark, spell_option, claim_word_kind, object_word_kind, reference_word_kind}
-use Rattle.pst_ast.specs.SharedSpelling.{spell_next_name, spell_dot_name, spell_names, spell_scoped_name, spell_type_name, spell_low, spell_width, spell_plain, spell_domain, spell_type}
-use Rattle.pst_ast.specs.SharedTree.{NamesTree, LowTree, WidthTree, PlainTree, DomainTree, TypeTree, MakeNames, MakeLow, MakeWidth, PlainInt, PlainBit, PlainBool, MakeDomain, TypePlain, TypeNamed}
+use Rattle.pst_ast.specs.SharedSpelling.{spell_dot_name, spell_names, spell_type_name, spell_plain, spell_domain, spell_type}
+use Rattle.pst_ast.specs.SharedTree.{DomainTree, TypeTree, MakeDomain, TypePlain, TypeNamed}
 use Rattle.pst_ast.specs.declared.declaration.BaseNode.{BaseNode}
 use Rattle.pst_ast.specs.declared.declaration.ClaimWord.TheVariants as the_claim_word
 use Rattle.pst_ast.specs.declared.declaration.ClaimWord.{ClaimWord}
@@ -19,42 +19,13 @@ use Rattle.pst_ast.specs.declared.declaration.ObjectWord.{ObjectWord}
 use Rattle.pst_ast.specs.declared.declaration.ReferenceWord.TheVariants as the_reference_word
 use Rattle.pst_ast.specs.declared.declaration.ReferenceWord.{ReferenceWord}
 use Rattle.pst_ast.specs.declared.shared.DotName.{DotName}
-use Rattle.pst_ast.specs.declared.shared.NextName.{NextName}
-use Rattle.pst_ast.specs.declared.shared.ScopedName.{ScopedName}
-use Rattle.pst_ast.specs.declared.shared.TypeName.{TypeName}
 use Rattle.pst_parse_expr.proofs.ConstraintNoEnd.{set_free}
 use Rattle.pst_parse_expr.proofs.NoEnd.{expr_free, part_free, ranges_free}
 use Rattle.pst_reading.proofs.Whole.{NoEnd, both_free}
 use Rattle.pst_token.specs.declared.kind.Kind.TheVariants as kind
-use Rattle.pst_token.specs.declared.token.Token.{Token}
-use Rattle.std.proofs.Common.{◌≢◌, List, [], ◌∷◌, Option, Some, None}
+use Rattle.std.proofs.Common.{◌≢◌, [], ◌∷◌}
 use Rattle.std.specs.List.{flat_map}
-
-module _ {A : Type 0} (spell : A → List Token) (free : (x : A) → NoEnd (spell x)) where
-  free_option : (x : Option A) → NoEnd (spell_option spell x)
-  free_option None = tt
-  free_option (Some a) = free a
-
-  free_list : (xs : List A) → NoEnd (flat_map spell xs)
-  free_list [] = tt
-  free_list (x ∷ xs) = both_free (spell x) (flat_map spell xs) (free x) (free_list xs)
-
-scoped_name_free : (x : ScopedName) → NoEnd (spell_scoped_name x)
-scoped_name_free x = (λ e. cc, (λ e. cc, tt))
-
-type_name_free : (x : TypeName) → NoEnd (spell_type_name x)
-type_name_free x = (λ e. cc, (free_option spell_scoped_name (λ x. (scoped_name_free x)) x.second))
-
-low_free : (x : LowTree) → NoEnd (spell_low x)
-low_free (MakeLow colon expr) = (λ e. cc, (expr_free expr))
-
-width_free : (x : WidthTree) → NoEnd (spell_width x)
-width_free (MakeWidth left_bracket expr low right_bracket) = (λ e. cc, both_free (spell_expr expr) _ (expr_free expr) (both_free (spell_option spell_low low) _ (free_option spell_low (λ x. (low_free x)) low) (λ e. cc, tt)))
-
-plain_free : (x : PlainTree) → NoEnd (spell_plain x)
-plain_free (PlainInt int width) = (λ e. cc, free_option spell_width (λ x. width_free x) width)
-plain_free (PlainBit bit width) = (λ e. cc, free_option spell_width (λ x. width_free x) width)
-plain_free (PlainBool place) = (λ e. cc, tt)
+use Rattle.pst_parse_part.proofs.NoEnd.{free_option, free_list, type_name_free, plain_free, names_free}
 
 domain_free : (x : DomainTree) → NoEnd (spell_domain x)
 domain_free (MakeDomain in_place left_bracket ranges right_bracket) = (λ e. cc, (λ e. cc, both_free (spell_ranges ranges) _ (ranges_free ranges) (λ e. cc, tt)))
@@ -68,12 +39,6 @@ next_field_free (MakeNextField comma part) = (λ e. cc, (part_free part))
 
 field_free : (x : FieldTree) → NoEnd (spell_field x)
 field_free (MakeField rand field_type first rest semicolon) = (λ e. cc, both_free (spell_type field_type) _ (type_free field_type) (both_free (spell_part first) _ (part_free first) (both_free (flat_map spell_next_field rest) _ (free_list spell_next_field (λ x. (next_field_free x)) rest) (λ e. cc, tt))))
-
-next_name_free : (x : NextName) → NoEnd (spell_next_name x)
-next_name_free x = (λ e. cc, (λ e. cc, tt))
-
-names_free : (x : NamesTree) → NoEnd (spell_names x)
-names_free (MakeNames first rest) = (λ e. cc, (free_list spell_next_name (λ x. (next_name_free x)) rest))
 
 members_free : (x : MembersTree) → NoEnd (spell_members x)
 members_free (MakeMembers member_type names semicolon) = both_free (spell_type_name member_type) _ (type_name_free member_type) (both_free (spell_names names) _ (names_free names) (λ e. cc, tt))

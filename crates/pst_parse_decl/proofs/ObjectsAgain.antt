@@ -15,7 +15,7 @@ use Rattle.pst_ast.specs.declared.declaration.ObjectWord.{ObjectWord}
 use Rattle.pst_ast.specs.declared.leaf.Name.{Name}
 use Rattle.pst_base.specs.declared.position.Place.{Place}
 use Rattle.pst_parse_decl.proofs.Behind.{reads_behind, taken_behind, content_takes, first_count}
-use Rattle.pst_parse_decl.proofs.Following.{other_mark, ends_there, expr_rereads, reread_next, reread_made, reread_empty}
+use Rattle.pst_parse_part.proofs.Following.{other_mark, ends_there, expr_rereads, reread_next, reread_made, reread_empty}
 use Rattle.pst_parse_decl.proofs.MembersAgain.{word_rereads, field_rereads}
 use Rattle.pst_parse_decl.proofs.ObjectsExplain.{spell_object_word, counts_object_word}
 use Rattle.pst_parse_decl.proofs.Taken.{taken_content, taken_constraint_declaration, taken_object_part, taken_object}

@@ -14,7 +14,7 @@ use Rattle.pst_ast.specs.declared.declaration.ObjectWord.{ObjectWord}
 use Rattle.pst_ast.specs.declared.leaf.Name.{Name}
 use Rattle.pst_base.specs.declared.position.Place.{Place}
 use Rattle.pst_parse_decl.proofs.Behind.{reads_behind, taken_behind, content_takes, first_count}
-use Rattle.pst_parse_decl.proofs.ChoicesExplain.{explains_if_mark, explains_made, explains_empty}
+use Rattle.pst_parse_part.proofs.ChoicesExplain.{explains_if_mark, explains_made, explains_empty}
 use Rattle.pst_parse_decl.proofs.MembersExplain.{word_explains, field_explains, spell_word, counts_word}
 use Rattle.pst_parse_decl.proofs.Taken.{taken_content, taken_constraint_declaration, taken_object_part, taken_object}
 use Rattle.pst_parse_decl.specs.Members.{field_by}

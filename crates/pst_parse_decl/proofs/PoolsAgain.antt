@@ -10,10 +10,10 @@ use Rattle.pst_ast.specs.SharedLimits.{counts_dot_name}
 use Rattle.pst_ast.specs.SharedSpelling.{spell_dot_name, spell_type_name}
 use Rattle.pst_ast.specs.declared.leaf.Name.{Name}
 use Rattle.pst_base.specs.declared.position.Place.{Place}
-use Rattle.pst_parse_decl.proofs.Following.{other_mark, other_name, next_list_in, next_part_in, any_list, expr_rereads, dot_name_rereads, dot_name_begins, dot_name_some, reread_made, reread_empty}
-use Rattle.pst_parse_decl.proofs.TypesAgain.{type_name_begins, type_name_rereads}
+use Rattle.pst_parse_part.proofs.Following.{other_mark, other_name, next_list_in, next_part_in, any_list, expr_rereads, dot_name_rereads, dot_name_begins, dot_name_some, reread_made, reread_empty}
+use Rattle.pst_parse_part.proofs.NamesAgain.{type_name_begins, type_name_rereads}
 use Rattle.pst_parse_decl.specs.Pools.{target_by, next_target_by, several_targets_by, targets_by, pool_by, pool_bind_by, size_by}
-use Rattle.pst_parse_decl.specs.Types.{type_name_by}
+use Rattle.pst_parse_part.specs.Names.{type_name_by}
 use Rattle.pst_parse_expr.proofs.SharedLaws.{IsAny}
 use Rattle.pst_parse_expr.proofs.Stops.{IsNo, Separates, right_bracket_closes}
 use Rattle.pst_parse_expr.specs.Constraints.{outermost_at, is_at, dot_name_by}

@@ -10,10 +10,10 @@ use Rattle.pst_ast.specs.Limits.{counted, counts_option}
 use Rattle.pst_ast.specs.Marks.{spell_option, OptionIs}
 use Rattle.pst_ast.specs.SharedLimits.{counts_dot_name, counts_type_name}
 use Rattle.pst_ast.specs.SharedSpelling.{spell_dot_name, spell_type_name}
-use Rattle.pst_parse_decl.proofs.ChoicesExplain.{explains_if_mark, explains_option, explains_made, explains_empty, dot_name_explains}
-use Rattle.pst_parse_decl.proofs.TypesExplain.{type_name_explains}
+use Rattle.pst_parse_part.proofs.ChoicesExplain.{explains_if_mark, explains_option, explains_made, explains_empty, dot_name_explains}
+use Rattle.pst_parse_part.proofs.NamesExplain.{type_name_explains}
 use Rattle.pst_parse_decl.specs.Pools.{target_by, next_target_by, several_targets_by, targets_by, pool_by, pool_bind_by, size_by}
-use Rattle.pst_parse_decl.specs.Types.{type_name_by}
+use Rattle.pst_parse_part.specs.Names.{type_name_by}
 use Rattle.pst_parse_expr.proofs.Answering.{explains}
 use Rattle.pst_parse_expr.proofs.SharedLaws.{IsAny}
 use Rattle.pst_parse_expr.specs.Constraints.{outermost_at, is_at, dot_name_by}

@@ -4,10 +4,10 @@ use Rattle.pst_ast.specs.BodyTree.{BodyTree}
 use Rattle.pst_ast.specs.DeclarationTree.{ActionPartTree, ActionTree, ActionPartField, ActionPartReference, ActionPartClaim, ActionPartMembers, ActionPartConstraint, ActionPartActivity, ActionPartBody, ActionPartEmpty, MakeAction}
 use Rattle.pst_ast.specs.Limits.{counted}
 use Rattle.pst_ast.specs.declared.declaration.BaseNode.{BaseNode}
-use Rattle.pst_parse_decl.specs.Choices.{if_next}
+use Rattle.pst_parse_part.specs.Choices.{if_next}
 use Rattle.pst_parse_decl.specs.Members.{reference_by, members_by, claim_by, field_by}
 use Rattle.pst_parse_decl.specs.Objects.{constraint_declaration_by}
-use Rattle.pst_parse_decl.specs.Types.{type_name_by}
+use Rattle.pst_parse_part.specs.Names.{type_name_by}
 use Rattle.pst_parse_expr.specs.Constraints.{Within, is_at, is_other}
 use Rattle.pst_reading.specs.Lists.{list_by}
 use Rattle.pst_reading.specs.Options.{option_by}

@@ -4,7 +4,7 @@ use Rattle.pst_ast.specs.BodyTree.{BodyTree}
 use Rattle.pst_ast.specs.DeclarationTree.{ComponentPartTree, ComponentTree, ItemTree, ComponentPartAction, ComponentPartObject, ComponentPartEnum, ComponentPartFunction, ComponentPartPool, ComponentPartPoolBind, ComponentPartMembers, ComponentPartEmpty, MakeComponent, ItemComponent, ItemObject, ItemEnum, ItemFunction, ItemEmpty}
 use Rattle.pst_ast.specs.Limits.{counted}
 use Rattle.pst_parse_decl.specs.Actions.{action_by}
-use Rattle.pst_parse_decl.specs.Choices.{if_next}
+use Rattle.pst_parse_part.specs.Choices.{if_next}
 use Rattle.pst_parse_decl.specs.Enums.{enum_by, function_by}
 use Rattle.pst_parse_decl.specs.Members.{members_by}
 use Rattle.pst_parse_decl.specs.Objects.{object_by}

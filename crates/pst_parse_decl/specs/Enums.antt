@@ -2,7 +2,7 @@
 use Rattle.pst_ast.specs.DeclarationTree.{EnumValueTree, EnumItemTree, NextEnumItemTree, EnumTree, AnswerTree, ParameterTree, NextParameterTree, ParametersTree, FunctionTree, MakeEnumValue, MakeEnumItem, MakeNextEnumItem, MakeEnum, AnswerVoid, AnswerPlain, MakeParameter, MakeNextParameter, MakeParameters, MakeFunction}
 use Rattle.pst_ast.specs.Limits.{counted}
 use Rattle.pst_base.specs.declared.position.Place.{Place}
-use Rattle.pst_parse_decl.specs.Types.{plain_by}
+use Rattle.pst_parse_part.specs.Plain.{plain_by}
 use Rattle.pst_parse_expr.specs.Constraints.{Within, outermost_at, is_at, is_other}
 use Rattle.pst_reading.specs.Lists.{list_by}
 use Rattle.pst_reading.specs.Options.{option_by}

@@ -4,24 +4,21 @@ use Rattle.pst_ast.specs.BodyTree.{BodyTree}
 use Rattle.pst_ast.specs.ConstraintTree.{ConstraintTree, ConstraintContentTree, ConstraintDeclarationTree, ConstraintContentNamed}
 use Rattle.pst_ast.specs.DeclarationTree.{NextFieldTree, FieldTree, ReferenceTree, ClaimTree, MembersTree, ActionPartTree, ActionTree, ObjectPartTree, ObjectTree, EnumValueTree, EnumItemTree, NextEnumItemTree, EnumTree, AnswerTree, ParameterTree, NextParameterTree, ParametersTree, FunctionTree, SizeTree, PoolTree, TargetTree, NextTargetTree, TargetsTree, PoolBindTree, ComponentPartTree, ComponentTree, ItemTree}
 use Rattle.pst_ast.specs.DeclarationView.{view_parameters}
-use Rattle.pst_ast.specs.ExpressionTree.{PartTree, RangesTree, NextRangeTree, RangeTree, MaybeIndex}
+use Rattle.pst_ast.specs.ExpressionTree.{PartTree, MaybeIndex}
 use Rattle.pst_ast.specs.Limits.{counted}
-use Rattle.pst_ast.specs.SharedTree.{NamesTree, LowTree, WidthTree, PlainTree, DomainTree, TypeTree}
+use Rattle.pst_ast.specs.SharedTree.{DomainTree, TypeTree}
 use Rattle.pst_ast.specs.declared.declaration.BaseNode.{BaseNode}
 use Rattle.pst_ast.specs.declared.declaration.ClaimWord.{ClaimWord}
 use Rattle.pst_ast.specs.declared.declaration.ObjectWord.{ObjectWord}
 use Rattle.pst_ast.specs.declared.declaration.ReferenceWord.{ReferenceWord}
-use Rattle.pst_ast.specs.declared.shared.NextName.{NextName}
-use Rattle.pst_ast.specs.declared.shared.ScopedName.{ScopedName}
-use Rattle.pst_ast.specs.declared.shared.TypeName.{TypeName}
 use Rattle.pst_base.specs.declared.position.Place.{Place}
 use Rattle.pst_parse_decl.specs.Actions.{action_part_by, base_by, action_by}
 use Rattle.pst_parse_decl.specs.Components.{item_by, component_part_by, component_by}
 use Rattle.pst_parse_decl.specs.Enums.{next_enum_item_by, enum_value_by, enum_by, answer_by, parameter_by, FunctionRestTree, function_rest_by, function_by, next_parameter_by, parameters_by, enum_item_by}
-use Rattle.pst_parse_decl.specs.Members.{claim_word_by, reference_by, names_by, members_by, reference_word_by, part_by, next_name_by, claim_by, next_field_by, field_by}
+use Rattle.pst_parse_decl.specs.Members.{claim_word_by, reference_by, members_by, reference_word_by, part_by, claim_by, next_field_by, field_by}
 use Rattle.pst_parse_decl.specs.Objects.{content_by, object_part_by, set_content_by, object_word_by, object_by, constraint_declaration_by}
 use Rattle.pst_parse_decl.specs.Pools.{target_by, several_targets_by, next_target_by, targets_by, pool_by, pool_bind_by, size_by}
-use Rattle.pst_parse_decl.specs.Types.{scoped_name_by, int_by, named_type_by, width_by, range_by, domain_by, next_range_by, plain_type_by, ranges_by, type_by, type_name_by, plain_by, bit_by, low_by}
+use Rattle.pst_parse_decl.specs.Types.{named_type_by, domain_by, plain_type_by, type_by}
 use Rattle.pst_parse_decl.specs.declared.enums.FunctionRest.{FunctionRest}
 use Rattle.pst_parse_expr.specs.ConstraintFamilies.{items_family}
 use Rattle.pst_parse_expr.specs.Constraints.{Within, constraint_at}
@@ -29,40 +26,8 @@ use Rattle.pst_parse_expr.specs.Reading.{expr_at, maybe_index_by}
 use Rattle.pst_reading.specs.Gives.{Family}
 use Rattle.pst_reading.specs.Parser.{Done, ◌>>=◌, mark_by, name_by}
 use Rattle.pst_token.specs.declared.kind.Kind.TheVariants as kind
-use Rattle.pst_token.specs.declared.kind.Kind.{Kind}
-use Rattle.std.specs.Global.{Vec}
 use Rattle.std.specs.Option.{option_map}
-use Rattle.std.specs.Prelude.{ℕ, suc, List, map}
-
-abbrev pub scoped_name_family : ℕ → Family ScopedName
-scoped_name_family depth size prefixes = scoped_name_by depth
-
-abbrev pub type_name_family : ℕ → Family TypeName
-type_name_family depth size prefixes = type_name_by depth
-
-abbrev pub low_family : ℕ → Family LowTree
-low_family depth size prefixes = low_by size depth
-
-abbrev pub width_family : ℕ → Family WidthTree
-width_family depth size prefixes = width_by size depth
-
-abbrev pub int_family : ℕ → Family PlainTree
-int_family depth size prefixes = int_by size depth
-
-abbrev pub bit_family : ℕ → Family PlainTree
-bit_family depth size prefixes = bit_by size depth
-
-abbrev pub plain_family : ℕ → Family PlainTree
-plain_family depth size prefixes = plain_by size depth
-
-abbrev pub range_family : ℕ → Family RangeTree
-range_family depth size prefixes = range_by size depth
-
-abbrev pub next_range_family : ℕ → Family NextRangeTree
-next_range_family depth size prefixes = next_range_by size depth
-
-abbrev pub ranges_family : ℕ → Family RangesTree
-ranges_family depth size prefixes = ranges_by size depth
+use Rattle.std.specs.Prelude.{ℕ, suc}
 
 abbrev pub domain_family : ℕ → Family DomainTree
 domain_family depth size prefixes = domain_by size depth
@@ -84,12 +49,6 @@ next_field_family depth size prefixes = next_field_by size depth
 
 abbrev pub field_family : ℕ → Family FieldTree
 field_family depth size prefixes = field_by size depth
-
-abbrev pub next_name_family : ℕ → Family NextName
-next_name_family depth size prefixes = next_name_by depth
-
-abbrev pub names_family : ℕ → Family NamesTree
-names_family depth size prefixes = names_by size depth
 
 abbrev pub members_family : ℕ → Family MembersTree
 members_family depth size prefixes = members_by size depth
@@ -190,9 +149,6 @@ component_family activity body depth size prefixes = component_by activity body 
 abbrev pub item_family : (ℕ → Within ActivityTree) → (ℕ → Within BodyTree) → ℕ → Family ItemTree
 item_family activity body depth size prefixes = item_by activity body size depth
 
-abbrev pub mark_family : Kind → ℕ → Family Place
-mark_family k depth size prefixes = mark_by k (counted depth 0)
-
 abbrev pub array_size_family : ℕ → Family MaybeIndex
 array_size_family depth size prefixes = maybe_index_by (expr_at (suc size)) depth 0
 
@@ -210,16 +166,6 @@ set_content_family depth size prefixes = set_content_by size depth
 
 abbrev pub whole_set_family : ℕ → Family ConstraintTree
 whole_set_family depth size prefixes = constraint_at (suc size) depth
-
--- what the program has, without where it lies in memory
-abbrev pub view_itself : {A : Type 0} → A → A
-view_itself x = x
-
-abbrev pub view_list : {X A : Type 0} → (X → A) → Vec X → List A
-view_list view v = map view v.items
-
-abbrev pub view_items_of : {A : Type 0} → Vec A → List A
-view_items_of v = v.items
 
 abbrev pub view_function_rest : FunctionRest → FunctionRestTree
 view_function_rest r = record {

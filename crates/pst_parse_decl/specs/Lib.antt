@@ -1,4 +1,3 @@
-pub mod Choices
 pub mod Types
 pub mod Members
 pub mod Enums

@@ -2,14 +2,13 @@
 use Rattle.pst_ast.specs.DeclarationTree.{NextFieldTree, FieldTree, ReferenceTree, ClaimTree, MembersTree, MakeNextField, MakeField, MakeReference, MakeClaim, MakeMembers}
 use Rattle.pst_ast.specs.ExpressionTree.{PartTree, MakePart}
 use Rattle.pst_ast.specs.Limits.{counted}
-use Rattle.pst_ast.specs.SharedTree.{NamesTree, MakeNames}
 use Rattle.pst_ast.specs.declared.declaration.ClaimWord.TheVariants as the_claim_word
 use Rattle.pst_ast.specs.declared.declaration.ClaimWord.{ClaimWord}
 use Rattle.pst_ast.specs.declared.declaration.ReferenceWord.TheVariants as the_reference_word
 use Rattle.pst_ast.specs.declared.declaration.ReferenceWord.{ReferenceWord}
-use Rattle.pst_ast.specs.declared.shared.NextName.{NextName}
 use Rattle.pst_base.specs.declared.position.Place.{Place}
-use Rattle.pst_parse_decl.specs.Types.{type_name_by, type_by}
+use Rattle.pst_parse_decl.specs.Types.{type_by}
+use Rattle.pst_parse_part.specs.Names.{type_name_by, names_by}
 use Rattle.pst_parse_expr.specs.Constraints.{Within, is_at}
 use Rattle.pst_parse_expr.specs.Reading.{expr_at, maybe_index_by}
 use Rattle.pst_reading.specs.Lists.{list_by}
@@ -41,20 +40,6 @@ field_by size depth = do
   rest ← list_by (is_at kind.Comma) (next_field_by size depth) size
   semicolon ← mark_by kind.Semicolon (counted depth 0)
   Done (MakeField rand field_type first rest semicolon)
-
--- "," NAME
-abbrev pub next_name_by : Within NextName
-next_name_by depth = do
-  comma ← mark_by kind.Comma (counted depth 0)
-  name ← name_by (counted depth 0)
-  Done (record { comma = comma; name = name })
-
--- NAME { "," NAME }
-abbrev pub names_by : ℕ → Within NamesTree
-names_by size depth = do
-  first ← name_by (counted depth 0)
-  rest ← list_by (is_at kind.Comma) (next_name_by depth) size
-  Done (MakeNames first rest)
 
 -- members = tname NAME { "," NAME } ";"
 abbrev pub members_by : ℕ → Within MembersTree

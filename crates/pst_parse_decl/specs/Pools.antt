@@ -1,7 +1,7 @@
 -- Pools and what is bound to them, parsed from left to right.
 use Rattle.pst_ast.specs.DeclarationTree.{SizeTree, PoolTree, TargetTree, NextTargetTree, TargetsTree, PoolBindTree, MakeSize, MakePool, MakeTarget, MakeNextTarget, TargetsAll, TargetsOne, TargetsSeveral, MakePoolBind}
 use Rattle.pst_ast.specs.Limits.{counted}
-use Rattle.pst_parse_decl.specs.Types.{type_name_by}
+use Rattle.pst_parse_part.specs.Names.{type_name_by}
 use Rattle.pst_parse_expr.specs.Constraints.{Within, outermost_at, is_at, dot_name_by}
 use Rattle.pst_reading.specs.Lists.{list_by}
 use Rattle.pst_reading.specs.Options.{option_by}

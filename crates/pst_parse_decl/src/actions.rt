@@ -1,8 +1,9 @@
 //! Actions. A parser stands at a place; it answers the part and the place behind it.
 ghost use Rattle.pst_parse_decl.specs.Actions;
 ghost use Rattle.pst_ast.specs.DeclarationView.{view_action_part, view_action};
-ghost use Rattle.pst_parse_decl.specs.Choices.{optional};
-ghost use Rattle.pst_parse_decl.specs.Families.{view_itself, action_family, view_list, action_part_family, base_family};
+ghost use Rattle.pst_parse_part.specs.Choices.{optional};
+ghost use Rattle.pst_parse_decl.specs.Families.{action_family, action_part_family, base_family};
+ghost use Rattle.pst_parse_part.specs.Families.{view_itself, view_list};
 ghost use Rattle.pst_parse_decl.specs.Inner.{activity_parser, body_parser};
 ghost use Rattle.pst_parse_expr.specs.Constraints.{is_at, is_other};
 ghost use Rattle.pst_reading.specs.Lists.{listed};
@@ -14,8 +15,9 @@ ghost use Rattle.std.specs.Prelude.{◌≤◌, ◌-◌, ◌≡◌, length, drop}
 use crate::inner::{activity, body};
 use crate::members::{claim, field, members, reference};
 use crate::objects::constraint_declaration;
-use crate::types::{maybe_mark, type_name};
 use pst_ast::{ActionNode, ActionPart, BaseNode, SyntaxFault};
+use pst_parse_part::marks::maybe_mark;
+use pst_parse_part::names::type_name;
 use pst_reading::{boxed, expect, expect_name, is, push};
 use pst_token::{Kind, Token};
 use std::alloc::Global;

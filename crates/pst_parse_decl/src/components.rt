@@ -2,7 +2,8 @@
 //! the place behind it.
 ghost use Rattle.pst_parse_decl.specs.Components;
 ghost use Rattle.pst_ast.specs.DeclarationView.{view_component_part, view_component, view_item};
-ghost use Rattle.pst_parse_decl.specs.Families.{component_part_family, component_family, view_list, item_family};
+ghost use Rattle.pst_parse_decl.specs.Families.{component_part_family, component_family, item_family};
+ghost use Rattle.pst_parse_part.specs.Families.{view_list};
 ghost use Rattle.pst_parse_decl.specs.Inner.{activity_parser, body_parser};
 ghost use Rattle.pst_parse_expr.specs.Constraints.{is_other};
 ghost use Rattle.pst_reading.specs.Lists.{listed};

@@ -1,8 +1,9 @@
 //! Enums and functions. A parser stands at a place, and `depth` derivations that count are open at
 //! the tokens of its part; it answers the part and the place behind it.
 ghost use Rattle.pst_ast.specs.DeclarationView.{view_enum_value, view_enum_item, view_next_enum_item, view_enum, view_answer, view_parameter, view_next_parameter, view_parameters, view_function};
-ghost use Rattle.pst_parse_decl.specs.Choices.{optional};
-ghost use Rattle.pst_parse_decl.specs.Families.{enum_item_family, answer_family, view_list, enum_family, function_rest_family, function_family, view_function_rest, enum_value_family, next_parameter_family, next_enum_item_family, parameter_family, parameters_family};
+ghost use Rattle.pst_parse_part.specs.Choices.{optional};
+ghost use Rattle.pst_parse_decl.specs.Families.{enum_item_family, answer_family, enum_family, function_rest_family, function_family, view_function_rest, enum_value_family, next_parameter_family, next_enum_item_family, parameter_family, parameters_family};
+ghost use Rattle.pst_parse_part.specs.Families.{view_list};
 ghost use Rattle.pst_parse_expr.specs.Constraints.{is_at, is_other};
 ghost use Rattle.pst_reading.specs.Lists.{listed};
 ghost use Rattle.pst_reading.specs.Reads.{Reads};
@@ -10,13 +11,14 @@ ghost use Rattle.pst_token.specs.declared.kind.Kind.TheVariants as kind;
 ghost use Rattle.std.specs.Option.{option_map};
 ghost use Rattle.std.specs.Prelude.{◌≤◌, ◌-◌, length};
 
-use crate::types::{maybe_mark, plain};
 use pst_ast::{
     AnswerNode, EnumItem, EnumNode, EnumValue, FunctionNode, NextEnumItem, NextParameter,
     ParameterNode, ParametersNode, SyntaxFault,
 };
 use pst_base::Place;
 use pst_parse_expr::shared::outermost;
+use pst_parse_part::marks::maybe_mark;
+use pst_parse_part::plain::plain;
 use pst_reading::{expect, expect_name, is, push};
 use pst_token::{Kind, Token};
 use std::alloc::Global;

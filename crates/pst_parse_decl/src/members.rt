@@ -2,8 +2,8 @@
 //! count are open at the tokens of its part; it answers the part and the place behind it.
 ghost use Rattle.pst_ast.specs.DeclarationView.{view_next_field, view_field, view_reference, view_claim, view_members};
 ghost use Rattle.pst_ast.specs.ExpressionView.{view_part};
-ghost use Rattle.pst_ast.specs.SharedView.{view_names};
-ghost use Rattle.pst_parse_decl.specs.Families.{members_family, part_family, view_items_of, names_family, reference_word_family, view_list, claim_family, reference_family, view_itself, array_size_family, field_family, next_name_family, next_field_family, claim_word_family};
+ghost use Rattle.pst_parse_decl.specs.Families.{members_family, part_family, reference_word_family, claim_family, reference_family, array_size_family, field_family, next_field_family, claim_word_family};
+ghost use Rattle.pst_parse_part.specs.Families.{view_list, view_itself};
 ghost use Rattle.pst_parse_expr.specs.Constraints.{is_at};
 ghost use Rattle.pst_parse_expr.specs.Families.{view_index_option};
 ghost use Rattle.pst_reading.specs.Lists.{listed};
@@ -11,13 +11,14 @@ ghost use Rattle.pst_reading.specs.Reads.{Reads};
 ghost use Rattle.pst_token.specs.declared.kind.Kind.TheVariants as kind;
 ghost use Rattle.std.specs.Prelude.{◌≤◌, ◌-◌, length};
 
-use crate::types::{type_, type_name};
+use crate::types::type_;
 use pst_ast::{
-    ClaimNode, ClaimWord, FieldNode, IndexNode, MembersNode, NamesNode, NextField, NextName,
-    PartNode, ReferenceNode, ReferenceWord, SyntaxFault,
+    ClaimNode, ClaimWord, FieldNode, IndexNode, MembersNode, NextField, PartNode, ReferenceNode,
+    ReferenceWord, SyntaxFault,
 };
 use pst_base::Place;
 use pst_parse_expr::expression::index;
+use pst_parse_part::names::{names, type_name};
 use pst_reading::{expect, expect_name, is, push};
 use pst_token::{Kind, Token};
 use std::alloc::Global;
@@ -117,53 +118,6 @@ pub fn field(
         },
         after_rest + 1,
     ))
-}
-
-// A name behind a comma.
-fn next_name(tokens: &[Token], at: usize, depth: u32) -> Result<(NextName, usize), SyntaxFault>
-    requires inside { at ≤ length tokens.now }
-    ensures { Reads view_itself (next_name_family depth) tokens.now at at 1 result }
-{
-    let comma = expect(tokens, at, Kind::Comma, depth, 0)?;
-    let name = expect_name(tokens, at + 1, depth, 0)?;
-    Ok((NextName { comma, name }, at + 2))
-}
-
-// Names behind commas.
-fn next_names(
-    alloc: Global,
-    tokens: &[Token],
-    at: usize,
-    depth: u32,
-) -> Result<(Vec<NextName>, usize), SyntaxFault>
-    requires inside { at ≤ length tokens.now }
-    requires behind { 1 ≤ at }
-    ensures { Reads view_items_of (listed (is_at kind.Comma) (next_name_family depth)) tokens.now (at - 1) at 0 result }
-{
-    let mut others = Vec::new(alloc);
-    let mut place = at;
-    'others: while is(tokens, place, Kind::Comma) {
-        let (name, after) = next_name(tokens, place, depth)?;
-        push(&mut others, name)?;
-        place = after;
-    }
-    Ok((others, place))
-}
-
-// Names.
-fn names(
-    alloc: Global,
-    tokens: &[Token],
-    at: usize,
-    depth: u32,
-) -> Result<(NamesNode, usize), SyntaxFault>
-    requires inside { at ≤ length tokens.now }
-    requires nesting { depth ≤ 64 }
-    ensures { Reads view_names (names_family depth) tokens.now at at 1 result }
-{
-    let first = expect_name(tokens, at, depth, 0)?;
-    let (rest, after_rest) = next_names(alloc, tokens, at + 1, depth)?;
-    Ok((NamesNode { first, rest }, after_rest))
 }
 
 /// Members of one type: handles or instances.

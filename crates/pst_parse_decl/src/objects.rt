@@ -2,7 +2,8 @@
 //! that count are open at the tokens of its part; it answers the part and the place behind it.
 ghost use Rattle.pst_ast.specs.ConstraintView.{view_constraint_content, view_constraint_declaration};
 ghost use Rattle.pst_ast.specs.DeclarationView.{view_object_part, view_object};
-ghost use Rattle.pst_parse_decl.specs.Families.{object_word_family, view_list, constraint_declaration_family, view_itself, object_part_family, content_family, object_family, named_family};
+ghost use Rattle.pst_parse_decl.specs.Families.{object_word_family, constraint_declaration_family, object_part_family, content_family, object_family, named_family};
+ghost use Rattle.pst_parse_part.specs.Families.{view_list, view_itself};
 ghost use Rattle.pst_parse_expr.specs.Constraints.{is_at, is_other};
 ghost use Rattle.pst_reading.specs.Kinds.{is_name, next_is};
 ghost use Rattle.pst_reading.specs.Lists.{listed};

@@ -1,8 +1,9 @@
 //! Pools, and what is bound to them. A parser stands at a place, and `depth` derivations that count
 //! are open at the tokens of its part; it answers the part and the place behind it.
 ghost use Rattle.pst_ast.specs.DeclarationView.{view_size, view_pool, view_target, view_next_target, view_targets, view_pool_bind};
-ghost use Rattle.pst_parse_decl.specs.Choices.{optional};
-ghost use Rattle.pst_parse_decl.specs.Families.{pool_bind_family, size_family, target_family, view_list, view_itself, pool_family, several_targets_family, targets_family, next_target_family};
+ghost use Rattle.pst_parse_part.specs.Choices.{optional};
+ghost use Rattle.pst_parse_decl.specs.Families.{pool_bind_family, size_family, target_family, pool_family, several_targets_family, targets_family, next_target_family};
+ghost use Rattle.pst_parse_part.specs.Families.{view_list, view_itself};
 ghost use Rattle.pst_parse_expr.specs.ConstraintFamilies.{dot_name_family};
 ghost use Rattle.pst_parse_expr.specs.Constraints.{is_at};
 ghost use Rattle.pst_reading.specs.Lists.{listed};
@@ -11,11 +12,11 @@ ghost use Rattle.pst_token.specs.declared.kind.Kind.TheVariants as kind;
 ghost use Rattle.std.specs.Option.{option_map};
 ghost use Rattle.std.specs.Prelude.{◌≤◌, ◌-◌, length};
 
-use crate::types::type_name;
 use pst_ast::{
     DotName, NextTarget, PoolBindNode, PoolNode, SizeNode, SyntaxFault, TargetNode, TargetsNode,
 };
 use pst_parse_expr::shared::{dot_names, outermost};
+use pst_parse_part::names::type_name;
 use pst_reading::{expect, expect_name, is, push};
 use pst_token::{Kind, Token};
 use std::alloc::Global;

@@ -1,23 +1,18 @@
-use Rattle.std.proofs.Common.{arith, rules, ◌-◌, ◌+◌, true, false, refl, sym, ap, Some, None}
+use Rattle.std.proofs.Common.{arith, rules, ◌-◌, ◌+◌, true, false, ◌≡◌, subst, drop, Err}
 use Rattle.std.specs.Prelude.{map}
 use Rattle.std.specs.Option.{option_map}
 use Rattle.std.proofs.lemmas.List.{map-append}
 use Rattle.std.proofs.lemmas.Result.{err_from_is_err_and}
 use Rattle.pst_token.specs.declared.kind.Kind.TheVariants as kind
-use Rattle.pst_ast.specs.ExpressionView.{view_expr, view_range, view_next_range, view_ranges}
-use Rattle.pst_ast.specs.SharedView.{view_names}
-use Rattle.pst_ast.specs.ConstraintView.{view_constraint}
-use Rattle.pst_ast.specs.ActivityView.{view_with, view_join, view_other_ends, view_bind, view_weight, view_guard, view_arm_label, view_statement, view_core, view_branch, view_arm, view_activity}
-use Rattle.pst_ast.specs.ActivityProper.{with_ends_open, core_ends_open, statement_ends_open}
+use Rattle.pst_ast.specs.ExpressionView.{view_expr}
+use Rattle.pst_ast.specs.ActivityView.{view_with, view_join, view_guard, view_arm_label, view_statement, view_core, view_branch, view_arm}
+use Rattle.pst_ast.specs.ActivityProper.{core_ends_open, statement_ends_open}
 use Rattle.pst_reading.proofs.Giving.{later, later_fault}
 use Rattle.pst_reading.proofs.Lists.{list_begins, list_turns, list_fails, list_ends}
-use Rattle.pst_reading.proofs.Optional.{option_absent, option_present, option_fails}
-use Rattle.pst_reading.proofs.Reaching.{begin, choose, reads_on, reads_open_on}
-use Rattle.pst_parse_expr.specs.Constraints.{is_at, is_other}
-use Rattle.pst_parse_act.specs.Activities.{begins_join, begins_guard}
-use Rattle.pst_parse_act.specs.ActivityFamilies.{scoped_name_family, type_name_family, next_name_family, names_family, end_family, next_end_family, one_end_family, several_ends_family, other_ends_family, bind_family, branch_join_family, nothing_join_family, select_join_family, join_family, weight_family, condition_guard_family, weight_guard_family, guard_family, range_family, next_range_family, ranges_family, ranges_label_family, default_label_family, arm_label_family, counter_family, with_set_family, with_nothing_family, with_family, do_family, handle_family, sequence_word_family, nested_family, sequence_family, branch_family, select_family, repeated_family, if_family, arm_family, match_family, bound_family, core_family, empty_family, named_family, plain_family, statement_family, together_family, activity_family, maybe_scoped_name_family, maybe_join_family, maybe_weight_family, maybe_guard_family, maybe_sequence_word_family, next_names_family, next_ends_family, next_ranges_family, statements_family, branches_family, arms_family, range_row_family, statement_row_family, branch_row_family, arm_row_family, view_counter, view_next_ranges, view_statements, view_branches, view_arms}
-use Rattle.pst_parse_act.proofs.ActivityRules.{arm_colon_fails, arm_given, arm_label_fails, arm_statement_fails, both_condition_fails, both_else__fails, both_given, both_holds_fails, both_if__fails, both_left_parenthesis_fails, both_other_fails, both_right_parenthesis_fails, branch_given, branch_guard_fails, branch_statement_fails, handle_given, handle_name_fails, handle_with_fails, label_colon_fails, label_core_fails, label_given, label_name_fails, match_core_expr_fails, match_core_first_fails, match_core_given, match_core_left_brace_fails, match_core_left_parenthesis_fails, match_core_match__fails, match_core_rest_fails, match_core_right_brace_fails, match_core_right_parenthesis_fails, only_condition_fails, only_given, only_holds_fails, only_if__fails, only_left_parenthesis_fails, only_right_parenthesis_fails, plain_core_fails, plain_given, repeat_core_counter_fails, repeat_core_given, repeat_core_left_parenthesis_fails, repeat_core_repeat_fails, repeat_core_repeated_fails, repeat_core_right_parenthesis_fails, select_core_first_fails, select_core_given, select_core_left_brace_fails, select_core_rest_fails, select_core_right_brace_fails, select_core_select_fails, sequence_core_given, sequence_core_left_brace_fails, sequence_core_right_brace_fails, sequence_core_sequence_fails, sequence_core_statements_fails, together_core_given, together_core_join_fails, together_core_left_brace_fails, together_core_place_fails, together_core_right_brace_fails, together_core_statements_fails}
-use Rattle.std.proofs.Common.{◌≡◌, subst, drop, Err}
+use Rattle.pst_reading.proofs.Reaching.{begin, choose, reads_open_on}
+use Rattle.pst_parse_expr.specs.Constraints.{is_other}
+use Rattle.pst_parse_act.specs.ActivityFamilies.{do_family, handle_family, nested_family, sequence_family, branch_family, select_family, repeated_family, if_family, arm_family, match_family, bound_family, core_family, empty_family, named_family, plain_family, statement_family, together_family}
+use Rattle.pst_parse_act.proofs.ActivityRules.{arm_colon_fails, arm_given, arm_label_fails, arm_statement_fails, both_else__fails, both_given, both_other_fails, branch_given, branch_guard_fails, branch_statement_fails, handle_given, handle_name_fails, handle_with_fails, label_colon_fails, label_core_fails, label_given, match_core_expr_fails, match_core_first_fails, match_core_given, match_core_left_brace_fails, match_core_left_parenthesis_fails, match_core_match__fails, match_core_rest_fails, match_core_right_brace_fails, match_core_right_parenthesis_fails, only_condition_fails, only_given, only_holds_fails, only_if__fails, only_left_parenthesis_fails, only_right_parenthesis_fails, plain_core_fails, plain_given, repeat_core_given, repeat_core_repeat_fails, repeat_core_repeated_fails, select_core_first_fails, select_core_given, select_core_left_brace_fails, select_core_rest_fails, select_core_right_brace_fails, select_core_select_fails, sequence_core_given, sequence_core_left_brace_fails, sequence_core_right_brace_fails, sequence_core_sequence_fails, sequence_core_statements_fails, together_core_given, together_core_join_fails, together_core_left_brace_fails, together_core_place_fails, together_core_right_brace_fails, together_core_statements_fails, repeat_core_times_fails}
 use Rattle.pst_token.specs.declared.kind.Kind.{Kind}
 use Rattle.pst_ast.specs.declared.activity.TogetherWord.TheVariants as the_together_word
 use Rattle.pst_ast.specs.Limits.{counted, is_over}
@@ -27,6 +22,7 @@ use Rattle.pst_parse_act.proofs.ActivityLooks.{name_decides, earlier, earlier_fa
 use Rattle.pst_parse_act.proofs.ActivityNested.{statement_nested, statement_nested_fails}
 use Rattle.pst_parse_act.proofs.ActivityViews.{sequence_view, together_view, select_view, match_view}
 use Rattle.pst_parse_act.proofs.activity.+activity.Goals as goal
+use Rattle.pst_parse_part.specs.TimesFamilies.{view_times}
 
 pub sequence_core-returns-in_err-sequence : goal.sequence_core-returns-in_err-sequence
 sequence_core-returns-in_err-sequence t c =
@@ -168,33 +164,27 @@ repeat_core-returns-in_err-repeat t c =
     let p = err_from_is_err_and c.from_residual.result c.from_residual.ensures.1 in
     rw (p.1, p.2) (repeat_core_repeat_fails c.args.tokens.now c.args.at c.args.depth (c.args.depth + 1) (omega arith) c.in_err-repeat.field-0.0 c.requires.inside c.in_err-repeat.ensures.reads)
 
-pub repeat_core-returns-in_err-left_parenthesis : goal.repeat_core-returns-in_err-left_parenthesis
-repeat_core-returns-in_err-left_parenthesis t c =
-    let p = err_from_is_err_and c.from_residual-in_err-left_parenthesis.result c.from_residual-in_err-left_parenthesis.ensures.1 in
-    rw (p.1, p.2) (repeat_core_left_parenthesis_fails c.args.tokens.now c.args.at c.args.depth (c.args.depth + 1) (omega arith) c.in_ok-repeat.repeat c.in_ok-repeat.ensures.reads.0 c.in_ok-repeat.ensures.reads.1 c.in_err-left_parenthesis.field-0.0 (omega (arith, c.in_ok-repeat.ensures.reads.1)) c.in_err-left_parenthesis.ensures.reads)
-
-pub repeat_core-returns-in_err-counter : goal.repeat_core-returns-in_err-counter
-repeat_core-returns-in_err-counter t c =
-    let p = err_from_is_err_and c.from_residual-in_err-counter.result c.from_residual-in_err-counter.ensures.1 in
-    rw (p.1, p.2) (repeat_core_counter_fails c.args.tokens.now c.args.at c.args.depth (c.args.depth + 1) (omega arith) c.in_ok-repeat.repeat c.in_ok-repeat.ensures.reads.0 c.in_ok-repeat.ensures.reads.1 c.in_ok-left_parenthesis.left_parenthesis c.in_ok-left_parenthesis.ensures.reads.0 c.in_ok-left_parenthesis.ensures.reads.1 (omega (arith, c.in_ok-left_parenthesis.ensures.reads.1)) c.in_err-counter.field-0.0 c.in_err-counter.ensures)
-
-pub repeat_core-returns-in_err-right_parenthesis : goal.repeat_core-returns-in_err-right_parenthesis
-repeat_core-returns-in_err-right_parenthesis t c =
-    let p = err_from_is_err_and c.from_residual-in_err-right_parenthesis.result c.from_residual-in_err-right_parenthesis.ensures.1 in
-    rw (p.1, p.2) (repeat_core_right_parenthesis_fails c.args.tokens.now c.args.at c.args.depth (c.args.depth + 1) (omega arith) c.in_ok-repeat.repeat c.in_ok-repeat.ensures.reads.0 c.in_ok-repeat.ensures.reads.1 c.in_ok-left_parenthesis.left_parenthesis c.in_ok-left_parenthesis.ensures.reads.0 c.in_ok-left_parenthesis.ensures.reads.1 (view_counter c.in_ok-counter.counter) c.in_ok-counter.behind c.in_ok-counter.ensures.after c.in_ok-counter.ensures.inside c.in_ok-counter.ensures.settles c.in_err-right_parenthesis.field-0.0 (omega (arith, c.in_ok-counter.ensures.inside)) c.in_err-right_parenthesis.ensures.reads)
+pub repeat_core-returns-in_err-times : goal.repeat_core-returns-in_err-times
+repeat_core-returns-in_err-times t c =
+    let p = err_from_is_err_and c.from_residual-in_err-times.result c.from_residual-in_err-times.ensures.1 in
+    rw (p.1, p.2) (repeat_core_times_fails c.args.tokens.now c.args.at c.args.depth (c.args.depth + 1) (omega arith) c.in_ok-repeat.repeat c.in_ok-repeat.ensures.reads.0 c.in_err-times.field-0.0 c.in_err-times.ensures)
 
 pub repeat_core-returns-in_err-repeated : goal.repeat_core-returns-in_err-repeated
 repeat_core-returns-in_err-repeated t c =
     let p = err_from_is_err_and c.from_residual-in_err-repeated.result c.from_residual-in_err-repeated.ensures.1 in
-    rw (p.1, p.2) (repeat_core_repeated_fails c.args.tokens.now c.args.at c.args.depth (c.args.depth + 1) (omega arith) c.in_ok-repeat.repeat c.in_ok-repeat.ensures.reads.0 c.in_ok-repeat.ensures.reads.1 c.in_ok-left_parenthesis.left_parenthesis c.in_ok-left_parenthesis.ensures.reads.0 c.in_ok-left_parenthesis.ensures.reads.1 (view_counter c.in_ok-counter.counter) c.in_ok-counter.behind c.in_ok-counter.ensures.after c.in_ok-counter.ensures.inside c.in_ok-counter.ensures.settles c.in_ok-right_parenthesis.right_parenthesis c.in_ok-right_parenthesis.ensures.reads.0 c.in_ok-right_parenthesis.ensures.reads.1 (omega (arith, c.in_ok-right_parenthesis.ensures.reads.1)) c.in_err-repeated.field-0.0 c.in_err-repeated.ensures)
+    let g = c.in_ok-times.ensures in
+    rw (p.1, p.2) (repeat_core_repeated_fails c.args.tokens.now c.args.at c.args.depth (c.args.depth + 1) (omega arith) c.in_ok-repeat.repeat c.in_ok-repeat.ensures.reads.0 (view_times c.in_ok-times.times) c.in_ok-times.behind g.after g.inside g.settles c.in_err-repeated.field-0.0 c.in_err-repeated.ensures)
 
 pub repeat_core-returns : goal.repeat_core-returns
-repeat_core-returns t c = record {
-  settles = rw c.in_ok-boxed.ensures.ok (repeat_core_given c.args.tokens.now c.args.at c.args.depth (c.args.depth + 1) (omega arith) c.in_ok-repeat.repeat c.in_ok-repeat.ensures.reads.0 c.in_ok-repeat.ensures.reads.1 c.in_ok-left_parenthesis.left_parenthesis c.in_ok-left_parenthesis.ensures.reads.0 c.in_ok-left_parenthesis.ensures.reads.1 (view_counter c.in_ok-counter.counter) c.in_ok-counter.behind c.in_ok-counter.ensures.after c.in_ok-counter.ensures.inside c.in_ok-counter.ensures.settles c.in_ok-right_parenthesis.right_parenthesis c.in_ok-right_parenthesis.ensures.reads.0 c.in_ok-right_parenthesis.ensures.reads.1 (view_statement c.in_ok-repeated.repeated) c.in_ok-repeated.after c.in_ok-repeated.ensures.after c.in_ok-repeated.ensures.inside c.in_ok-repeated.ensures.settles);
-  after = omega (arith, c.in_ok-counter.ensures.after, c.in_ok-repeated.ensures.after);
-  inside = c.in_ok-repeated.ensures.inside;
-  no_else = rw c.in_ok-boxed.ensures.ok c.in_ok-repeated.ensures.no_else;
-}
+repeat_core-returns t c =
+    let g = c.in_ok-times.ensures in
+    let s = c.in_ok-repeated.ensures in
+    record {
+      settles = rw c.in_ok-statement.ensures.ok (repeat_core_given c.args.tokens.now c.args.at c.args.depth (c.args.depth + 1) (omega arith) c.in_ok-repeat.repeat c.in_ok-repeat.ensures.reads.0 (view_times c.in_ok-times.times) c.in_ok-times.behind g.after g.inside g.settles (view_statement c.in_ok-repeated.repeated) c.in_ok-repeated.after s.after s.settles);
+      after = omega (arith, g.after, s.after);
+      inside = s.inside;
+      no_else = rw c.in_ok-statement.ensures.ok s.no_else;
+    }
 
 pub if_core-returns-in_err-if_ : goal.if_core-returns-in_err-if_
 if_core-returns-in_err-if_ t c =

@@ -9,7 +9,8 @@ use Rattle.pst_reading.proofs.Lists.{list_begins, list_turns, list_fails, list_e
 use Rattle.pst_reading.proofs.Reaching.{reads_open_on}
 use Rattle.pst_parse_expr.specs.Constraints.{is_other}
 use Rattle.pst_parse_expr.specs.ConstraintFamilies.{view_condition}
-use Rattle.pst_parse_body.specs.BodyFamilies.{local_family, named_family, block_family, if_family, loop_family, statement_family, nested_family, view_times}
+use Rattle.pst_parse_body.specs.BodyFamilies.{local_family, named_family, block_family, if_family, loop_family, statement_family, nested_family}
+use Rattle.pst_parse_part.specs.TimesFamilies.{view_times}
 use Rattle.pst_parse_body.proofs.BodyRules.{nested_settles, nested_fault, block_view, if_condition_fails, then_fails, if_given, otherwise_fails, if_else_given, times_fails, repeated_fails, loop_given, block_statements_fail, block_brace_fails, block_given, is_block, is_if, is_loop, is_local, is_named}
 use Rattle.pst_parse_body.proofs.body.+body.Goals as goal
 

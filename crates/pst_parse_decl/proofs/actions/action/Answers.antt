@@ -1,8 +1,9 @@
 use Rattle.pst_ast.specs.DeclarationView.{view_action_part}
 use Rattle.pst_ast.specs.Limits.{counted}
 use Rattle.pst_parse_decl.proofs.actions.action.Goals as goal
-use Rattle.pst_parse_decl.specs.Choices.{optional}
-use Rattle.pst_parse_decl.specs.Families.{mark_family, action_family, action_part_family, base_family}
+use Rattle.pst_parse_part.specs.Choices.{optional}
+use Rattle.pst_parse_decl.specs.Families.{action_family, action_part_family, base_family}
+use Rattle.pst_parse_part.specs.Families.{mark_family}
 use Rattle.pst_parse_decl.specs.Inner.{activity_parser, body_parser}
 use Rattle.pst_parse_expr.specs.Constraints.{is_at, is_other}
 use Rattle.pst_reading.proofs.Reaching.{begin, step, mark_step, name_step, ends, fails, mark_fails, name_fails}

@@ -3,7 +3,7 @@ use Rattle.pst_ast.specs.BodyView.{view_body}
 use Rattle.pst_ast.specs.ConstraintView.{view_constraint_declaration}
 use Rattle.pst_ast.specs.DeclarationTree.{ActionPartActivity, ActionPartBody}
 use Rattle.pst_ast.specs.DeclarationView.{view_field, view_reference, view_claim, view_members}
-use Rattle.pst_parse_decl.proofs.Maybe.{choose_next}
+use Rattle.pst_parse_part.proofs.Maybe.{choose_next}
 use Rattle.pst_parse_decl.proofs.actions.action_part.Goals as goal
 use Rattle.pst_parse_decl.specs.Actions.{begins_reference, begins_claim}
 use Rattle.pst_parse_decl.specs.Families.{members_family, claim_family, constraint_declaration_family, action_part_family, field_family, reference_family}

@@ -1,6 +1,7 @@
 use Rattle.pst_ast.specs.Limits.{counted}
 use Rattle.pst_parse_decl.proofs.actions.base.Goals as goal
-use Rattle.pst_parse_decl.specs.Families.{type_name_family, base_family}
+use Rattle.pst_parse_decl.specs.Families.{base_family}
+use Rattle.pst_parse_part.specs.Families.{type_name_family}
 use Rattle.pst_reading.proofs.Reaching.{begin, step, mark_step, ends, fails}
 use Rattle.pst_token.specs.declared.kind.Kind.TheVariants as kind
 use Rattle.std.proofs.Common.{arith, ◌+◌}

@@ -1,4 +1,4 @@
-use Rattle.pst_parse_decl.proofs.Maybe.{present_given, present_fails}
+use Rattle.pst_parse_part.proofs.Maybe.{present_given, present_fails}
 use Rattle.pst_parse_decl.proofs.actions.maybe_base.Goals as goal
 use Rattle.pst_parse_decl.specs.Families.{base_family}
 use Rattle.pst_parse_expr.specs.Constraints.{is_at}

@@ -1,5 +1,5 @@
 use Rattle.pst_ast.specs.DeclarationView.{view_members, view_action, view_object, view_enum, view_function, view_pool, view_pool_bind}
-use Rattle.pst_parse_decl.proofs.Maybe.{choose_next}
+use Rattle.pst_parse_part.proofs.Maybe.{choose_next}
 use Rattle.pst_parse_decl.proofs.components.component_part.Goals as goal
 use Rattle.pst_parse_decl.specs.Components.{begins_action, begins_object}
 use Rattle.pst_parse_decl.specs.Families.{component_part_family, members_family, enum_family, function_family, pool_bind_family, action_family, pool_family, object_family}

@@ -1,6 +1,7 @@
 use Rattle.pst_ast.specs.SharedView.{view_plain}
 use Rattle.pst_parse_decl.proofs.enums.answer.Goals as goal
-use Rattle.pst_parse_decl.specs.Families.{answer_family, plain_family}
+use Rattle.pst_parse_decl.specs.Families.{answer_family}
+use Rattle.pst_parse_part.specs.Families.{plain_family}
 use Rattle.pst_reading.proofs.Reaching.{begin, step, choose, ends, fails}
 use Rattle.pst_token.specs.declared.kind.Kind.TheVariants as kind
 use Rattle.std.proofs.Common.{arith, rules, false}

@@ -1,7 +1,7 @@
 use Rattle.pst_ast.specs.DeclarationView.{view_enum_value}
 use Rattle.pst_ast.specs.Limits.{counted}
 use Rattle.pst_parse_decl.proofs.enums.enum_item.Goals as goal
-use Rattle.pst_parse_decl.specs.Choices.{optional}
+use Rattle.pst_parse_part.specs.Choices.{optional}
 use Rattle.pst_parse_decl.specs.Families.{enum_item_family, enum_value_family}
 use Rattle.pst_parse_expr.specs.Constraints.{is_at}
 use Rattle.pst_reading.proofs.Reaching.{begin, step, name_step, ends, fails}

@@ -1,8 +1,9 @@
 use Rattle.pst_ast.specs.DeclarationView.{view_answer}
 use Rattle.pst_ast.specs.Limits.{counted}
 use Rattle.pst_parse_decl.proofs.enums.function.Goals as goal
-use Rattle.pst_parse_decl.specs.Choices.{optional}
-use Rattle.pst_parse_decl.specs.Families.{answer_family, function_family, function_rest_family, mark_family, view_function_rest}
+use Rattle.pst_parse_part.specs.Choices.{optional}
+use Rattle.pst_parse_decl.specs.Families.{answer_family, function_family, function_rest_family, view_function_rest}
+use Rattle.pst_parse_part.specs.Families.{mark_family}
 use Rattle.pst_parse_expr.specs.Constraints.{is_at}
 use Rattle.pst_reading.proofs.Reaching.{begin, step, mark_step, name_step, ends, fails, mark_fails, name_fails}
 use Rattle.pst_token.specs.declared.kind.Kind.TheVariants as kind

@@ -1,7 +1,7 @@
 use Rattle.pst_ast.specs.DeclarationView.{view_parameters}
 use Rattle.pst_ast.specs.Limits.{counted}
 use Rattle.pst_parse_decl.proofs.enums.function_rest.Goals as goal
-use Rattle.pst_parse_decl.specs.Choices.{optional}
+use Rattle.pst_parse_part.specs.Choices.{optional}
 use Rattle.pst_parse_decl.specs.Families.{function_rest_family, parameters_family}
 use Rattle.pst_parse_expr.specs.Constraints.{is_other}
 use Rattle.pst_reading.proofs.Reaching.{begin, step, mark_step, ends, fails, mark_fails}

@@ -1,5 +1,5 @@
 use Rattle.pst_ast.specs.DeclarationView.{view_parameters}
-use Rattle.pst_parse_decl.proofs.Maybe.{present_given, present_fails}
+use Rattle.pst_parse_part.proofs.Maybe.{present_given, present_fails}
 use Rattle.pst_parse_decl.proofs.enums.maybe_parameters.Goals as goal
 use Rattle.pst_parse_decl.specs.Families.{parameters_family}
 use Rattle.pst_parse_expr.specs.Constraints.{is_other}

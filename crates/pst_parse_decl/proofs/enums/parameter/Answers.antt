@@ -1,8 +1,9 @@
 use Rattle.pst_ast.specs.Limits.{counted}
 use Rattle.pst_ast.specs.SharedView.{view_plain}
 use Rattle.pst_parse_decl.proofs.enums.parameter.Goals as goal
-use Rattle.pst_parse_decl.specs.Choices.{optional}
-use Rattle.pst_parse_decl.specs.Families.{plain_family, mark_family, parameter_family}
+use Rattle.pst_parse_part.specs.Choices.{optional}
+use Rattle.pst_parse_decl.specs.Families.{parameter_family}
+use Rattle.pst_parse_part.specs.Families.{plain_family, mark_family}
 use Rattle.pst_parse_expr.specs.Constraints.{is_at}
 use Rattle.pst_reading.proofs.Reaching.{begin, step, name_step, ends, fails, name_fails}
 use Rattle.pst_token.specs.declared.kind.Kind.TheVariants as kind

@@ -1,7 +1,8 @@
 use Rattle.pst_ast.specs.Limits.{counted}
 use Rattle.pst_ast.specs.SharedView.{view_names}
 use Rattle.pst_parse_decl.proofs.members.reference.Goals as goal
-use Rattle.pst_parse_decl.specs.Families.{names_family, reference_word_family, reference_family, type_name_family}
+use Rattle.pst_parse_decl.specs.Families.{reference_word_family, reference_family}
+use Rattle.pst_parse_part.specs.Families.{names_family, type_name_family}
 use Rattle.pst_reading.proofs.Reaching.{begin, step, mark_step, ends, fails, mark_fails}
 use Rattle.pst_token.specs.declared.kind.Kind.TheVariants as kind
 use Rattle.std.proofs.Common.{arith, ◌+◌}

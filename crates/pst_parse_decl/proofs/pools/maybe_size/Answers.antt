@@ -1,5 +1,5 @@
 use Rattle.pst_ast.specs.DeclarationView.{view_size}
-use Rattle.pst_parse_decl.proofs.Maybe.{present_given, present_fails}
+use Rattle.pst_parse_part.proofs.Maybe.{present_given, present_fails}
 use Rattle.pst_parse_decl.proofs.pools.maybe_size.Goals as goal
 use Rattle.pst_parse_decl.specs.Families.{size_family}
 use Rattle.pst_parse_expr.specs.Constraints.{is_at}

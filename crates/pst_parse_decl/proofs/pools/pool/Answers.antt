@@ -1,8 +1,9 @@
 use Rattle.pst_ast.specs.DeclarationView.{view_size}
 use Rattle.pst_ast.specs.Limits.{counted}
 use Rattle.pst_parse_decl.proofs.pools.pool.Goals as goal
-use Rattle.pst_parse_decl.specs.Choices.{optional}
-use Rattle.pst_parse_decl.specs.Families.{size_family, pool_family, type_name_family}
+use Rattle.pst_parse_part.specs.Choices.{optional}
+use Rattle.pst_parse_decl.specs.Families.{size_family, pool_family}
+use Rattle.pst_parse_part.specs.Families.{type_name_family}
 use Rattle.pst_parse_expr.specs.Constraints.{is_at}
 use Rattle.pst_reading.proofs.Reaching.{begin, step, mark_step, name_step, ends, fails, mark_fails, name_fails}
 use Rattle.pst_token.specs.declared.kind.Kind.TheVariants as kind

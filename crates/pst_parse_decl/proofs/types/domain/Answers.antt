@@ -1,7 +1,8 @@
 use Rattle.pst_ast.specs.ExpressionView.{view_ranges}
 use Rattle.pst_ast.specs.Limits.{counted}
 use Rattle.pst_parse_decl.proofs.types.domain.Goals as goal
-use Rattle.pst_parse_decl.specs.Families.{domain_family, ranges_family}
+use Rattle.pst_parse_decl.specs.Families.{domain_family}
+use Rattle.pst_parse_part.specs.Families.{ranges_family}
 use Rattle.pst_reading.proofs.Reaching.{begin, step, mark_step, ends, fails, mark_fails}
 use Rattle.pst_token.specs.declared.kind.Kind.TheVariants as kind
 use Rattle.std.proofs.Common.{arith, ◌+◌}

@@ -1,5 +1,5 @@
 use Rattle.pst_ast.specs.SharedView.{view_domain}
-use Rattle.pst_parse_decl.proofs.Maybe.{present_given, present_fails}
+use Rattle.pst_parse_part.proofs.Maybe.{present_given, present_fails}
 use Rattle.pst_parse_decl.proofs.types.maybe_domain.Goals as goal
 use Rattle.pst_parse_decl.specs.Families.{domain_family}
 use Rattle.pst_parse_expr.specs.Constraints.{is_at}

@@ -1,7 +1,8 @@
 use Rattle.pst_ast.specs.SharedView.{view_plain, view_domain}
 use Rattle.pst_parse_decl.proofs.types.plain_type.Goals as goal
-use Rattle.pst_parse_decl.specs.Choices.{optional}
-use Rattle.pst_parse_decl.specs.Families.{domain_family, plain_family, plain_type_family}
+use Rattle.pst_parse_part.specs.Choices.{optional}
+use Rattle.pst_parse_decl.specs.Families.{domain_family, plain_type_family}
+use Rattle.pst_parse_part.specs.Families.{plain_family}
 use Rattle.pst_parse_expr.specs.Constraints.{is_at}
 use Rattle.pst_reading.proofs.Reaching.{begin, step, ends, fails}
 use Rattle.pst_token.specs.declared.kind.Kind.TheVariants as kind

@@ -1,5 +1,5 @@
 use Rattle.pst_ast.specs.SharedView.{view_type}
-use Rattle.pst_parse_decl.proofs.Maybe.{choose_next}
+use Rattle.pst_parse_part.proofs.Maybe.{choose_next}
 use Rattle.pst_parse_decl.proofs.types.type_.Goals as goal
 use Rattle.pst_parse_decl.specs.Families.{plain_type_family, type_family, named_type_family}
 use Rattle.pst_reading.proofs.Reaching.{begin, reads_on}

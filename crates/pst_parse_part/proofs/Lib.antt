@@ -1,0 +1,15 @@
+pub mod ChoicesExplain
+pub mod Following
+pub mod Maybe
+pub mod NamesAgain
+pub mod NamesExplain
+pub mod Nearer
+pub mod NoEnd
+pub mod PlainAgain
+pub mod PlainExplain
+pub mod RangesAgain
+pub mod RangesExplain
+pub mod RangesView
+pub mod TimesAgain
+pub mod TimesExplain
+pub mod TimesRules

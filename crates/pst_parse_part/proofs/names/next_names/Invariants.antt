@@ -1,0 +1,12 @@
+use Rattle.pst_parse_part.proofs.names.next_names.Given as goal
+use Rattle.pst_parse_part.specs.Families.{next_name_family}
+use Rattle.pst_parse_expr.specs.Constraints.{is_at}
+use Rattle.pst_reading.proofs.Lists.{ListLoop}
+use Rattle.pst_token.specs.declared.kind.Kind.TheVariants as kind
+use Rattle.std.proofs.Common.{◌-◌, length}
+
+abbrev pub invariant-others : goal.invariant-others
+invariant-others l = ListLoop (is_at kind.Comma) (next_name_family l.depth) l.tokens (l.fn.at - 1) l.fn.at l.others.items l.place
+
+abbrev pub decreases-others : goal.decreases-others
+decreases-others l = length l.tokens - l.place

@@ -1,0 +1,7 @@
+pub mod Choices
+pub mod Families
+pub mod Names
+pub mod Plain
+pub mod Ranges
+pub mod Times
+pub mod TimesFamilies
