@@ -9,7 +9,7 @@ use Rattle.pst_ast.specs.Marks.{mark}
 use Rattle.pst_ast.specs.Rule.{TheUnit}
 use Rattle.pst_base.specs.declared.position.Place.{Place}
 use Rattle.pst_parse_decl.proofs.Counting.{over_both, over_list, same_item}
-use Rattle.pst_parse_decl.proofs.Following.{ends_there}
+use Rattle.pst_parse_part.proofs.Following.{ends_there}
 use Rattle.pst_parse_decl.proofs.Items.{whole_item_explains, whole_item_rereads, whole_item_free, some_item_token}
 use Rattle.pst_parse_decl.proofs.Taken.{taken_item}
 use Rattle.pst_parse_decl.specs.Components.{item_by}
