@@ -106,10 +106,10 @@ parameter_found (MakeParameter None plain name) us = ap (λ (b : Bool). if b the
 parameters_found : (x : ParametersTree) (us : List Token) → is_other kind.RightParenthesis (next (spell_parameters x ++ us)) ≡ true
 parameters_found (MakeParameters first rest) us = next_part_in (λ n. is_other kind.RightParenthesis n ≡ true) (spell_parameter first) (flat_map spell_next_parameter rest) us (parameter_found first _)
 
-spell_rest : Place → Option ParametersTree → Place → Place → List Token
+abbrev spell_rest : Place → Option ParametersTree → Place → Place → List Token
 spell_rest left_parenthesis parameters right_parenthesis semicolon = mark kind.LeftParenthesis left_parenthesis ∷ (spell_option spell_parameters parameters ++ mark kind.RightParenthesis right_parenthesis ∷ mark kind.Semicolon semicolon ∷ [])
 
-counts_rest : ℕ → Option ParametersTree → List Count
+abbrev counts_rest : ℕ → Option ParametersTree → List Count
 counts_rest depth parameters = counted depth 0 ∷ (counts_option (counts_parameters depth) parameters ++ counted depth 0 ∷ counted depth 0 ∷ [])
 
 function_rest_rereads : (size depth : ℕ) (left_parenthesis : Place) (parameters : Option ParametersTree) (right_parenthesis semicolon : Place) → OptionIs IsProperParameters parameters

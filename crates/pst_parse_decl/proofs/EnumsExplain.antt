@@ -82,13 +82,13 @@ parameters_explains size depth =
     explains_part _ (flat_map spell_next_parameter) (AllByRecursion IsProperNextParameter) (flat_map (counts_next_parameter depth)) (list_by (is_at kind.Comma) (next_parameter_by size depth) size) _ (list_explains spell_next_parameter IsProperNextParameter (counts_next_parameter depth) (is_at kind.Comma) (next_parameter_by size depth) (next_parameter_explains size depth) size) (λ rest h1.
     explains_done _ (MakeParameters first rest) (record { is = rw append-nil refl; proper = (h0, h1); counted = rw append-nil refl })))
 
-spell_function_rest : FunctionRestTree → List Token
+abbrev spell_function_rest : FunctionRestTree → List Token
 spell_function_rest r = mark kind.LeftParenthesis r.left_parenthesis ∷ (spell_option spell_parameters r.parameters ++ mark kind.RightParenthesis r.right_parenthesis ∷ mark kind.Semicolon r.semicolon ∷ [])
 
-IsProperFunctionRest : FunctionRestTree → Type 0
+abbrev IsProperFunctionRest : FunctionRestTree → Type 0
 IsProperFunctionRest r = OptionIs IsProperParameters r.parameters
 
-counts_function_rest : ℕ → FunctionRestTree → List Count
+abbrev counts_function_rest : ℕ → FunctionRestTree → List Count
 counts_function_rest depth r = counted depth 0 ∷ (counts_option (counts_parameters depth) r.parameters ++ counted depth 0 ∷ counted depth 0 ∷ [])
 
 function_rest_explains : (size depth : ℕ) → Explains (Means spell_function_rest IsProperFunctionRest (counts_function_rest depth)) (function_rest_by size depth)
