@@ -1,4 +1,1 @@
-pub mod ExpressionRows
-pub mod ConstraintRows
 pub mod ActivityRows
-pub mod BodyRows

@@ -6,15 +6,17 @@ ghost use Rattle.pst_ast.specs.Marks.{spell_option};
 ghost use Rattle.pst_ast.specs.ActivityView.{view_activity, view_arm, view_arm_label, view_bind, view_branch, view_core, view_guard, view_join, view_other_ends, view_statement, view_weight, view_with};
 ghost use Rattle.pst_ast.specs.ActivitySpelling.{spell_activity, spell_arm, spell_arm_label, spell_bind, spell_branch, spell_core, spell_end, spell_guard, spell_join, spell_next_end, spell_other_ends, spell_statement, spell_weight, spell_with};
 
-use crate::marks::{kind_of_together_word, push_mark, push_name, push_optional_mark};
-use crate::spell_constraint::add_constraint;
-use crate::spell_expression::{add_expr, add_ranges};
-use crate::spell_shared::{add_label, add_names, add_repeat, add_type_name, add_word_and_expr};
 use pst_ast::{
     ActivityNode, ArmLabel, ArmNode, BindNode, BranchNode, CoreNode, EndNode, GuardNode, JoinNode,
     NextEnd, OtherEnds, StatementNode, WeightNode, WithNode,
 };
 use pst_base::NoMemory;
+use pst_spell_parts::marks::{kind_of_together_word, push_mark, push_name, push_optional_mark};
+use pst_spell_parts::spell_constraint::add_constraint;
+use pst_spell_parts::spell_expression::{add_expr, add_ranges};
+use pst_spell_parts::spell_shared::{
+    add_label, add_names, add_repeat, add_type_name, add_word_and_expr,
+};
 use pst_token::{Kind, Token};
 
 // activity = "activity" "{" { stmt } "}"

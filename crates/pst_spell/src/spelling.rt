@@ -3,10 +3,10 @@ ghost use Rattle.std.specs.Prelude.{◌≡◌, IfOk};
 ghost use Rattle.pst_ast.specs.DeclarationView.{view_unit};
 ghost use Rattle.pst_ast.specs.DeclarationSpelling.{spell_unit};
 
-use crate::marks::push_mark;
 use crate::spell_declaration::add_items;
 use pst_ast::Unit;
 use pst_base::NoMemory;
+use pst_spell_parts::marks::push_mark;
 use pst_token::{Kind, Token};
 use std::alloc::Global;
 

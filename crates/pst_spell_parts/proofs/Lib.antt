@@ -1,0 +1,3 @@
+pub mod ExpressionRows
+pub mod ConstraintRows
+pub mod BodyRows
