@@ -7,6 +7,7 @@ use pst_base::NoMemory;
 use pst_book::{Book, Opened};
 use pst_scen::{Event, Flow, Scenario};
 use std::alloc::Global;
+use std::process::Abort;
 use std::test::Fail;
 
 /// Ends the least running action.
@@ -220,6 +221,29 @@ fn long_scenarios_run(rt: HostRuntime) -> Result<(), Fail> {
 
 fn is_send<T: Send>(_value: &T) {}
 
+// The first action of a sequence of two, on one lane: what starts, what runs, and what does nothing.
+fn start_and_end_the_first(rt: &impl Abort, book: &mut Book<'_>) {
+    assert_eq!(rt; book.lanes(), 1);
+    assert!(rt; !book.end(0));
+    assert_eq!(rt; book.open(), Some(Opened { first: 0, count: 1 }));
+    assert_eq!(rt; book.running_on(0), Some(0));
+    assert_eq!(rt; book.running_on(1), None);
+    assert_eq!(rt; book.open(), None);
+    assert!(rt; !book.end(1));
+    assert!(rt; book.end(0));
+    assert!(rt; !book.finished());
+}
+
+// The second action, and that nothing is left behind it.
+fn start_and_end_the_second(rt: &impl Abort, book: &mut Book<'_>) {
+    assert_eq!(rt; book.open(), Some(Opened { first: 2, count: 1 }));
+    assert!(rt; book.end(1));
+    assert!(rt; book.finished());
+    assert_eq!(rt; book.open(), None);
+    assert_eq!(rt; book.trace().len(), 4);
+    assert!(rt; is_that(Is::Start(1, 0), book.trace()[2]));
+}
+
 // Two actions in sequence on one lane: what each call answers.
 #[test]
 fn answers_of_a_book(rt: HostRuntime) -> Result<(), Fail> {
@@ -230,20 +254,7 @@ fn answers_of_a_book(rt: HostRuntime) -> Result<(), Fail> {
         return Err(Fail::from("no memory"));
     };
     is_send(&book);
-    assert_eq!(rt; book.lanes(), 1);
-    assert!(rt; !book.end(0));
-    assert_eq!(rt; book.open(), Some(Opened { first: 0, count: 1 }));
-    assert_eq!(rt; book.running_on(0), Some(0));
-    assert_eq!(rt; book.running_on(1), None);
-    assert_eq!(rt; book.open(), None);
-    assert!(rt; !book.end(1));
-    assert!(rt; book.end(0));
-    assert!(rt; !book.finished());
-    assert_eq!(rt; book.open(), Some(Opened { first: 2, count: 1 }));
-    assert!(rt; book.end(1));
-    assert!(rt; book.finished());
-    assert_eq!(rt; book.open(), None);
-    assert_eq!(rt; book.trace().len(), 4);
-    assert!(rt; is_that(Is::Start(1, 0), book.trace()[2]));
+    start_and_end_the_first(&rt, &mut book);
+    start_and_end_the_second(&rt, &mut book);
     Ok(())
 }
