@@ -1,9 +1,9 @@
 //! Each text is read as a tree, and the tree spells the tokens of the text.
 use crate::texts::tokens_of;
 use pst_ast::SyntaxFault;
-use pst_spell::spell;
 use pst_base::{NameId, Place};
 use pst_parser::parse_unit;
+use pst_spell::spell;
 use pst_token::{Kind, Token};
 use std::alloc::Global;
 use std::test::Fail;
