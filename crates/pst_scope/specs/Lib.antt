@@ -1,0 +1,10 @@
+pub mod Sorts
+pub mod Declarations
+pub mod Lookups
+pub mod Paths
+pub mod Uses
+pub mod Breaches
+pub mod NameRules
+pub mod Scopes
+pub mod Laws
+pub mod Tried

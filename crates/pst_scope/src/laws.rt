@@ -1,0 +1,22 @@
+//! Laws of the definitions: each function here does nothing, and its contract is a law.
+ghost use Rattle.pst_scope.specs.Laws.{NameBreachesHaveOneLeast, ScopesAreOne};
+ghost use Rattle.pst_scope.specs.Tried.{NamesAreTried};
+
+/// Of the breaches of the rules of names at most one is the least.
+pub fn name_breaches_have_one_least()
+    ensures { NameBreachesHaveOneLeast }
+{
+    pst_base::places_are_ordered();
+}
+
+/// Sources have at most one list of types and one list of meanings.
+pub fn scopes_are_one()
+    ensures { ScopesAreOne }
+{
+    pst_base::places_are_ordered();
+}
+
+/// What names stand for, and which rules they break, in a small source.
+pub fn names_are_tried()
+    ensures { NamesAreTried }
+{}

@@ -1,0 +1,11 @@
+//! What the sources declare, what a name stands for where it is used, and which rules of names are
+//! broken: definitions on syntax trees.
+#![tactic(auto)]
+
+mod declaration;
+mod entry;
+mod laws;
+
+pub use declaration::{Declaration, Scope, Sort};
+pub use entry::{NameMeaning, Scopes, TypeEntry, TypeSort};
+pub use laws::{name_breaches_have_one_least, names_are_tried, scopes_are_one};
