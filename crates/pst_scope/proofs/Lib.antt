@@ -1,3 +1,4 @@
 pub mod Least
 pub mod Ordered
 mod SmallTried
+mod MembersTried

@@ -8,3 +8,4 @@ pub mod NameRules
 pub mod Scopes
 pub mod Laws
 pub mod Tried
+pub mod TriedMembers

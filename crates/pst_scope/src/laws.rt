@@ -1,6 +1,7 @@
 //! Laws of the definitions: each function here does nothing, and its contract is a law.
 ghost use Rattle.pst_scope.specs.Laws.{NameBreachesHaveOneLeast, ScopesAreOne};
 ghost use Rattle.pst_scope.specs.Tried.{NamesAreTried};
+ghost use Rattle.pst_scope.specs.TriedMembers.{MembersAreTried};
 
 /// Of the breaches of the rules of names at most one is the least.
 pub fn name_breaches_have_one_least()
@@ -19,4 +20,9 @@ pub fn scopes_are_one()
 /// What names stand for, and which rules they break, in a small source.
 pub fn names_are_tried()
     ensures { NamesAreTried }
+{}
+
+/// The same with handles, locals, instances, pool binds and loops.
+pub fn members_are_tried()
+    ensures { MembersAreTried }
 {}

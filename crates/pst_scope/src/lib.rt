@@ -8,4 +8,4 @@ mod laws;
 
 pub use declaration::{Declaration, Scope, Sort};
 pub use entry::{NameMeaning, Scopes, TypeEntry, TypeSort};
-pub use laws::{name_breaches_have_one_least, names_are_tried, scopes_are_one};
+pub use laws::{members_are_tried, name_breaches_have_one_least, names_are_tried, scopes_are_one};
