@@ -15,7 +15,7 @@ use Rattle.pst_scope.specs.Scopes.{numbers_of}
 use Rattle.pst_scope.specs.Tried.{at, name, type}
 use Rattle.pst_scope.specs.Lookups.{look_up, declared_at, base_of, member_of, item_at, value_named, type_of, traversed, stands_for}
 use Rattle.pst_scope.specs.NameRules.{LeadsTo, ToBase, Reaches, AtOnce, Through, Twice, Loops, Inherits, Reserved}
-use Rattle.pst_scope.specs.TriedMembers.{names, ds, env, behind_local, inline, part, path, other, other_action, root, resource, its_field, buffer, buffer_field, reserved, pool, one, two, action, field, input, claim, compound, handle, itself, counter, looped, looping, function}
+use Rattle.pst_scope.specs.TriedMembers.{names, ds, env, behind_local, inline, inline_index, part, path, other, other_action, root, resource, its_field, buffer, buffer_field, reserved, pool, one, two, action, field, input, claim, compound, handle, itself, counter, looped, looping, function}
 
 pub field_of_handle : path env (part 15 50) (part 11 51 ∷ []) ≡ Is (record { before = Declared handle ∷ []; last = Declared field })
 unfolding look_up declared_at base_of member_of item_at value_named type_of traversed stands_for read_path
@@ -52,6 +52,10 @@ no_instance_id_of_input = refl
 pub traversed_field : path inline (part 11 50) [] ≡ Is (record { before = []; last = Declared field })
 unfolding look_up declared_at base_of member_of item_at value_named type_of traversed stands_for read_path
 traversed_field = refl
+
+pub index_hides_no_handle : path inline_index (part 11 61) [] ≡ Is (record { before = []; last = Declared field })
+unfolding look_up declared_at base_of member_of item_at value_named type_of traversed stands_for read_path
+index_hides_no_handle = refl
 
 pub still_a_handle : path inline (part 15 50) (part 11 51 ∷ []) ≡ Is (record { before = Declared handle ∷ []; last = Declared field })
 unfolding look_up declared_at base_of member_of item_at value_named type_of traversed stands_for read_path

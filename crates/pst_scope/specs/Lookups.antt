@@ -102,10 +102,11 @@ pub data Owner : Type 0 where
   OfAction : (action : Declaration) → Owner
   OfObject : (object : Declaration) → Owner
 
--- the traversal that an inline constraint belongs to
+-- The traversal that an inline constraint belongs to: of a type, or of a handle, with the index of its name in whose
+-- scope the traversal stands. An index of a `foreach` in the constraint hides no handle from its traversal.
 pub data Traversal : Type 0 where
   ByType : (name : TypeName) → Traversal
-  ByHandle : (name : Name) → Traversal
+  ByHandle : (hidden_by : Option Name) (name : Name) → Traversal
 
 -- The component, the action or object, the indices and locals whose scopes a use is in, the innermost first, and the
 -- traversal of the inline constraint that it stands in.
@@ -146,13 +147,18 @@ owned ds names Nobody name = None
 owned ds names (OfAction action) name = referent (member_of ds action name)
 owned ds names (OfObject object) name = option_or (referent (field_of ds object name)) (word_in names object name)
 
-abbrev pub inner_named : List Declaration → List Name → NameId → Option Declaration
-inner_named ds inner name = option_and_then (λ n. declared_at ds n.place) (find (λ n. same_name n.id name) inner)
+-- the innermost of the indices and locals of that name
+abbrev pub inner_named : List Name → NameId → Option Name
+inner_named inner name = find (λ n. same_name n.id name) inner
+
+-- a name behind the indices and locals, of which one may have that name
+abbrev pub value_behind : List Declaration → List (List ℕ) → Environment → Option Name → NameId → Option Referent
+value_behind ds names at inner name =
+    option_or (referent (option_and_then (λ n. declared_at ds n.place) inner)) (option_or (owned ds names at.owner name) (referent (item_here ds at.component name)))
 
 -- a name in an expression that is no inline constraint
 unfoldable pub value_named : List Declaration → List (List ℕ) → Environment → NameId → Option Referent
-value_named ds names at name =
-    option_or (referent (inner_named ds at.inner name)) (option_or (owned ds names at.owner name) (referent (item_here ds at.component name)))
+value_named ds names at name = value_behind ds names at (inner_named at.inner name) name
 
 -- ---- types of members
 
@@ -187,7 +193,7 @@ handled ds _ = None
 -- the type of the action that a traversal is of
 unfoldable pub traversed : List Declaration → List (List ℕ) → Environment → Traversal → Option Declaration
 traversed ds names at (ByType name) = option_and_then (if_sort is_action) (type_named ds at.component name)
-traversed ds names at (ByHandle name) = handled ds (value_named ds names at name.id)
+traversed ds names at (ByHandle hidden_by name) = handled ds (value_behind ds names at hidden_by name.id)
 
 -- the member of the traversed action, in an inline constraint
 abbrev pub traversed_member : List Declaration → List (List ℕ) → Environment → NameId → Option Declaration

@@ -108,7 +108,11 @@ behind_local = record env { inner = name 17 34 ∷ [] }
 
 -- in an inline constraint of h
 abbrev pub inline : Environment
-inline = record env { traversal = Some (ByHandle (name 15 49)) }
+inline = record env { traversal = Some (ByHandle None (name 15 49)) }
+
+-- behind a declaration of the handle's name inside it, as that of the index of a `foreach`
+abbrev pub inline_index : Environment
+inline_index = record inline { inner = name 15 34 ∷ [] }
 
 abbrev pub part : ℕ → ℕ → PathPart
 part id column = record { name = name id column; index = false }
@@ -129,6 +133,7 @@ pub record MembersAreTried : Type 0 where
   -- an inline constraint: the traversed action first, then the containing one
   pub traversed_field : path inline (part 11 50) [] ≡ Is (record { before = []; last = Declared field })
   pub still_a_handle : path inline (part 15 50) (part 11 51 ∷ []) ≡ Is (record { before = Declared handle ∷ []; last = Declared field })
+  pub index_hides_no_handle : path inline_index (part 11 61) [] ≡ Is (record { before = []; last = Declared field })
   -- a local behind its declaration, and before it
   pub its_local : path behind_local (part 17 50) [] ≡ Is (record { before = []; last = Declared counter })
   pub no_local_yet : path env (part 17 50) [] ≡ Breaks (at 50) 3

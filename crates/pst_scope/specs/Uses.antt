@@ -17,7 +17,7 @@ use Rattle.pst_ast.specs.DeclarationTree.{UnitTree, MakeUnit, ItemTree, ItemComp
 use Rattle.pst_scope.specs.declared.declaration.Declaration.{Declaration}
 use Rattle.pst_scope.specs.declared.declaration.Sort.TheVariants as sort
 use Rattle.pst_scope.specs.Declarations.{type_declared, action_declared, has_index, next_field_part, next_item, parameters_of, names_of, base_name}
-use Rattle.pst_scope.specs.Lookups.{Environment, Owner, Nobody, OfAction, OfObject, Traversal, ByType, ByHandle}
+use Rattle.pst_scope.specs.Lookups.{Environment, Owner, Nobody, OfAction, OfObject, Traversal, ByType, ByHandle, inner_named}
 use Rattle.pst_scope.specs.Paths.{PathPart}
 
 -- the sorts of types that a type name may ask for
@@ -234,6 +234,10 @@ abbrev mutual
 
 -- ---- activities
 
+-- a traversal of a handle, where it stands
+abbrev pub by_handle : Environment → Name → Traversal
+by_handle at name = ByHandle (inner_named at.inner name.id) name
+
 abbrev pub with_uses : Environment → Traversal → WithTree → List Use
 with_uses at traversal (WithNothing place) = []
 with_uses at traversal (WithSet with_place set) = set_uses (record at { traversal = Some traversal }) set
@@ -300,7 +304,7 @@ core_place (CoreBind (MakeBind word first others semicolon)) = word
 -- a traversal is a statement of its own
 abbrev pub performed : Environment → Place → CoreTree → List Use
 performed at place (CoreDo do_place name with_part) = Performs at place (ByType name) ∷ []
-performed at place (CoreHandle name with_part) = Performs at place (ByHandle name) ∷ []
+performed at place (CoreHandle name with_part) = Performs at place (by_handle at name) ∷ []
 performed at place _ = []
 
 abbrev pub arm_label : ArmTree → ArmLabelTree
@@ -331,7 +335,7 @@ abbrev mutual
 
   pub core_uses : Environment → CoreTree → List Use
   core_uses at (CoreDo do_place name with_part) = NamesType at.component AnAction name ∷ with_uses at (ByType name) with_part
-  core_uses at (CoreHandle name with_part) = Traverses at name ∷ with_uses at (ByHandle name) with_part
+  core_uses at (CoreHandle name with_part) = Traverses at name ∷ with_uses at (by_handle at name) with_part
   core_uses at (CoreSequence word left statements right) = statement_row_uses at statements
   core_uses at (CoreTogether word place join left statements right) = option_uses (λ j. Branches (branch_places statements) ∷ join_uses at (labels_in statements) (branches_in statements) j) join ++ statement_row_uses at statements
   core_uses at (CoreSelect word left first rest right) = branch_uses at first ++ branch_row_uses at rest
