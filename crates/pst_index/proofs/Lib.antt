@@ -1,0 +1,2 @@
+mod KeyTests
+mod Beside

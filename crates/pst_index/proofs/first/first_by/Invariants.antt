@@ -1,0 +1,10 @@
+use Rattle.std.proofs.Common.{◌≡◌, drop}
+use Rattle.std.specs.List.{find}
+use Rattle.std.specs.Option.{option_or}
+use Rattle.std.specs.HashMap.{get}
+use Rattle.pst_index.specs.declared.key.Key.{Key}
+use Rattle.pst_index.specs.Found.{has_key, same_key}
+use Rattle.pst_index.proofs.first.first_by.Given as goal
+
+abbrev pub invariant-loop-declaration : goal.invariant-loop-declaration
+invariant-loop-declaration l = (q : Key) → option_or (get same_key l.found q) (find (has_key l.by q) (drop l.declaration-index l.declarations)) ≡ find (has_key l.by q) l.declarations
