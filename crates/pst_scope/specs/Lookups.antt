@@ -12,6 +12,12 @@ use Rattle.pst_scope.specs.declared.declaration.Scope.{Scope}
 use Rattle.pst_scope.specs.declared.declaration.Scope.TheVariants.{Files, Part}
 use Rattle.pst_scope.specs.declared.declaration.Sort.{Sort}
 use Rattle.pst_scope.specs.declared.declaration.Sort.TheVariants as sort
+pub use Rattle.pst_scope.specs.declared.referent.Owner.{Owner}
+pub use Rattle.pst_scope.specs.declared.referent.Owner.TheVariants.{Nobody, OfAction, OfObject}
+pub use Rattle.pst_scope.specs.declared.referent.Traversal.{Traversal}
+pub use Rattle.pst_scope.specs.declared.referent.Traversal.TheVariants.{ByType, ByHandle}
+pub use Rattle.pst_scope.specs.declared.referent.Referent.{Referent}
+pub use Rattle.pst_scope.specs.declared.referent.Referent.TheVariants.{Declared, Initial, Previous, Number}
 use Rattle.pst_scope.specs.Sorts.{is_component, is_action, is_object, is_handle, is_field, is_state, is_resource, same_name, same_place, same_scope}
 
 -- ---- declarations of a scope
@@ -96,18 +102,6 @@ item_here ds (Some component) name = option_or (item_at ds (Part component) name
 
 -- ---- where a name is used
 
--- the action or object in whose text it is
-pub data Owner : Type 0 where
-  Nobody : Owner
-  OfAction : (action : Declaration) → Owner
-  OfObject : (object : Declaration) → Owner
-
--- The traversal that an inline constraint belongs to: of a type, or of a handle, with the index of its name in whose
--- scope the traversal stands. An index of a `foreach` in the constraint hides no handle from its traversal.
-pub data Traversal : Type 0 where
-  ByType : (name : TypeName) → Traversal
-  ByHandle : (hidden_by : Option Name) (name : Name) → Traversal
-
 -- The component, the action or object, the indices and locals whose scopes a use is in, the innermost first, and the
 -- traversal of the inline constraint that it stands in.
 pub record Environment : Type 0 where
@@ -115,14 +109,6 @@ pub record Environment : Type 0 where
   pub owner : Owner
   pub inner : List Name
   pub traversal : Option Traversal
-
--- what a name stands for
-pub data Referent : Type 0 where
-  Declared : (d : Declaration) → Referent
-  -- whether an object of a state type is its pool's first, what it replaces, and the number of a resource in its pool
-  Initial : (object : Declaration) → Referent
-  Previous : (object : Declaration) → Referent
-  Number : (object : Declaration) → Referent
 
 abbrev pub referent : Option Declaration → Option Referent
 referent d = option_map Declared d

@@ -11,15 +11,11 @@ use Rattle.pst_scope.specs.declared.declaration.Declaration.{Declaration}
 use Rattle.pst_scope.specs.declared.declaration.Scope.TheVariants.{Files, Part}
 use Rattle.pst_scope.specs.declared.declaration.Sort.{Sort}
 use Rattle.pst_scope.specs.Declarations.{declarations}
+pub use Rattle.pst_scope.specs.declared.referent.Finding.{Finding}
 use Rattle.pst_scope.specs.Sorts.{same_name, same_place, same_scope, is_component, is_action, is_object, is_enum, is_function, is_instance, is_pool, is_item, is_reference, is_need}
 use Rattle.pst_scope.specs.Lookups.{Environment, Referent, look_up, declared_at, if_sort, type_here, type_by, component_named, second_of, base_of, member_of, type_of, handled, stands_for, is_text}
 use Rattle.pst_scope.specs.Paths.{Checked, Is, Breaks, and_then, is_value, is_array, is_handle_referent, is_ambiguous, read_path}
 use Rattle.pst_scope.specs.Uses.{Use, Reads, Repeats, TakesItem, NamesType, NamesBase, Calls, Assigns, Traverses, Ends, Joins, Binds, Targets, Wanted, AComponent, AnAction, AnObject, AnEnum, uses}
-
--- a place and the number of a rule
-pub record Finding : Type 0 where
-  pub place : Place
-  pub rule : ℕ
 
 abbrev pub finding : Place → ℕ → Option Finding
 finding place rule = Some (record { place = place; rule = rule })

@@ -9,6 +9,7 @@ use Rattle.pst_scope.specs.declared.declaration.Declaration.{Declaration}
 use Rattle.pst_scope.specs.declared.declaration.Scope.{Scope}
 use Rattle.pst_scope.specs.declared.declaration.Sort.{Sort}
 use Rattle.pst_scope.specs.declared.declaration.Sort.TheVariants as sort
+pub use Rattle.pst_scope.specs.declared.referent.PathPart.{PathPart}
 use Rattle.pst_scope.specs.Sorts.{is_handle, is_need, is_state, same_name, same_scope}
 use Rattle.pst_scope.specs.Lookups.{Environment, Referent, Declared, Initial, Previous, Number, referent, is_text, is_item_at, field_of, member_of, type_of, stands_for}
 
@@ -20,11 +21,6 @@ pub data Checked (X : Type 0) : Type 0 where
 abbrev pub and_then : {X Y : Type 0} → Checked X → (X → Checked Y) → Checked Y
 and_then (Is x) f = f x
 and_then (Breaks place rule) f = Breaks place rule
-
--- a name of a path, and whether an index stands behind it
-pub record PathPart : Type 0 where
-  pub name : Name
-  pub index : Bool
 
 -- what a path stands for: what each name of it stands for, the last one apart
 pub record PathReferent : Type 0 where
