@@ -1,5 +1,7 @@
 pub mod Sorts
 pub mod Declarations
+pub mod Inner
+pub mod InnerKept
 pub mod Lookups
 pub mod Paths
 pub mod Uses

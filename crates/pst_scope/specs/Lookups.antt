@@ -12,12 +12,14 @@ use Rattle.pst_scope.specs.declared.declaration.Scope.{Scope}
 use Rattle.pst_scope.specs.declared.declaration.Scope.TheVariants.{Files, Part}
 use Rattle.pst_scope.specs.declared.declaration.Sort.{Sort}
 use Rattle.pst_scope.specs.declared.declaration.Sort.TheVariants as sort
+pub use Rattle.pst_scope.specs.declared.environment.Environment.{Environment}
 pub use Rattle.pst_scope.specs.declared.referent.Owner.{Owner}
 pub use Rattle.pst_scope.specs.declared.referent.Owner.TheVariants.{Nobody, OfAction, OfObject}
 pub use Rattle.pst_scope.specs.declared.referent.Traversal.{Traversal}
 pub use Rattle.pst_scope.specs.declared.referent.Traversal.TheVariants.{ByType, ByHandle}
 pub use Rattle.pst_scope.specs.declared.referent.Referent.{Referent}
 pub use Rattle.pst_scope.specs.declared.referent.Referent.TheVariants.{Declared, Initial, Previous, Number}
+pub use Rattle.pst_scope.specs.Inner.{inner_named}
 use Rattle.pst_scope.specs.Sorts.{is_component, is_action, is_object, is_handle, is_field, is_state, is_resource, same_name, same_place, same_scope}
 
 -- ---- declarations of a scope
@@ -102,14 +104,6 @@ item_here ds (Some component) name = option_or (item_at ds (Part component) name
 
 -- ---- where a name is used
 
--- The component, the action or object, the indices and locals whose scopes a use is in, the innermost first, and the
--- traversal of the inline constraint that it stands in.
-pub record Environment : Type 0 where
-  pub component : Option Place
-  pub owner : Owner
-  pub inner : List Name
-  pub traversal : Option Traversal
-
 abbrev pub referent : Option Declaration → Option Referent
 referent d = option_map Declared d
 
@@ -132,10 +126,6 @@ abbrev pub owned : List Declaration → List (List ℕ) → Owner → NameId →
 owned ds names Nobody name = None
 owned ds names (OfAction action) name = referent (member_of ds action name)
 owned ds names (OfObject object) name = option_or (referent (field_of ds object name)) (word_in names object name)
-
--- the innermost of the indices and locals of that name
-abbrev pub inner_named : List Name → NameId → Option Name
-inner_named inner name = find (λ n. same_name n.id name) inner
 
 -- a name behind the indices and locals, of which one may have that name
 abbrev pub value_behind : List Declaration → List (List ℕ) → Environment → Option Name → NameId → Option Referent

@@ -4,10 +4,14 @@
 
 mod declaration;
 mod entry;
+mod environment;
+mod inner;
 mod laws;
 mod referent;
 
 pub use declaration::{Declaration, Scope, Sort};
 pub use entry::{NameMeaning, Scopes, TypeEntry, TypeSort};
+pub use environment::Environment;
+pub use inner::Inner;
 pub use laws::{members_are_tried, name_breaches_have_one_least, names_are_tried, scopes_are_one};
 pub use referent::{Finding, Owner, PathPart, Referent, Traversal};
