@@ -5,6 +5,7 @@ mod bases;
 mod first;
 mod index;
 mod key;
+mod members;
 mod types;
 
 pub use index::Index;
