@@ -10,22 +10,15 @@ use Rattle.pst_scope.specs.declared.declaration.Scope.{Scope}
 use Rattle.pst_scope.specs.declared.declaration.Sort.{Sort}
 use Rattle.pst_scope.specs.declared.declaration.Sort.TheVariants as sort
 pub use Rattle.pst_scope.specs.declared.referent.PathPart.{PathPart}
+pub use Rattle.pst_scope.specs.declared.referent.PathReferent.{PathReferent}
+pub use Rattle.pst_scope.specs.declared.referent.Checked.{Checked}
+pub use Rattle.pst_scope.specs.declared.referent.Checked.TheVariants.{Is, Breaks}
 use Rattle.pst_scope.specs.Sorts.{is_handle, is_need, is_state, same_name, same_scope}
 use Rattle.pst_scope.specs.Lookups.{Environment, Referent, Declared, Initial, Previous, Number, referent, is_text, is_item_at, field_of, member_of, type_of, stands_for}
-
--- it is x, or a name is wrong: its place and the rule that it breaks
-pub data Checked (X : Type 0) : Type 0 where
-  Is : (x : X) → Checked X
-  Breaks : (place : Place) (rule : ℕ) → Checked X
 
 abbrev pub and_then : {X Y : Type 0} → Checked X → (X → Checked Y) → Checked Y
 and_then (Is x) f = f x
 and_then (Breaks place rule) f = Breaks place rule
-
--- what a path stands for: what each name of it stands for, the last one apart
-pub record PathReferent : Type 0 where
-  pub before : List Referent
-  pub last : Referent
 
 -- ---- what may stand where
 

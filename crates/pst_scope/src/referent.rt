@@ -1,7 +1,7 @@
 //! Where a name is used, and what it stands for.
 use crate::Declaration;
 use pst_ast::{Name, TypeName};
-use pst_base::Place;
+use pst_base::{Items, Place};
 
 /// The action or object in whose text a name is used.
 #[derive(Clone, Copy, PartialEq, Eq)]
@@ -48,6 +48,29 @@ pub struct PathPart {
     pub name: Name,
     /// Whether an index stands behind it.
     pub index: bool,
+}
+
+/// What a path stands for.
+#[derive(Drop)]
+pub struct PathReferent {
+    /// What each of its names but the last stands for.
+    pub before: Items<Referent>,
+    /// What the last one stands for.
+    pub last: Referent,
+}
+
+/// What was asked for, or the place of a name that is wrong and the rule that it breaks.
+#[derive(Drop)]
+pub enum Checked<X> {
+    /// What was asked for.
+    Is(X),
+    /// A name is wrong.
+    Breaks {
+        /// Its place.
+        place: Place,
+        /// The rule that it breaks.
+        rule: u8,
+    },
 }
 
 /// A place at which a rule is broken.
