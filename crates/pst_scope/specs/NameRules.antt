@@ -12,6 +12,7 @@ use Rattle.pst_scope.specs.declared.declaration.Scope.TheVariants.{Files, Part}
 use Rattle.pst_scope.specs.declared.declaration.Sort.{Sort}
 use Rattle.pst_scope.specs.Declarations.{declarations}
 pub use Rattle.pst_scope.specs.declared.referent.Finding.{Finding}
+pub use Rattle.pst_scope.specs.declared.referent.Target.{Target}
 use Rattle.pst_scope.specs.Sorts.{same_name, same_place, same_scope, is_component, is_action, is_object, is_enum, is_function, is_instance, is_pool, is_item, is_reference, is_need}
 use Rattle.pst_scope.specs.Lookups.{Environment, Referent, look_up, declared_at, if_sort, type_here, type_by, component_named, second_of, base_of, member_of, type_of, handled, stands_for, is_text}
 use Rattle.pst_scope.specs.Paths.{Checked, Is, Breaks, and_then, is_value, is_array, is_handle_referent, is_ambiguous, read_path}
@@ -91,11 +92,6 @@ named_within ds (Some type) test name = named_in ds type.name.place test name
 abbrev pub along : List Declaration → Option Declaration → List Name → Checked (Option Declaration)
 along ds component [] = Is component
 along ds component (i ∷ more) = and_then (or_breaks (named_within ds component is_instance i) i.place 3) (λ instance. along ds (type_of ds instance) more)
-
--- an action type, and its reference or claim
-pub record Target : Type 0 where
-  pub action : Declaration
-  pub need : Declaration
 
 abbrev pub target_of : List Declaration → Place → List Name → Name → Name → Checked Target
 target_of ds component instances action reference =

@@ -59,6 +59,15 @@ pub struct PathReferent {
     pub last: Referent,
 }
 
+/// An action type, and its reference or claim, that a pool is bound to.
+#[derive(Clone, Copy, PartialEq, Eq)]
+pub struct Target {
+    /// The action type.
+    pub action: Declaration,
+    /// The reference or claim.
+    pub need: Declaration,
+}
+
 /// What was asked for, or the place of a name that is wrong and the rule that it breaks.
 #[derive(Drop)]
 pub enum Checked<X> {
