@@ -9,3 +9,4 @@ mod words;
 pub use ends::PathFor;
 pub use paths::{is_ambiguous, read_path};
 pub use values::{handled, stands_for, value_named};
+pub use words::is_text;
