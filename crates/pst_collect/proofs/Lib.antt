@@ -1,0 +1,3 @@
+pub mod ConstraintRows
+pub mod ActivityRows
+pub mod BodyRows

@@ -1,0 +1,8 @@
+use Rattle.std.proofs.Common.{◌≡◌, ◌++◌, drop, map}
+use Rattle.std.specs.List.{flat_map}
+use Rattle.pst_ast.specs.DeclarationView.{view_object_part}
+use Rattle.pst_scope.specs.Declarations.{in_object_part}
+use Rattle.pst_collect.proofs.collect_type.add_object_parts.Given as goal
+
+abbrev pub invariant-loop-part : goal.invariant-loop-part
+invariant-loop-part l = l.found.items ++ flat_map (in_object_part l.owner) (map view_object_part (drop l.part-index l.parts)) ≡ l.initial.found.items ++ flat_map (in_object_part l.owner) (map view_object_part l.parts)
