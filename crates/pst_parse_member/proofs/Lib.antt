@@ -1,3 +1,4 @@
+pub mod Kept
 pub mod TypesExplain
 pub mod MembersExplain
 pub mod EnumsExplain

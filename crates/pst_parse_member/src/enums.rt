@@ -11,6 +11,7 @@ ghost use Rattle.pst_token.specs.declared.kind.Kind.TheVariants as kind;
 ghost use Rattle.std.specs.Option.{option_map};
 ghost use Rattle.std.specs.Prelude.{◌≤◌, ◌-◌, length};
 
+use crate::keeping::both;
 use pst_ast::{
     AnswerNode, EnumItem, EnumNode, EnumValue, FunctionNode, NextEnumItem, NextParameter,
     ParameterNode, ParametersNode, SyntaxFault,
@@ -181,8 +182,9 @@ fn parameter(
     ensures { Reads view_parameter (parameter_family depth) tokens.now at at 1 result }
 {
     let (input, after_input) = maybe_mark(tokens, at, Kind::Input, depth)?;
-    let (plain, after_plain) = plain(alloc, tokens, after_input, depth)?;
-    let name = expect_name(tokens, after_plain, depth, 0)?;
+    let (head, after_plain) = plain(alloc, tokens, after_input, depth)?;
+    let last = expect_name(tokens, after_plain, depth, 0);
+    let (plain, name) = both(head, last)?;
     Ok((ParameterNode { input, plain, name }, after_plain + 1))
 }
 
@@ -235,8 +237,9 @@ fn parameters(
     requires nesting { depth ≤ 64 }
     ensures { Reads view_parameters (parameters_family depth) tokens.now at at 1 result }
 {
-    let (first, after_first) = parameter(alloc, tokens, at, depth)?;
-    let (rest, after_rest) = next_parameters(alloc, tokens, after_first, depth)?;
+    let (head, after_first) = parameter(alloc, tokens, at, depth)?;
+    let others = next_parameters(alloc, tokens, after_first, depth);
+    let (first, (rest, after_rest)) = both(head, others)?;
     Ok((ParametersNode { first, rest }, after_rest))
 }
 
@@ -270,9 +273,11 @@ fn function_rest(
     ensures { Reads view_function_rest (function_rest_family depth) tokens.now at at 1 result }
 {
     let left_parenthesis = expect(tokens, at, Kind::LeftParenthesis, depth, 0)?;
-    let (parameters, after_parameters) = maybe_parameters(alloc, tokens, at + 1, depth)?;
-    let right_parenthesis = expect(tokens, after_parameters, Kind::RightParenthesis, depth, 0)?;
-    let semicolon = expect(tokens, after_parameters + 1, Kind::Semicolon, depth, 0)?;
+    let (listed, after_parameters) = maybe_parameters(alloc, tokens, at + 1, depth)?;
+    let closing = expect(tokens, after_parameters, Kind::RightParenthesis, depth, 0);
+    let (front, right_parenthesis) = both(listed, closing)?;
+    let last = expect(tokens, after_parameters + 1, Kind::Semicolon, depth, 0);
+    let (parameters, semicolon) = both(front, last)?;
     let rest = FunctionRest {
         left_parenthesis,
         parameters,
@@ -296,9 +301,11 @@ pub fn function(
     let import = expect(tokens, at, Kind::Import, depth, 0)?;
     let (target, after_target) = maybe_mark(tokens, at + 1, Kind::Target, depth)?;
     let function = expect(tokens, after_target, Kind::Function, depth, 0)?;
-    let (answer, after_answer) = answer(alloc, tokens, after_target + 1, depth)?;
-    let name = expect_name(tokens, after_answer, depth, 0)?;
-    let (rest, after_rest) = function_rest(alloc, tokens, after_answer + 1, depth)?;
+    let (answered, after_answer) = answer(alloc, tokens, after_target + 1, depth)?;
+    let named = expect_name(tokens, after_answer, depth, 0);
+    let (front, name) = both(answered, named)?;
+    let behind = function_rest(alloc, tokens, after_answer + 1, depth);
+    let (answer, (rest, after_rest)) = both(front, behind)?;
     let whole = FunctionNode {
         import,
         target,

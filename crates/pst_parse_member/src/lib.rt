@@ -3,6 +3,7 @@
 #![tactic(auto)]
 
 pub mod enums;
+pub mod keeping;
 pub mod laws;
 pub mod members;
 pub mod pools;

@@ -11,6 +11,7 @@ ghost use Rattle.pst_reading.specs.Reads.{Reads};
 ghost use Rattle.pst_token.specs.declared.kind.Kind.TheVariants as kind;
 ghost use Rattle.std.specs.Prelude.{◌≤◌, ◌-◌, length};
 
+use crate::keeping::both;
 use crate::types::type_;
 use pst_ast::{
     ClaimNode, ClaimWord, FieldNode, IndexNode, MembersNode, NextField, PartNode, ReferenceNode,
@@ -104,10 +105,13 @@ pub fn field(
     ensures { Reads view_field (field_family depth) tokens.now at at 1 result }
 {
     let rand = expect(tokens, at, Kind::Rand, depth, 0)?;
-    let (field_type, after_field_type) = type_(alloc, tokens, at + 1, depth)?;
-    let (first, after_first) = part(alloc, tokens, after_field_type, depth)?;
-    let (rest, after_rest) = next_fields(alloc, tokens, after_first, depth)?;
-    let semicolon = expect(tokens, after_rest, Kind::Semicolon, depth, 0)?;
+    let (typed, after_type) = type_(alloc, tokens, at + 1, depth)?;
+    let name = part(alloc, tokens, after_type, depth);
+    let (front, (head, after_first)) = both(typed, name)?;
+    let others = next_fields(alloc, tokens, after_first, depth);
+    let (names, (listed, after_rest)) = both((front, head), others)?;
+    let last = expect(tokens, after_rest, Kind::Semicolon, depth, 0);
+    let (((field_type, first), rest), semicolon) = both((names, listed), last)?;
     Ok((
         FieldNode {
             rand,

@@ -9,6 +9,7 @@ ghost use Rattle.pst_token.specs.declared.kind.Kind.TheVariants as kind;
 ghost use Rattle.std.specs.Option.{option_map};
 ghost use Rattle.std.specs.Prelude.{◌≤◌, ◌-◌, length};
 
+use crate::keeping::both;
 use pst_ast::{DomainNode, SyntaxFault, TypeNode};
 use pst_parse_part::names::type_name;
 use pst_parse_part::plain::plain;
@@ -72,8 +73,9 @@ fn plain_type(
     requires nesting { depth ≤ 64 }
     ensures { Reads view_type (plain_type_family depth) tokens.now at at 1 result }
 {
-    let (plain, after_plain) = plain(alloc, tokens, at, depth)?;
-    let (domain, after_domain) = maybe_domain(alloc, tokens, after_plain, depth)?;
+    let (head, after_plain) = plain(alloc, tokens, at, depth)?;
+    let behind = maybe_domain(alloc, tokens, after_plain, depth);
+    let (plain, (domain, after_domain)) = both(head, behind)?;
     Ok((TypeNode::Plain { plain, domain }, after_domain))
 }
 
