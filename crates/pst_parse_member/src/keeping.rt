@@ -5,10 +5,7 @@ use pst_ast::SyntaxFault;
 
 /// A value, and what was read behind it. Where that failed the value is let go here, so a caller
 /// that returns the fault has nothing left to let go.
-pub fn both<A: Drop, B: Drop>(
-    value: A,
-    next: Result<B, SyntaxFault>,
-) -> Result<(A, B), SyntaxFault>
+pub fn both<A: Drop, B: Drop>(value: A, next: Result<B, SyntaxFault>) -> Result<(A, B), SyntaxFault>
     ensures ok { IfOk result (λ pair. (pair.0 ≡ value) × (next ≡ Ok pair.1)) }
     ensures err { IfErr result (λ fault. next ≡ Err fault) }
 {
