@@ -21,12 +21,12 @@ use Rattle.pst_ast.specs.declared.declaration.ReferenceWord.TheVariants as the_r
 use Rattle.pst_ast.specs.declared.leaf.Name.{Name}
 use Rattle.pst_base.specs.declared.position.Place.{Place}
 use Rattle.pst_parse_part.proofs.Following.{other_mark, other_name, ends_there, next_part_in, any_option, mark_rereads, reread_next, reread_made, reread_empty}
-use Rattle.pst_parse_decl.proofs.MembersAgain.{field_rereads, members_rereads, reference_rereads, claim_rereads}
+use Rattle.pst_parse_member.proofs.MembersAgain.{field_rereads, members_rereads, reference_rereads, claim_rereads}
 use Rattle.pst_parse_decl.proofs.ObjectsAgain.{constraint_declaration_rereads, constraint_declaration_begins, field_begins, part_starts, some_token, IsThere}
 use Rattle.pst_parse_decl.proofs.Taken.{taken_constraint_declaration, taken_action_part, taken_action}
 use Rattle.pst_parse_part.proofs.NamesAgain.{type_name_begins, type_name_rereads}
 use Rattle.pst_parse_decl.specs.Actions.{begins_claim, action_part_by, base_by, begins_reference, action_by}
-use Rattle.pst_parse_decl.specs.Members.{field_by, claim_by, members_by, reference_by}
+use Rattle.pst_parse_member.specs.Members.{field_by, claim_by, members_by, reference_by}
 use Rattle.pst_parse_decl.specs.Objects.{constraint_declaration_by}
 use Rattle.pst_parse_part.specs.Names.{type_name_by}
 use Rattle.pst_parse_expr.proofs.SharedLaws.{IsAny}

@@ -18,12 +18,12 @@ use Rattle.pst_ast.specs.Marks.{mark, spell_option, OptionIs}
 use Rattle.pst_ast.specs.SharedLimits.{counts_type_name}
 use Rattle.pst_ast.specs.SharedSpelling.{spell_type_name}
 use Rattle.pst_parse_part.proofs.ChoicesExplain.{explains_if_mark, explains_option, mark_is_explained, explains_if_next, explains_made, explains_empty}
-use Rattle.pst_parse_decl.proofs.MembersExplain.{field_explains, members_explains, reference_explains, claim_explains}
+use Rattle.pst_parse_member.proofs.MembersExplain.{field_explains, members_explains, reference_explains, claim_explains}
 use Rattle.pst_parse_decl.proofs.ObjectsExplain.{constraint_declaration_explains}
 use Rattle.pst_parse_decl.proofs.Taken.{taken_constraint_declaration, taken_action_part, taken_action}
 use Rattle.pst_parse_part.proofs.NamesExplain.{type_name_explains}
 use Rattle.pst_parse_decl.specs.Actions.{begins_claim, action_part_by, base_by, begins_reference, action_by}
-use Rattle.pst_parse_decl.specs.Members.{field_by, claim_by, members_by, reference_by}
+use Rattle.pst_parse_member.specs.Members.{field_by, claim_by, members_by, reference_by}
 use Rattle.pst_parse_decl.specs.Objects.{constraint_declaration_by}
 use Rattle.pst_parse_part.specs.Names.{type_name_by}
 use Rattle.pst_parse_expr.proofs.SharedLaws.{IsAny}

@@ -16,18 +16,18 @@ use Rattle.pst_ast.specs.Marks.{mark, name_token}
 use Rattle.pst_ast.specs.declared.leaf.Name.{Name}
 use Rattle.pst_base.specs.declared.position.Place.{Place}
 use Rattle.pst_parse_decl.proofs.ActionsAgain.{members_begins, action_begins, action_rereads}
-use Rattle.pst_parse_decl.proofs.EnumsAgain.{enum_rereads, function_rereads}
+use Rattle.pst_parse_member.proofs.EnumsAgain.{enum_rereads, function_rereads}
 use Rattle.pst_parse_part.proofs.Following.{other_mark, other_name, ends_there, reread_next, reread_made, reread_empty}
-use Rattle.pst_parse_decl.proofs.MembersAgain.{members_rereads}
+use Rattle.pst_parse_member.proofs.MembersAgain.{members_rereads}
 use Rattle.pst_parse_decl.proofs.ObjectsAgain.{part_starts, some_token, object_rereads, object_begins, IsThere}
-use Rattle.pst_parse_decl.proofs.PoolsAgain.{pool_rereads, pool_bind_rereads}
+use Rattle.pst_parse_member.proofs.PoolsAgain.{pool_rereads, pool_bind_rereads}
 use Rattle.pst_parse_decl.proofs.Taken.{taken_object, taken_action, taken_component_part, taken_component, taken_item}
 use Rattle.pst_parse_decl.specs.Actions.{action_by}
 use Rattle.pst_parse_decl.specs.Components.{item_by, begins_object, begins_action, component_by, component_part_by}
-use Rattle.pst_parse_decl.specs.Enums.{function_by, enum_by}
-use Rattle.pst_parse_decl.specs.Members.{members_by}
+use Rattle.pst_parse_member.specs.Enums.{function_by, enum_by}
+use Rattle.pst_parse_member.specs.Members.{members_by}
 use Rattle.pst_parse_decl.specs.Objects.{object_by}
-use Rattle.pst_parse_decl.specs.Pools.{pool_by, pool_bind_by}
+use Rattle.pst_parse_member.specs.Pools.{pool_by, pool_bind_by}
 use Rattle.pst_parse_expr.proofs.Stops.{IsNo}
 use Rattle.pst_parse_expr.specs.Constraints.{Within, is_at, is_other}
 use Rattle.pst_reading.proofs.Lists.{StartsPart}

@@ -14,17 +14,17 @@ use Rattle.pst_ast.specs.DeclarationTree.{ComponentPartAction, ComponentPartObje
 use Rattle.pst_ast.specs.Limits.{counted}
 use Rattle.pst_parse_decl.proofs.ActionsExplain.{action_explains}
 use Rattle.pst_parse_part.proofs.ChoicesExplain.{explains_if_mark, explains_if_next, explains_made, explains_empty}
-use Rattle.pst_parse_decl.proofs.EnumsExplain.{enum_explains, function_explains}
-use Rattle.pst_parse_decl.proofs.MembersExplain.{members_explains}
+use Rattle.pst_parse_member.proofs.EnumsExplain.{enum_explains, function_explains}
+use Rattle.pst_parse_member.proofs.MembersExplain.{members_explains}
 use Rattle.pst_parse_decl.proofs.ObjectsExplain.{object_explains}
-use Rattle.pst_parse_decl.proofs.PoolsExplain.{pool_explains, pool_bind_explains}
+use Rattle.pst_parse_member.proofs.PoolsExplain.{pool_explains, pool_bind_explains}
 use Rattle.pst_parse_decl.proofs.Taken.{taken_object, taken_action, taken_component_part, taken_component, taken_item}
 use Rattle.pst_parse_decl.specs.Actions.{action_by}
 use Rattle.pst_parse_decl.specs.Components.{item_by, begins_object, begins_action, component_by, component_part_by}
-use Rattle.pst_parse_decl.specs.Enums.{function_by, enum_by}
-use Rattle.pst_parse_decl.specs.Members.{members_by}
+use Rattle.pst_parse_member.specs.Enums.{function_by, enum_by}
+use Rattle.pst_parse_member.specs.Members.{members_by}
 use Rattle.pst_parse_decl.specs.Objects.{object_by}
-use Rattle.pst_parse_decl.specs.Pools.{pool_by, pool_bind_by}
+use Rattle.pst_parse_member.specs.Pools.{pool_by, pool_bind_by}
 use Rattle.pst_parse_expr.specs.Constraints.{Within, is_other}
 use Rattle.pst_reading.proofs.Chains.{explains_mark, explains_name, explains_part}
 use Rattle.pst_reading.proofs.Explaining.{Means, Explains, explains_done}

@@ -16,10 +16,10 @@ use Rattle.pst_ast.specs.declared.leaf.Name.{Name}
 use Rattle.pst_base.specs.declared.position.Place.{Place}
 use Rattle.pst_parse_decl.proofs.Behind.{reads_behind, taken_behind, content_takes, first_count}
 use Rattle.pst_parse_part.proofs.Following.{other_mark, ends_there, expr_rereads, reread_next, reread_made, reread_empty}
-use Rattle.pst_parse_decl.proofs.MembersAgain.{word_rereads, field_rereads}
+use Rattle.pst_parse_member.proofs.MembersAgain.{word_rereads, field_rereads}
 use Rattle.pst_parse_decl.proofs.ObjectsExplain.{spell_object_word, counts_object_word}
 use Rattle.pst_parse_decl.proofs.Taken.{taken_content, taken_constraint_declaration, taken_object_part, taken_object}
-use Rattle.pst_parse_decl.specs.Members.{field_by}
+use Rattle.pst_parse_member.specs.Members.{field_by}
 use Rattle.pst_parse_decl.specs.Objects.{constraint_declaration_by, behind_name_by, behind, set_content_by, constraint_items_by, content_by, named_constraint_by, object_by, object_part_by, object_word_by}
 use Rattle.pst_parse_expr.proofs.ConstraintAgain.{item_again, constraint_again, some_item}
 use Rattle.pst_parse_expr.proofs.Starts.{item_starts}

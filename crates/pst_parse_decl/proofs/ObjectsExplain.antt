@@ -15,9 +15,9 @@ use Rattle.pst_ast.specs.declared.leaf.Name.{Name}
 use Rattle.pst_base.specs.declared.position.Place.{Place}
 use Rattle.pst_parse_decl.proofs.Behind.{reads_behind, taken_behind, content_takes, first_count}
 use Rattle.pst_parse_part.proofs.ChoicesExplain.{explains_if_mark, explains_made, explains_empty}
-use Rattle.pst_parse_decl.proofs.MembersExplain.{word_explains, field_explains, spell_word, counts_word}
+use Rattle.pst_parse_member.proofs.MembersExplain.{word_explains, field_explains, spell_word, counts_word}
 use Rattle.pst_parse_decl.proofs.Taken.{taken_content, taken_constraint_declaration, taken_object_part, taken_object}
-use Rattle.pst_parse_decl.specs.Members.{field_by}
+use Rattle.pst_parse_member.specs.Members.{field_by}
 use Rattle.pst_parse_decl.specs.Objects.{constraint_declaration_by, behind_name_by, behind, set_content_by, constraint_items_by, content_by, named_constraint_by, object_by, object_part_by, object_word_by}
 use Rattle.pst_parse_expr.proofs.Answering.{explains}
 use Rattle.pst_parse_expr.proofs.ConstraintExplains.{item_explains, constraint_explains}

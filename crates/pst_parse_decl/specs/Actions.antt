@@ -5,7 +5,7 @@ use Rattle.pst_ast.specs.DeclarationTree.{ActionPartTree, ActionTree, ActionPart
 use Rattle.pst_ast.specs.Limits.{counted}
 use Rattle.pst_ast.specs.declared.declaration.BaseNode.{BaseNode}
 use Rattle.pst_parse_part.specs.Choices.{if_next}
-use Rattle.pst_parse_decl.specs.Members.{reference_by, members_by, claim_by, field_by}
+use Rattle.pst_parse_member.specs.Members.{reference_by, members_by, claim_by, field_by}
 use Rattle.pst_parse_decl.specs.Objects.{constraint_declaration_by}
 use Rattle.pst_parse_part.specs.Names.{type_name_by}
 use Rattle.pst_parse_expr.specs.Constraints.{Within, is_at, is_other}

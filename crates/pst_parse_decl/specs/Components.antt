@@ -5,10 +5,10 @@ use Rattle.pst_ast.specs.DeclarationTree.{ComponentPartTree, ComponentTree, Item
 use Rattle.pst_ast.specs.Limits.{counted}
 use Rattle.pst_parse_decl.specs.Actions.{action_by}
 use Rattle.pst_parse_part.specs.Choices.{if_next}
-use Rattle.pst_parse_decl.specs.Enums.{enum_by, function_by}
-use Rattle.pst_parse_decl.specs.Members.{members_by}
+use Rattle.pst_parse_member.specs.Enums.{enum_by, function_by}
+use Rattle.pst_parse_member.specs.Members.{members_by}
 use Rattle.pst_parse_decl.specs.Objects.{object_by}
-use Rattle.pst_parse_decl.specs.Pools.{pool_by, pool_bind_by}
+use Rattle.pst_parse_member.specs.Pools.{pool_by, pool_bind_by}
 use Rattle.pst_parse_expr.specs.Constraints.{Within, is_at, is_other}
 use Rattle.pst_reading.specs.Lists.{list_by}
 use Rattle.pst_reading.specs.Parser.{Done, followed_by, ◌>>=◌, mark_by, name_by, if_mark, next}

@@ -1,7 +1,3 @@
-pub mod Types
-pub mod Members
-pub mod Enums
-pub mod Pools
 pub mod Objects
 pub mod Actions
 pub mod Components

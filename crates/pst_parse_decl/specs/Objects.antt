@@ -7,7 +7,7 @@ use Rattle.pst_ast.specs.declared.declaration.ObjectWord.{ObjectWord}
 use Rattle.pst_ast.specs.declared.leaf.Name.{Name}
 use Rattle.pst_base.specs.declared.position.Place.{Place}
 use Rattle.pst_parse_part.specs.Choices.{if_next}
-use Rattle.pst_parse_decl.specs.Members.{word_by, field_by}
+use Rattle.pst_parse_member.specs.Members.{word_by, field_by}
 use Rattle.pst_parse_expr.specs.Constraints.{Within, outermost_at, is_other, items_by, constraint_at}
 use Rattle.pst_reading.specs.Kinds.{is_name, next_is}
 use Rattle.pst_reading.specs.Lists.{list_by}

@@ -13,9 +13,9 @@ ghost use Rattle.pst_token.specs.declared.kind.Kind.TheVariants as kind;
 ghost use Rattle.std.specs.Prelude.{◌≤◌, ◌-◌, ◌≡◌, length, drop};
 
 use crate::inner::{activity, body};
-use crate::members::{claim, field, members, reference};
 use crate::objects::constraint_declaration;
 use pst_ast::{ActionNode, ActionPart, BaseNode, SyntaxFault};
+use pst_parse_member::members::{claim, field, members, reference};
 use pst_parse_part::marks::maybe_mark;
 use pst_parse_part::names::type_name;
 use pst_reading::{boxed, expect, expect_name, is, push};

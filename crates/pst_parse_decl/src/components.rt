@@ -13,11 +13,11 @@ ghost use Rattle.pst_token.specs.declared.kind.Kind.TheVariants as kind;
 ghost use Rattle.std.specs.Prelude.{◌≤◌, ◌-◌, ◌≡◌, length, drop};
 
 use crate::actions::action;
-use crate::enums::{enum_, function};
-use crate::members::members;
 use crate::objects::object;
-use crate::pools::{pool, pool_bind};
 use pst_ast::{ComponentNode, ComponentPart, Item, SyntaxFault};
+use pst_parse_member::enums::{enum_, function};
+use pst_parse_member::members::members;
+use pst_parse_member::pools::{pool, pool_bind};
 use pst_reading::{boxed, expect, expect_name, is, push};
 use pst_token::{Kind, Token};
 use std::alloc::Global;

@@ -12,12 +12,12 @@ ghost use Rattle.pst_reading.specs.Reads.{Reads};
 ghost use Rattle.pst_token.specs.declared.kind.Kind.TheVariants as kind;
 ghost use Rattle.std.specs.Prelude.{◌≤◌, ◌+◌, ◌-◌, ◌≡◌, length, drop, ◌&&◌};
 
-use crate::members::field;
 use pst_ast::{
     ConstraintContent, ConstraintDeclaration, ObjectNode, ObjectPart, ObjectWord, SyntaxFault,
 };
 use pst_base::Place;
 use pst_parse_expr::constraint::{items, set};
+use pst_parse_member::members::field;
 use pst_reading::{boxed, expect, expect_name, is, is_name, push};
 use pst_token::{Kind, Token};
 use std::alloc::Global;

@@ -1,0 +1,12 @@
+pub mod Kept
+pub mod TypesExplain
+pub mod MembersExplain
+pub mod EnumsExplain
+pub mod PoolsExplain
+pub mod TypesAgain
+pub mod MembersAgain
+pub mod EnumsAgain
+pub mod PoolsAgain
+pub mod NoEnd
+pub mod Views
+pub mod Unique

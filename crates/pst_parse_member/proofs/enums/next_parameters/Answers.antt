@@ -1,0 +1,34 @@
+use Rattle.pst_ast.specs.DeclarationView.{view_next_parameter}
+use Rattle.pst_parse_member.proofs.enums.next_parameters.Goals as goal
+use Rattle.pst_parse_member.specs.Families.{next_parameter_family}
+use Rattle.pst_parse_expr.specs.Constraints.{is_at}
+use Rattle.pst_reading.proofs.Giving.{later, later_fault}
+use Rattle.pst_reading.proofs.Lists.{list_begins, list_turns, list_fails, list_ends}
+use Rattle.pst_token.specs.declared.kind.Kind.TheVariants as kind
+use Rattle.std.proofs.Common.{arith, rules, ◌-◌, map}
+use Rattle.std.proofs.lemmas.List.{map-append}
+use Rattle.std.proofs.lemmas.Result.{err_from_is_err_and}
+
+pub others-init : goal.others-init
+others-init c = rw c.new-others.ensures.items (list_begins (is_at kind.Comma) (next_parameter_family c.args.depth) c.args.tokens.now (c.args.at - 1) c.args.at (omega (arith, c.requires.behind)) c.requires.inside)
+
+pub returns-in_err-parameter : goal.returns-in_err-parameter
+returns-in_err-parameter c =
+    let p = err_from_is_err_and c.from_residual.result c.from_residual.ensures.1 in
+    let l = c.others.invariant in
+    rw (p.1, p.2) (list_fails (is_at kind.Comma) (next_parameter_family c.args.depth) c.args.tokens.now (c.args.at - 1) c.args.at (map view_next_parameter c.others.others.items) c.others.place l (search rules) c.in_err-parameter.field-0.0 (later_fault c.args.tokens.now (c.args.at - 1) (next_parameter_family c.args.depth) c.others.place c.in_err-parameter.field-0.0 (omega (arith, l.reached)) c.in_err-parameter.ensures))
+
+pub others-preserved : goal.others-preserved
+others-preserved c =
+    let l = c.others.invariant in
+    let h = c.in_ok-parameter.ensures in
+    rw (c.in_ok-push.ensures.ok, map-append) (list_turns (is_at kind.Comma) (next_parameter_family c.args.depth) c.args.tokens.now (c.args.at - 1) c.args.at (map view_next_parameter c.others.others.items) c.others.place l (search rules) (view_next_parameter c.in_ok-parameter.parameter) c.in_ok-parameter.after (later c.args.tokens.now (c.args.at - 1) (next_parameter_family c.args.depth) c.others.place _ (omega (arith, l.reached)) h.settles) (omega (arith, h.after)) h.inside)
+
+pub returns : goal.returns
+returns c =
+    let l = c.others.invariant in
+    record {
+      settles = list_ends (is_at kind.Comma) (next_parameter_family c.args.depth) c.args.tokens.now (c.args.at - 1) c.args.at (map view_next_parameter c.others.others.items) c.others.place l (search rules);
+      after = omega (arith, l.reached);
+      inside = l.inside;
+    }
