@@ -10,7 +10,9 @@ ghost use Rattle.pst_model.specs.ActivityTree.{spans_of};
 ghost use Rattle.pst_model.specs.Limits.{most_branches};
 
 use pst_model::{ActionType, Arm, Branch, Constraint, Join, Model, Step};
-use pst_sound_parts::{ConditionSite, InlineSite, Repeats, are_arms_apart, are_sound_there, is_join, is_sound_there};
+use pst_sound_parts::{
+    ConditionSite, InlineSite, Repeats, are_arms_apart, are_sound_there, is_join, is_sound_there,
+};
 
 // The most branches of a block with a join form.
 const MOST_BRANCHES: usize = 64;

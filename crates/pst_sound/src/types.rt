@@ -12,8 +12,13 @@ ghost use Rattle.pst_model.specs.Sound.{IsSoundField, IsSoundObject, IsSoundRefe
 use crate::steps::are_sound_steps;
 use crate::ties::are_sound_ties;
 use pst_expr::Domain;
-use pst_model::{ActionType, Activity, Claim, Content, Field, Function, Model, ObjectKind, ObjectType, Pool, Reference};
-use pst_sound_parts::{ActionSite, ObjectSite, Repeats, are_sound_there, is_of_kind, is_sound_body};
+use pst_model::{
+    ActionType, Activity, Claim, Content, Field, Function, Model, ObjectKind, ObjectType, Pool,
+    Reference,
+};
+use pst_sound_parts::{
+    ActionSite, ObjectSite, Repeats, are_sound_there, is_of_kind, is_sound_body,
+};
 
 // The most fields of a type.
 const MOST_FIELDS: usize = 64;

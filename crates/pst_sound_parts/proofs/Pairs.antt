@@ -1,5 +1,5 @@
 -- Properties of each two items of a list.
-use Rattle.std.proofs.Common.{◌≡◌, ◌<◌, ◌↔◌, ℕ, zero, suc, List, [], ◌∷◌, ◌++◌, length, All, AllPairs, ◌+◌, ◌-◌, take, drop, get_or, map, subst, sym, ap, ◌∙◌, Bool, false, IsTrue, arith}
+use Rattle.std.proofs.Common.{◌≡◌, ◌<◌, ◌↔◌, ℕ, List, [], ◌∷◌, ◌++◌, length, All, AllPairs, ◌+◌, ◌-◌, take, drop, get_or, map, subst, sym, ap, ◌∙◌, Bool, false, IsTrue, arith}
 use Rattle.std.proofs.lemmas.List.Elements.{All-append, All-cons, All-head, All-tail, All-nil}
 use Rattle.std.specs.List.{flat_map}
 use Rattle.std.proofs.lemmas.List.Kept.{AllPairs-cons}

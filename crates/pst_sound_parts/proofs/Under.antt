@@ -1,9 +1,9 @@
 -- Which instances stand under others.
-use Rattle.std.proofs.Common.{◌≡◌, ◌<◌, ◌≤◌, ◌+◌, ◌↔◌, ◌⊎◌, inl, inr, ℕ, List, length, slice_get, get_or, map, Option, Some, None, option_map, refl, ap, subst, sym, ◌∙◌, arith}
+use Rattle.std.proofs.Common.{◌≡◌, ◌<◌, ◌≤◌, ◌+◌, ◌↔◌, ◌⊎◌, inl, inr, ℕ, List, length, slice_get, get_or, map, Option, Some, option_map, refl, ap, subst, sym, ◌∙◌, arith}
 use Rattle.std.proofs.lemmas.Option.{slice_get-get_or, slice_get-map, slice_get_read}
 use Rattle.std.proofs.lemmas.Bool.{cases_lt}
 use Rattle.pst_model.specs.declared.model.Part.{Part}
-use Rattle.pst_model.specs.Preorder.{LiesUnder, AtTop, Below, IsParent}
+use Rattle.pst_model.specs.Preorder.{LiesUnder, Below, IsParent}
 use Rattle.pst_model.proofs.Under.{up, same_some}
 
 -- below the top, an instance stands under it where its parent does

@@ -5,8 +5,8 @@ ghost use Rattle.pst_model.specs.ActivityTree.{spans_of};
 ghost use Rattle.pst_model.specs.ModelView.{view_arm};
 ghost use Rattle.pst_model.specs.SoundActivity.{AreApart, IsJoin};
 
-use pst_model::{Arm, Join};
 use pst_expr::Span;
+use pst_model::{Arm, Join};
 
 // Whether no number is in both ranges.
 fn is_apart(one: Span, other: Span) -> bool
