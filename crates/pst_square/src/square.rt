@@ -113,7 +113,7 @@ impl Square {
     }
 
     /// Whether it has the pair.
-    pub fn has(&self, a: u32, b: u32) -> bool
+    pub(crate) fn has(&self, a: u32, b: u32) -> bool
         requires a_in { a < self.now.size }
         requires b_in { b < self.now.size }
         ensures { IsTrue result ↔ Has self.now a b }
@@ -123,7 +123,7 @@ impl Square {
     }
 
     /// Adds the pairs of one word of the row of `a`.
-    pub fn add_word(&mut self, a: u32, w: usize, mask: u64)
+    pub(crate) fn add_word(&mut self, a: u32, w: usize, mask: u64)
         requires a_in { a < self.old.size }
         requires w_in { w < row_words self.old.size }
         ensures { Adds self.old self.new (IsMasked a w mask) }
