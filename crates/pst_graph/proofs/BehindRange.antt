@@ -5,9 +5,9 @@ use Rattle.pst_scen.specs.declared.rows.Rows.{Rows}
 use Rattle.pst_scen.specs.declared.tree.Node.{Node}
 use Rattle.pst_scen.specs.Tree.{IsChild, StandsUnder, IsSequence}
 use Rattle.pst_graph.specs.Over.{IsLeafOf, Over, IsFree}
-use Rattle.pst_graph.specs.Squares.{Adds, IsInRow}
+use Rattle.pst_square.specs.Squares.{Adds, IsInRow}
 use Rattle.pst_graph.specs.Tables.{AreNodesNumbered, IsEnd, AreLeaves, IsBehind, StandsBefore, leaf_count}
-use Rattle.pst_graph.proofs.Adding.{adds_none, adds_as, adds_then}
+use Rattle.pst_square.proofs.Adding.{adds_none, adds_as, adds_then}
 use Rattle.pst_graph.proofs.Climbs.{one_parent, up, over_here, over_up, over_root}
 use Rattle.pst_graph.proofs.Awaits.{leaf_within}
 use Rattle.pst_graph.proofs.Leaves.{leaf_counted, leaves_grow}

@@ -1,8 +1,5 @@
--- Bits of a word, and tests that decide a property.
-use Rattle.std.proofs.Common.{◌≡◌, ◌<◌, ◌≤◌, ◌↔◌, ◌*◌, ◌/◌, ◌%◌, ◌^◌, ℕ, Bool, true, false, not, IsTrue, bit_and, refl, ap, ◌∙◌, arith}
-use Rattle.std.specs.Prelude.{IsBitSet, nat_eq}
-use Rattle.std.proofs.lemmas.Bool.{eqb-true, eq-eqb}
-use Rattle.std.proofs.lemmas.Nat.{bit_set_by_shift}
+-- Bits that a word doesn't have, and tests that decide a property.
+use Rattle.std.proofs.Common.{◌≡◌, ◌<◌, ◌≤◌, ◌↔◌, ◌*◌, ◌%◌, ◌^◌, ℕ, Bool, true, false, not, IsTrue, bit_and, refl, ap, ◌∙◌, arith}
 use Rattle.std.proofs.lemmas.Nat.Bits.{and_pow}
 use Rattle.std.proofs.Math.Pow.{pow_mono}
 use Rattle.std.proofs.Math.Nat.{div-eq_of_lt}
@@ -12,14 +9,6 @@ no_high_bit n k small high =
     let more : 2 ^ 64 ≤ 2 ^ k = pow_mono high in
     let below : n < 2 ^ k = omega (arith, more, small) in
     and_pow n k ∙ ap (λ m. m % 2 * 2 ^ k) (div-eq_of_lt below) ∙ omega arith
-
--- the test of one bit of a word
-pub bit_test : (n k : ℕ) → IsTrue (nat_eq (bit_and (n / 2 ^ k) 1) 1) ↔ IsBitSet n k
-bit_test n k =
-    let same = bit_set_by_shift n k in (
-      λ t. same.0 (eqb-true (bit_and (n / 2 ^ k) 1) 1 t),
-      λ s. eq-eqb (bit_and (n / 2 ^ k) 1) 1 (same.1 s),
-    )
 
 pub no_true : IsTrue false → ⊥
 no_true e = cc

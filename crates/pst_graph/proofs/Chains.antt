@@ -8,7 +8,7 @@ use Rattle.pst_scen.specs.Flows.{Reads, Writes, LeadsTo}
 use Rattle.pst_scen.specs.Order.{Cause, Sequence, Buffer, Source, Previous, Replaced, Must, Directly, Through}
 use Rattle.pst_scen.specs.Rows.{IsSquare, Has}
 use Rattle.pst_order.specs.Facts.{IsLinked}
-use Rattle.pst_graph.specs.Chains.{IsChain, Once, Chained}
+use Rattle.pst_square.specs.Chains.{IsChain, Once, Chained}
 use Rattle.pst_graph.specs.Grouping.{MustDirectly}
 
 module _ (R S : ℕ → ℕ → Type 0) (size : ℕ) (each : (a b : ℕ) → a < size → b < size → R a b → S a b) where

@@ -18,14 +18,14 @@ use Rattle.pst_order.specs.Built.{IsBuilt}
 use Rattle.pst_graph.specs.Over.{IsLeafOf}
 use Rattle.pst_graph.specs.Acts.{LinksOrder, ByBuffer, BySource, ByPrevious, ByReader}
 use Rattle.pst_graph.specs.Grouping.{MustDirectly}
-use Rattle.pst_graph.specs.Squares.{IsBlank, Adds}
+use Rattle.pst_square.specs.Squares.{IsBlank, Adds}
 use Rattle.pst_graph.specs.Tables.{AreNodesNumbered, AreLeaves, StandsBefore, leaf_count}
 use Rattle.pst_graph.specs.Named.{NamesEarlier, IsNamingIn, IsNamed}
 use Rattle.pst_graph.specs.Listed.{IsReplacing}
 use Rattle.pst_graph.specs.Links.{HasLink}
-use Rattle.pst_graph.specs.Spread.{IsSpread, AreOwn}
+use Rattle.pst_square.specs.Spread.{IsSpread, AreOwn}
 use Rattle.pst_graph.proofs.Acted.{referred, order_cause, cause_order}
-use Rattle.pst_graph.proofs.Adding.{adds_as, adds_then}
+use Rattle.pst_square.proofs.Adding.{adds_as, adds_then}
 use Rattle.pst_graph.proofs.BehindRange.{same_leaf}
 use Rattle.pst_graph.proofs.Climbs.{one_child}
 use Rattle.pst_graph.proofs.Grouped.{same_group, inside}

@@ -8,7 +8,7 @@ use Rattle.pst_scen.specs.Laws.{IsPreorder}
 use Rattle.pst_scen.specs.Scenarios.{AreInPreorder}
 use Rattle.pst_graph.specs.Tables.{AreEnds, AreEndsFrom}
 use Rattle.pst_graph.proofs.Climbs.{one_parent, parent_less, under_up, under_le}
-use Rattle.pst_graph.proofs.Grouped.{same_or_not}
+use Rattle.pst_square.proofs.Numbers.{same_or_not}
 use Rattle.pst_graph.proofs.Preorder.{contiguous}
 
 child_within : (nodes : List Node) (n parent : ℕ) → IsChild nodes n parent → n < length nodes

@@ -7,6 +7,7 @@ use Rattle.pst_scen.specs.Flows.{Streams, FromFirst, FromSecond}
 use Rattle.pst_scen.specs.Order.{Together, Itself, Linked}
 use Rattle.pst_scen.specs.Plans.{IsGroupNumber}
 use Rattle.pst_order.specs.Facts.{IsLinked}
+use Rattle.pst_square.proofs.Numbers.{same_or_not}
 use Rattle.pst_graph.specs.Grouping.{AreMembers, IsApart}
 
 streams_inside : (s : Scenario) (a b : ℕ) → IsLinked s → Streams s a b → (a < length s.actions) × (b < length s.actions)
@@ -57,14 +58,6 @@ alone_members s groups many own =
 together_on : (s : Scenario) (a b c : ℕ) → Together s a b → Together s b c → Together s a c
 together_on s a b _ first Itself = first
 together_on s a b _ first (Linked x y t link) = Linked x y (together_on s a b x first t) link
-
-pub same_or_not : (a b : ℕ) → (a ≡ b) ⊎ (a ≢ b)
-same_or_not a b = go (cases_lt a b) (cases_lt b a)
-  where
-    go : (a < b) ⊎ (b ≤ a) → (b < a) ⊎ (a ≤ b) → (a ≡ b) ⊎ (a ≢ b)
-    go (inl less) more = inr (omega (arith, less))
-    go (inr more) (inl less) = inr (omega (arith, less))
-    go (inr more) (inr less) = inl (omega (arith, less, more))
 
 pub lowered_members : (s : Scenario) (old new : List ℕ) (a b : ℕ) → AreMembers s old → IsApart s old a b → length new ≡ length old → get_or new a 0 ≡ get_or old b 0 → ((c : ℕ) → c ≢ a → get_or new c 0 ≡ get_or old c 0) → AreMembers s new
 lowered_members s old new a b members apart many at others = record { many = many ∙ members.many; member = λ c c_in. each c c_in (same_or_not c a); below = λ c c_in. under c c_in (same_or_not c a) }

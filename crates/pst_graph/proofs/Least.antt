@@ -4,7 +4,7 @@ use Rattle.std.proofs.lemmas.Bool.{cases_lt, cases_order}
 use Rattle.pst_scen.specs.declared.rows.Rows.{Rows}
 use Rattle.pst_scen.specs.Rows.{Has}
 use Rattle.pst_scen.specs.Refusals.{IsLeast, IsLeastPair}
-use Rattle.pst_graph.specs.Next.{IsNext}
+use Rattle.pst_square.specs.Next.{IsNext}
 
 -- no number below that one has the property
 abbrev pub HoldsNowhereBelow : (ℕ → Type 0) → ℕ → Type 0

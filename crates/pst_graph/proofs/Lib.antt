@@ -6,10 +6,6 @@ mod Acted
 mod Loops
 mod Grouped
 mod Streaming
-mod Squares
-mod Adding
-mod Lists
-mod Spreads
 mod Names
 mod Preorder
 mod Ends
@@ -19,12 +15,8 @@ mod LeafNumbers
 mod DirectRows
 mod UsesListed
 mod UsesApart
-mod Joins
-mod Closes
 mod Chains
-mod Nexts
 mod Least
 mod Refused
 mod Numbered
 mod Ended
-mod Walking

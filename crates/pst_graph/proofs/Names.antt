@@ -8,10 +8,10 @@ use Rattle.pst_scen.specs.declared.act.Link.{Link}
 use Rattle.pst_scen.specs.declared.scenario.Scenario.{Scenario}
 use Rattle.pst_scen.specs.Flows.{IsAct, Refers, LeadsTo}
 use Rattle.pst_order.specs.Facts.{IsLinked}
-use Rattle.pst_graph.specs.Squares.{Adds, IsOneOf}
+use Rattle.pst_square.specs.Squares.{Adds, IsOneOf}
 use Rattle.pst_graph.specs.Named.{IsNaming, IsNamingAt, IsNamingIn}
 use Rattle.pst_graph.proofs.Acted.{referred}
-use Rattle.pst_graph.proofs.Adding.{adds_as, family_more}
+use Rattle.pst_square.proofs.Adding.{adds_as, family_more}
 use Rattle.pst_graph.proofs.Climbs.{same_some}
 
 -- what a reference of an action is linked to is an action of the scenario

@@ -11,9 +11,9 @@ use Rattle.pst_scen.specs.Flows.{IsAct, Claims, Refers}
 use Rattle.pst_scen.specs.Rows.{Has}
 use Rattle.pst_scen.specs.Conflicts.{Clash, Resource, FirstWrites, SecondWrites, Uses, Conflict}
 use Rattle.pst_graph.specs.declared.uses.Use.{Use}
-use Rattle.pst_graph.specs.Squares.{IsBlank, Adds, IsOneOf, IsCopied}
+use Rattle.pst_square.specs.Squares.{IsBlank, Adds, IsOneOf, IsCopied}
 use Rattle.pst_graph.specs.Uses.{IsUseOfClaims, IsUseOfReferences, IsUse, Listed, AreUses, AreExclusive, AreApart, IsApartFrom, IsApartFromAny, IsApartAt, AreApartIn, IsKindAt, IsExcluded, IsExcludedAt, IsExcludedBy, IsOfKind, IsOfKinds}
-use Rattle.pst_graph.proofs.Adding.{adds_as, family_more}
+use Rattle.pst_square.proofs.Adding.{adds_as, family_more}
 use Rattle.pst_graph.proofs.Climbs.{same_some}
 
 -- what is read past the end of a list

@@ -1,16 +1,11 @@
--- Lists of the actions that have something.
-use Rattle.std.specs.Prelude.{◌≡◌, ◌≢◌, ◌<◌, ℕ, List, length, get_or, Some, slice_get}
+-- Actions that have references of a kind, and those that replace what others read.
+use Rattle.std.specs.Prelude.{◌≡◌, ◌≢◌, ℕ, List, Some, slice_get}
 use Rattle.pst_scen.specs.declared.act.Act.{Act}
 use Rattle.pst_scen.specs.declared.act.Filled.{Filled}
 use Rattle.pst_scen.specs.declared.act.Flow.{Flow}
 use Rattle.pst_scen.specs.declared.scenario.Scenario.{Scenario}
 use Rattle.pst_scen.specs.Flows.{IsAct}
 use Rattle.pst_graph.specs.Links.{ReadsReplaced}
-
--- numbers below the given one, among them all that have the property
-pub record ListsAll (P : ℕ → Type 0) (to : ℕ) (list : List ℕ) : Type 0 where
-  pub inside : (i : ℕ) → i < length list → get_or list i 0 < to
-  pub all : (a : ℕ) → a < to → P a → (i : ℕ) × (i < length list) × (get_or list i 0 ≡ a)
 
 -- a reference is of this kind
 pub record HasFlow (references : List Filled) (flow : Flow) : Type 0 where

@@ -2,7 +2,7 @@
 use Rattle.std.specs.Prelude.{ℕ, List}
 use Rattle.pst_scen.specs.declared.rows.Rows.{Rows}
 use Rattle.pst_graph.specs.declared.uses.Use.{Use}
-use Rattle.pst_graph.specs.Squares.{IsBlank, Adds}
+use Rattle.pst_square.specs.Squares.{IsBlank, Adds}
 use Rattle.pst_graph.specs.Uses.{IsOfKinds}
 
 -- beginning with a square of that size without a pair

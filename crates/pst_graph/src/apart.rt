@@ -1,11 +1,11 @@
 //! The pairs of actions that a use of each keeps apart.
 ghost use Rattle.std.specs.Prelude.{◌≡◌, ◌≤◌, ◌<◌, ◌↔◌, ℕ, length, slice_get, Some, IsTrue};
 ghost use Rattle.pst_graph.specs.declared.uses.Use.{Use};
-ghost use Rattle.pst_graph.specs.Squares.{Adds, IsPair};
+ghost use Rattle.pst_square.specs.Squares.{Adds, IsPair};
 ghost use Rattle.pst_graph.specs.Uses.{AreExclusive, AreApart, IsApartFromAny, AreApartIn};
 
-use crate::square::Square;
 use crate::uses::Use;
+use pst_square::Square;
 
 /// Whether both are of one instance or one state pool, and one of them excludes the other.
 pub(crate) fn are_exclusive(u: Use, v: Use) -> bool

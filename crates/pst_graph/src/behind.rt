@@ -2,15 +2,15 @@
 ghost use Rattle.std.specs.Prelude.{◌≡◌, ◌≤◌, ◌<◌, ◌^◌, ◌↔◌, ℕ, length, IfOk};
 ghost use Rattle.pst_scen.specs.Tree.{IsChild};
 ghost use Rattle.pst_graph.specs.Over.{Over, IsLeafOf};
-ghost use Rattle.pst_graph.specs.Squares.{Adds, IsInRow};
+ghost use Rattle.pst_square.specs.Squares.{Adds, IsInRow};
 ghost use Rattle.pst_graph.specs.Tables.{AreNodesNumbered, IsBehind, StandsBefore, leaf_count};
 ghost use Rattle.pst_graph.specs.Tabled.{AreTables};
 
 use crate::before::is_released;
 use crate::climb::is_sequence;
-use crate::square::Square;
 use crate::tables::Tables;
 use pst_scen::Node;
+use pst_square::Square;
 
 /// Adds the pairs of the action with those that stand behind the node in the sequence, where the
 /// sequence awaits the action's leaf.

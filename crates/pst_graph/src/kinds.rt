@@ -2,14 +2,14 @@
 ghost use Rattle.std.specs.Prelude.{◌≡◌, ◌≤◌, ◌<◌, ◌+◌, ◌↔◌, ◌^◌, ℕ, length, slice_get, Some, IsTrue, IfOk, MatchOption};
 ghost use Rattle.pst_graph.specs.declared.uses.Use.{Use};
 ghost use Rattle.pst_scen.specs.Rows.{Has};
-ghost use Rattle.pst_graph.specs.Squares.{IsBlank, Adds, IsPair, IsCopied};
+ghost use Rattle.pst_square.specs.Squares.{IsBlank, Adds, IsPair, IsCopied};
 ghost use Rattle.pst_graph.specs.Uses.{AreSameKind, IsKindAt, HaveKinds, IsExcluded, IsExcludedBy, IsOfKind, IsOfKinds, IsApartAt, AreApartIn};
 ghost use Rattle.pst_graph.specs.Sets.{AreSets};
 
 use crate::apart::{add_all_apart, are_exclusive};
-use crate::square::Square;
 use crate::uses::Use;
 use pst_base::NoMemory;
+use pst_square::Square;
 use std::alloc::Global;
 
 /// Whether both exclude the same uses.

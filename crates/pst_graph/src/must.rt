@@ -5,10 +5,10 @@ ghost use Rattle.pst_scen.specs.Plans.{IsGroupNumber};
 ghost use Rattle.pst_scen.specs.Rows.{IsSquare, Has};
 ghost use Rattle.pst_order.specs.Built.{IsBuilt};
 
-use crate::closure::closed_rows;
 use crate::rows::direct_rows;
 use pst_base::NoMemory;
 use pst_scen::{Rows, Scenario};
+use pst_square::closed_rows;
 use std::alloc::Global;
 
 /// The square of the pairs of which the first must come before the second.

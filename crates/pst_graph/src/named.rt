@@ -3,12 +3,12 @@ ghost use Rattle.std.specs.Prelude.{◌≡◌, ◌≤◌, ◌<◌, ◌↔◌, �
 ghost use Rattle.pst_scen.specs.Flows.{IsAct, LeadsTo};
 ghost use Rattle.pst_scen.specs.declared.act.Filled.{Filled};
 ghost use Rattle.pst_order.specs.Facts.{IsLinked};
-ghost use Rattle.pst_graph.specs.Squares.{Adds, IsPair};
+ghost use Rattle.pst_square.specs.Squares.{Adds, IsPair};
 ghost use Rattle.pst_graph.specs.Named.{NamesEarlier, IsNaming, IsNamingIn, IsNamedBy, IsNamed};
 
 use crate::cause::act_at;
-use crate::square::Square;
 use pst_scen::{Filled, Flow, Link, Scenario};
+use pst_square::Square;
 
 /// Whether what a reference of this kind is linked to comes before its action.
 fn names_earlier(flow: Flow) -> bool

@@ -6,9 +6,9 @@ ghost use Rattle.pst_scen.specs.Refusals.{IsOnCycle, GroupClashes, IsParallelOrd
 ghost use Rattle.pst_order.specs.Facts.{IsLinked};
 
 use crate::cause::{clashes_alone, contend};
-use crate::next::next_in;
 use crate::parallel::{stand_parallel, stands_in_parallel};
 use pst_scen::{Plan, Scenario};
+use pst_square::next_in;
 
 /// The least action that must come before itself.
 pub(crate) fn find_cycle(scenario: &Scenario, plan: &Plan) -> Option<u32>

@@ -1,13 +1,14 @@
 //! The pairs of readers and those that replace what they read.
 ghost use Rattle.std.specs.Prelude.{◌≡◌, ◌≤◌, ◌<◌, ◌+◌, ◌↔◌, ℕ, length, IsTrue, IfOk};
-ghost use Rattle.pst_graph.specs.Squares.{Adds, IsPair, IsOnly, IsInRow};
-ghost use Rattle.pst_graph.specs.Listed.{ListsAll, HasFlow, UsesFlow, IsReplacing};
+ghost use Rattle.pst_square.specs.Squares.{Adds, IsPair, IsOnly, IsInRow};
+ghost use Rattle.pst_square.specs.Listed.{ListsAll};
+ghost use Rattle.pst_graph.specs.Listed.{HasFlow, UsesFlow, IsReplacing};
 
 use crate::cause::act_at;
 use crate::links::{is_flow, reads_replaced};
-use crate::square::Square;
 use pst_base::NoMemory;
 use pst_scen::{Filled, Flow, Scenario};
+use pst_square::Square;
 use std::alloc::Global;
 
 /// Whether a reference is of this kind.

@@ -6,18 +6,17 @@ ghost use Rattle.pst_scen.specs.Rows.{IsSquare, Has};
 ghost use Rattle.pst_scen.specs.Order.{Direct};
 ghost use Rattle.pst_order.specs.Built.{IsBuilt};
 ghost use Rattle.pst_graph.specs.Grouping.{MustDirectly};
-ghost use Rattle.pst_graph.specs.Squares.{Adds};
+ghost use Rattle.pst_square.specs.Squares.{Adds};
 
 use crate::behind::add_behinds;
 use crate::kinds::add_conflicts;
 use crate::named::add_named;
 use crate::replaced::add_replaced;
-use crate::spread::spread;
-use crate::square::Square;
 use crate::tables::Tables;
 use crate::usage::uses_of;
 use pst_base::NoMemory;
 use pst_scen::{Rows, Scenario};
+use pst_square::{Square, spread};
 use std::alloc::Global;
 
 /// The square of the pairs of actions that conflict.

@@ -1,12 +1,4 @@
-mod Lists
-mod Rows
-mod SeenLemmas
-mod Pairs
-mod Apart
-mod StepLemmas
-mod BodyRows
-mod Locals
-mod Searches
-mod Under
+pub mod Pairs
+pub mod Under
 mod TrialLemmas
 pub mod Crossing

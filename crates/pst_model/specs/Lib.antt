@@ -12,7 +12,4 @@ pub mod SoundBody
 pub mod Preorder
 pub mod Served
 pub mod Sound
-pub mod Seen
-pub mod Depth
-pub mod Numbered
 pub mod Trials

@@ -7,24 +7,11 @@
 
 mod action;
 mod activity;
-mod bodies;
 mod body;
 mod constraint;
-mod expression;
 mod laws;
 mod model;
 mod object;
-mod preorder;
-mod ranges;
-mod repeats;
-mod served;
-mod site;
-mod slots;
-mod soundness;
-mod steps;
-mod ties;
-mod traversals;
-mod types;
 
 pub use action::{ActionType, Claim, Content, Field, Reference};
 pub use activity::{Activity, Arm, Branch, Join, Step, Tie};
@@ -33,4 +20,3 @@ pub use constraint::{Constraint, Slot};
 pub use laws::trials_of_sound_models;
 pub use model::{Function, Model, Part, Pool, Serve};
 pub use object::{ObjectKind, ObjectType};
-pub use soundness::{pool_of, sound};

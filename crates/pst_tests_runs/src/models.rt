@@ -2,9 +2,9 @@ use pst_base::NameId;
 use pst_expr::{Domain, Expr, Span};
 use pst_model::{
     ActionType, Activity, Arm, BodyStep, Branch, Claim, Constraint, Content, Field, Function, Join,
-    Model, ObjectKind, ObjectType, Part, Pool, Reference, Serve, Slot, Source, Step, Tie, pool_of,
-    sound,
+    Model, ObjectKind, ObjectType, Part, Pool, Reference, Serve, Slot, Source, Step, Tie,
 };
+use pst_sound::{pool_of, sound};
 use std::alloc::{AllocError, Global};
 use std::marker::{Send, Sync};
 use std::test::Fail;

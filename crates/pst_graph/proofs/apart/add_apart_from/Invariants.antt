@@ -1,4 +1,4 @@
-use Rattle.pst_graph.specs.Squares.{Adds, IsOneOf}
+use Rattle.pst_square.specs.Squares.{Adds, IsOneOf}
 use Rattle.pst_graph.specs.Uses.{IsApartFrom}
 use Rattle.pst_graph.proofs.apart.add_apart_from.Given as goal
 

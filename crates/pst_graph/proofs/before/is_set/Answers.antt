@@ -1,7 +1,8 @@
 use Rattle.std.proofs.Common.{◌≤◌, arith}
 use Rattle.std.proofs.lemmas.Bool.Decides.{nat_tests}
 use Rattle.pst_graph.proofs.Climbs.{not_true}
-use Rattle.pst_graph.proofs.Bits.{no_high_bit, bit_test}
+use Rattle.pst_square.proofs.Bits.{bit_test}
+use Rattle.pst_graph.proofs.Bits.{no_high_bit}
 use Rattle.pst_graph.proofs.before.is_set.Goals as goal
 
 pub returns-then-bit-ge64 : goal.returns-then-bit-ge64

@@ -1,7 +1,7 @@
 use Rattle.std.proofs.Common.{◌≡◌, ℕ, refl, get_or, arith}
-use Rattle.pst_graph.specs.Squares.{IsInRange, IsInRow}
+use Rattle.pst_square.specs.Squares.{IsInRange, IsInRow}
 use Rattle.pst_graph.specs.Tables.{IsBehind, leaf_count}
-use Rattle.pst_graph.proofs.Adding.{adds_none, adds_as}
+use Rattle.pst_square.proofs.Adding.{adds_none, adds_as}
 use Rattle.pst_graph.proofs.Bits.{no_true}
 use Rattle.pst_graph.proofs.BehindRange.{behind_sequence, behind_kept, behind_range, range_behind}
 use Rattle.pst_graph.proofs.behind.add_behind.Goals as goal

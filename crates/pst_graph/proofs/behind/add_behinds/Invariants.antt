@@ -1,4 +1,4 @@
-use Rattle.pst_graph.specs.Squares.{Adds, IsAbove}
+use Rattle.pst_square.specs.Squares.{Adds, IsAbove}
 use Rattle.pst_graph.specs.Tables.{StandsBefore}
 use Rattle.pst_graph.proofs.behind.add_behinds.Given as goal
 

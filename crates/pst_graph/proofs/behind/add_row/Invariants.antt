@@ -1,7 +1,7 @@
 use Rattle.std.proofs.Common.{◌≡◌, ◌<◌, length}
 use Rattle.pst_scen.specs.declared.rows.Rows.{Rows}
 use Rattle.pst_graph.specs.Over.{Over}
-use Rattle.pst_graph.specs.Squares.{Adds, IsInRow}
+use Rattle.pst_square.specs.Squares.{Adds, IsInRow}
 use Rattle.pst_graph.specs.Tables.{IsBehind}
 use Rattle.pst_graph.proofs.behind.add_row.Given as goal
 

@@ -1,4 +1,4 @@
-use Rattle.pst_graph.specs.Squares.{Adds, IsOneOf}
+use Rattle.pst_square.specs.Squares.{Adds, IsOneOf}
 use Rattle.pst_graph.specs.Uses.{IsExcludedAt}
 use Rattle.pst_graph.proofs.kinds.add_kind.Given as goal
 

@@ -1,4 +1,4 @@
-use Rattle.pst_graph.specs.Squares.{Adds, IsOneOf}
+use Rattle.pst_square.specs.Squares.{Adds, IsOneOf}
 use Rattle.pst_graph.specs.Named.{IsNamedBy}
 use Rattle.pst_graph.proofs.named.add_named.Given as goal
 

@@ -1,5 +1,5 @@
 use Rattle.pst_graph.specs.Named.{IsNaming}
-use Rattle.pst_graph.proofs.Adding.{adds_none}
+use Rattle.pst_square.proofs.Adding.{adds_none}
 use Rattle.pst_graph.proofs.named.add_naming.Goals as goal
 
 pub returns-in_default : goal.returns-in_default

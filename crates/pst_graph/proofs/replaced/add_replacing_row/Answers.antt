@@ -2,7 +2,7 @@ use Rattle.std.proofs.Common.{◌≤◌, length, arith}
 use Rattle.std.proofs.lemmas.Bool.Decides.{nat_tests}
 use Rattle.pst_scen.specs.declared.act.Flow.TheVariants.{StateOut}
 use Rattle.pst_graph.specs.Listed.{UsesFlow, IsReplacing}
-use Rattle.pst_graph.proofs.Lists.{listed_row}
+use Rattle.pst_square.proofs.Lists.{listed_row}
 use Rattle.pst_graph.proofs.replaced.add_replacing_row.Goals as goal
 
 pub returns : goal.returns

@@ -1,5 +1,5 @@
 use Rattle.std.proofs.Common.{get_or}
-use Rattle.pst_graph.specs.Squares.{Adds, IsInRow, IsOneOf}
+use Rattle.pst_square.specs.Squares.{Adds, IsInRow, IsOneOf}
 use Rattle.pst_graph.specs.Listed.{IsReplacing}
 use Rattle.pst_graph.proofs.replaced.add_replacing_rows.Given as goal
 

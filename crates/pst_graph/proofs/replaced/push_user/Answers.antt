@@ -1,6 +1,7 @@
 use Rattle.std.proofs.Common.{ℕ, List, sym, subst, ◌+◌}
-use Rattle.pst_graph.specs.Listed.{ListsAll, UsesFlow}
-use Rattle.pst_graph.proofs.Lists.{lists_more}
+use Rattle.pst_square.specs.Listed.{ListsAll}
+use Rattle.pst_graph.specs.Listed.{UsesFlow}
+use Rattle.pst_square.proofs.Lists.{lists_more}
 use Rattle.pst_graph.proofs.replaced.push_user.Goals as goal
 
 pub returns-in_ok-push : goal.returns-in_ok-push

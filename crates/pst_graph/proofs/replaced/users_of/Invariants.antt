@@ -1,4 +1,5 @@
-use Rattle.pst_graph.specs.Listed.{ListsAll, UsesFlow}
+use Rattle.pst_square.specs.Listed.{ListsAll}
+use Rattle.pst_graph.specs.Listed.{UsesFlow}
 use Rattle.pst_graph.proofs.replaced.users_of.Given as goal
 
 abbrev pub invariant-loop-a : goal.invariant-loop-a

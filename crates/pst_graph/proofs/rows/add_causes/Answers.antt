@@ -1,6 +1,6 @@
 use Rattle.std.proofs.Common.{List, sym, subst}
 use Rattle.pst_scen.specs.declared.tree.Node.{Node}
-use Rattle.pst_graph.specs.Squares.{Adds}
+use Rattle.pst_square.specs.Squares.{Adds}
 use Rattle.pst_graph.specs.Tables.{AreNodesNumbered, StandsBefore}
 use Rattle.pst_graph.proofs.LeafNumbers.{built_numbered}
 use Rattle.pst_graph.proofs.DirectRows.{causes_added}

@@ -3,7 +3,7 @@ use Rattle.pst_scen.specs.declared.rows.Rows.{Rows}
 use Rattle.pst_scen.specs.Conflicts.{Conflict}
 use Rattle.pst_scen.specs.Rows.{Has}
 use Rattle.pst_graph.specs.declared.uses.Use.{Use}
-use Rattle.pst_graph.specs.Squares.{IsBlank, Adds}
+use Rattle.pst_square.specs.Squares.{IsBlank, Adds}
 use Rattle.pst_graph.specs.Uses.{AreUses, AreApartIn}
 use Rattle.pst_graph.proofs.UsesApart.{use_inside, all_conflicts}
 use Rattle.pst_graph.proofs.rows.conflict_rows.Goals as goal

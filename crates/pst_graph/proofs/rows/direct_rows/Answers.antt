@@ -2,8 +2,8 @@ use Rattle.std.proofs.Common.{◌≡◌, ◌↔◌, ℕ, length, sym, subst, ap,
 use Rattle.pst_scen.specs.declared.rows.Rows.{Rows}
 use Rattle.pst_scen.specs.Rows.{Has}
 use Rattle.pst_graph.specs.Grouping.{MustDirectly}
-use Rattle.pst_graph.specs.Squares.{IsBlank}
-use Rattle.pst_graph.specs.Spread.{AreOwn}
+use Rattle.pst_square.specs.Squares.{IsBlank}
+use Rattle.pst_square.specs.Spread.{AreOwn}
 use Rattle.pst_graph.proofs.DirectRows.{numbers_own, spread_direct}
 use Rattle.pst_graph.proofs.rows.direct_rows.Goals as goal
 

@@ -1,5 +1,0 @@
-use Rattle.pst_graph.specs.Bits.{GoThrough}
-use Rattle.pst_graph.proofs.closure.go_through.Given as goal
-
-abbrev pub invariant-loop-a : goal.invariant-loop-a
-invariant-loop-a l = GoThrough l.row l.fn.words l.words l.a l.m

@@ -1,5 +1,0 @@
-use Rattle.pst_graph.proofs.Joins.{JoinedBelow}
-use Rattle.pst_graph.proofs.closure.join_row.Given as goal
-
-abbrev pub invariant-loop-w : goal.invariant-loop-w
-invariant-loop-w l = JoinedBelow l.row l.fn.words l.words l.a l.m l.w

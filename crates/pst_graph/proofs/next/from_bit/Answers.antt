@@ -1,5 +1,0 @@
-use Rattle.pst_graph.proofs.Nexts.{shifted_has}
-use Rattle.pst_graph.proofs.next.from_bit.Goals as goal
-
-pub returns : goal.returns
-returns c = λ k. shifted_has c.args.word c.args.bit k c.ranges.word.fits

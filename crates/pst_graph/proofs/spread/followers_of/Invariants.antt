@@ -1,6 +1,0 @@
-use Rattle.pst_graph.specs.Listed.{ListsAll}
-use Rattle.pst_graph.specs.Spread.{IsFollower}
-use Rattle.pst_graph.proofs.spread.followers_of.Given as goal
-
-abbrev pub invariant-loop-b : goal.invariant-loop-b
-invariant-loop-b l = ListsAll (IsFollower l.groups) l.b l.followers.items

@@ -1,5 +1,0 @@
-use Rattle.pst_graph.proofs.Squares.{pair_added}
-use Rattle.pst_graph.proofs.square.Square.add.Goals as goal
-
-pub returns : goal.returns
-returns c = pair_added c.args.self.now c.add_word.new.self c.args.a c.args.b c.bit.result c.bit.ensures c.add_word.ensures

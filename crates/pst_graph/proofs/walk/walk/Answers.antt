@@ -1,6 +1,0 @@
-use Rattle.pst_graph.proofs.Walking.{all_closed}
-use Rattle.pst_graph.proofs.walk.walk.Goals as goal
-
-pub returns-clause-closed : goal.returns-clause-closed
-returns-clause-closed c = λ whole.
-    all_closed c.args.count c.args.row c.args.base.now c.steps.words c.steps.stages c.steps.invariant.walked (c.are_finished.ensures.0 whole)

@@ -1,5 +1,0 @@
-use Rattle.pst_graph.proofs.Walking.{without_has}
-use Rattle.pst_graph.proofs.walk.without.Goals as goal
-
-pub returns : goal.returns
-returns c = λ k k_in. without_has c.args.word c.args.other k c.ranges.other.fits k_in

@@ -1,0 +1,9 @@
+use Rattle.std.proofs.Common.{◌<◌, ℕ, get_or}
+use Rattle.pst_square.specs.Spread.{IsSpreading, IsGathered}
+use Rattle.pst_square.proofs.spreading.gather_row.Given as goal
+
+abbrev pub invariant-loop-i : goal.invariant-loop-i
+invariant-loop-i l = record {
+  spreading : IsSpreading l.initial.square l.square l.groups l.a;
+  gathered : (i : ℕ) → i < l.i → IsGathered l.initial.square l.square l.groups l.a (get_or l.followers i 0);
+}
