@@ -29,7 +29,8 @@ use Rattle.pst_reading.specs.Kinds.{is_mark, is_name, next_is}
 use Rattle.pst_reading.specs.Parser.{Parser, Done, followed_by, next, mark_by, if_mark}
 use Rattle.pst_reading.specs.Lists.{list_by}
 use Rattle.pst_reading.specs.Options.{option_by}
-use Rattle.pst_parse_act.specs.Activities.{bind_by, join_by, begins_join, guard_by, begins_guard, arm_label_by, with_by, do_by, handle_by, statement_row, statements_by, sequence_word_by, sequence_by, together_by, branch_by, branch_row, branches_by, select_by, repeated_by, else_by, maybe_else_by, if_by, arm_by, arm_row, arms_by, match_by, bound_by, core_by, empty_by, labeled_by, traversed_by, named_by, plain_by, statement_by, statement_at, activity_by, activity_at}
+use Rattle.pst_parse_step.specs.ActivityParts.{bind_by, join_by, begins_join, guard_by, begins_guard, arm_label_by, with_by, do_by, handle_by, bound_by}
+use Rattle.pst_parse_act.specs.Activities.{statement_row, statements_by, sequence_word_by, sequence_by, together_by, branch_by, branch_row, branches_by, select_by, repeated_by, else_by, maybe_else_by, if_by, arm_by, arm_row, arms_by, match_by, core_by, empty_by, labeled_by, traversed_by, named_by, plain_by, statement_by, statement_at, activity_by, activity_at}
 use Rattle.pst_parse_part.specs.Names.{type_name_by}
 use Rattle.pst_reading.proofs.Tokens.{mark_is_so}
 use Rattle.pst_reading.proofs.Lists.{StartsPart}
@@ -42,8 +43,9 @@ use Rattle.pst_parse_expr.proofs.ExprAgain.{expr_again}
 use Rattle.pst_parse_expr.proofs.ConstraintAgain.{StopsSet, constraint_again}
 use Rattle.pst_parse_act.proofs.ActivityRows.{spell_word, counts_word, list_of_statements, statements_spelled, statements_counted, statements_are, all_statements, list_of_branches, branches_spelled, branches_counted, branches_are, all_branches, list_of_arms, arms_spelled, arms_counted, arms_are, all_arms}
 use Rattle.pst_parse_expr.proofs.SharedLaws.{IsAny}
-use Rattle.pst_parse_act.proofs.ActivityEnds.{StopsCore, StopsStatement, is_handle, core_starts, statement_starts, guard_starts, branch_starts, arm_starts, join_starts, with_starts, some_statement, some_branch, some_arm}
-use Rattle.pst_parse_act.proofs.ActivityPartsAgain.{bind_again, join_again, guard_again, arm_label_again, with_again}
+use Rattle.pst_parse_step.proofs.ActivityPartEnds.{guard_starts, join_starts, with_starts}
+use Rattle.pst_parse_act.proofs.ActivityEnds.{StopsCore, StopsStatement, is_handle, core_starts, statement_starts, branch_starts, arm_starts, some_statement, some_branch, some_arm}
+use Rattle.pst_parse_step.proofs.ActivityPartsAgain.{bind_again, join_again, guard_again, arm_label_again, with_again}
 use Rattle.pst_parse_expr.proofs.Takes.{expr_takes}
 use Rattle.pst_reading.proofs.Peeking.{takes}
 use Rattle.pst_parse_part.specs.Times.{TimesTree, times_by}

@@ -4,19 +4,16 @@ use Rattle.pst_token.specs.declared.kind.Kind.TheVariants as kind
 use Rattle.pst_token.specs.declared.token.Token.{Token}
 use Rattle.pst_ast.specs.declared.activity.TogetherWord.TheVariants as the_together_word
 use Rattle.pst_ast.specs.Marks.{mark, spell_option}
-use Rattle.pst_ast.specs.ActivityTree.{StatementTree, StatementEmpty, StatementLabeled, StatementPlain, CoreTree, CoreDo, CoreHandle, CoreSequence, CoreTogether, CoreSelect, CoreRepeat, CoreIf, CoreIfElse, CoreMatch, CoreBind, BranchTree, MakeBranch, ArmTree, MakeArm, GuardTree, GuardCondition, GuardWeight, WeightTree, MakeWeight, ArmLabelRanges, ArmLabelDefault, JoinTree, JoinBranch, JoinNothing, JoinSelect, WithTree, WithNothing, WithSet, MakeBind}
-use Rattle.pst_ast.specs.ActivitySpelling.{spell_statement, spell_core, spell_branch, spell_arm, spell_with, spell_join, spell_weight, spell_guard, spell_arm_label}
-use Rattle.pst_ast.specs.ActivityProper.{with_ends_open, statement_ends_open, core_ends_open}
+use Rattle.pst_ast.specs.ActivityTree.{StatementTree, StatementEmpty, StatementLabeled, StatementPlain, CoreTree, CoreDo, CoreHandle, CoreSequence, CoreTogether, CoreSelect, CoreRepeat, CoreIf, CoreIfElse, CoreMatch, CoreBind, BranchTree, MakeBranch, ArmTree, MakeArm, ArmLabelRanges, ArmLabelDefault, MakeBind}
+use Rattle.pst_ast.specs.ActivitySpelling.{spell_statement, spell_core, spell_branch, spell_arm, spell_guard, spell_arm_label}
+use Rattle.pst_ast.specs.ActivityProper.{statement_ends_open, core_ends_open}
 use Rattle.pst_reading.specs.Kinds.{is_mark, is_name, next_is}
 use Rattle.pst_reading.specs.Parser.{next}
-use Rattle.pst_parse_act.specs.Activities.{begins_join, begins_guard}
-use Rattle.pst_parse_expr.specs.Constraints.{is_at}
+use Rattle.pst_parse_step.specs.ActivityParts.{begins_guard}
 use Rattle.pst_parse_expr.proofs.Stops.{IsNo}
+use Rattle.pst_parse_step.proofs.ActivityPartEnds.{guard_starts}
 
 -- behind a part that ends with an open `if` no `else` stands
-abbrev pub StopsWith : WithTree → Option Token → Type 0
-StopsWith w next = with_ends_open w ≡ true → IsNo kind.Else next
-
 abbrev pub StopsCore : CoreTree → Option Token → Type 0
 StopsCore c next = core_ends_open c ≡ true → IsNo kind.Else next
 
@@ -63,11 +60,6 @@ statement_starts (StatementEmpty p) rest = record { no_end = refl; no_else = ref
 statement_starts (StatementLabeled l c) rest = record { no_end = refl; no_else = refl; no_guard = refl }
 statement_starts (StatementPlain c) rest = let s = core_starts c rest in record { no_end = s.no_end; no_else = s.no_else; no_guard = s.no_guard }
 
-pub guard_starts : (g : GuardTree) (rest : List Token) → (begins_guard (next (spell_guard g ++ rest)) ≡ true) × IsNo kind.RightBrace (next (spell_guard g ++ rest)) × IsNo kind.Else (next (spell_guard g ++ rest))
-unfolding is_mark begins_guard
-guard_starts (GuardCondition l e r w c) rest = (refl, refl, refl)
-guard_starts (GuardWeight (MakeWeight l e r) c) rest = (refl, refl, refl)
-
 pub branch_starts : (b : BranchTree) (rest : List Token) → IsNo kind.RightBrace (next (spell_branch b ++ rest)) × IsNo kind.Else (next (spell_branch b ++ rest))
 branch_starts (MakeBranch None s) rest = let w = statement_starts s rest in (w.no_end, w.no_else)
 branch_starts (MakeBranch (Some g) s) rest =
@@ -80,26 +72,7 @@ unfolding is_mark
 arm_starts (MakeArm (ArmLabelRanges l rs r) c s) rest = (refl, refl)
 arm_starts (MakeArm (ArmLabelDefault p) c s) rest = (refl, refl)
 
-pub join_starts : (j : JoinTree) (rest : List Token) → begins_join (next (spell_join j ++ rest)) ≡ true
-unfolding is_mark begins_join
-join_starts (JoinBranch w l n r) rest = refl
-join_starts (JoinNothing p) rest = refl
-join_starts (JoinSelect w l e r) rest = refl
-
-pub weight_starts : (w : WeightTree) (rest : List Token) → is_at kind.LeftBracket (next (spell_weight w ++ rest)) ≡ true
-unfolding is_mark
-weight_starts (MakeWeight l e r) rest = refl
-
-pub with_starts : (w : WithTree) (rest : List Token) → is_at kind.ColonColon (next (spell_with w ++ rest)) ≡ false
-unfolding is_mark
-with_starts (WithNothing p) rest = refl
-with_starts (WithSet p s) rest = refl
-
 -- ---- they are not empty
-
-pub some_with : (w : WithTree) → 1 ≤ length (spell_with w)
-some_with (WithNothing p) = omega arith
-some_with (WithSet p s) = omega arith
 
 pub some_core : (c : CoreTree) → 1 ≤ length (spell_core c)
 some_core (CoreDo p n w) = omega arith

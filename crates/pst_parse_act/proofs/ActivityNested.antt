@@ -1,27 +1,14 @@
--- Sets of constraints and statements within other parts.
+-- Statements within other parts.
 use Rattle.std.proofs.Common.{◌≡◌, ℕ, suc, ◌<◌, ◌≤◌, List, length, subst}
 use Rattle.pst_token.specs.declared.token.Token.{Token}
 use Rattle.pst_ast.specs.declared.fault.SyntaxFault.{SyntaxFault}
 use Rattle.pst_ast.specs.declared.fault.SyntaxFault.TheVariants as the_fault
-use Rattle.pst_ast.specs.ConstraintTree.{ConstraintTree}
 use Rattle.pst_ast.specs.ActivityTree.{StatementTree}
 use Rattle.pst_reading.specs.Parser.{Outcome}
 use Rattle.pst_reading.specs.Gives.{SettlesFrom, FailsFrom}
 use Rattle.pst_reading.proofs.Optional.{smaller, smaller_fault}
-use Rattle.pst_parse_expr.specs.Constraints.{constraint_at}
-use Rattle.pst_parse_expr.specs.ConstraintFamilies.{set_family}
 use Rattle.pst_parse_act.specs.Activities.{statement_at}
 use Rattle.pst_parse_act.specs.ActivityFamilies.{statement_family}
-
-pub set_here : (tokens : List Token) (at d : ℕ) (o : Outcome ConstraintTree) → SettlesFrom (set_family d) tokens at at o → SettlesFrom (λ m n. constraint_at (suc m) d) tokens at at o
-unfolding constraint_at
-set_here tokens at d o h = h
-
-pub set_here_fails : (tokens : List Token) (at d : ℕ) (e : SyntaxFault) → FailsFrom (set_family d) tokens at at e → FailsFrom (λ m n. constraint_at (suc m) d) tokens at at e
-unfolding constraint_at
-set_here_fails tokens at d (the_fault.At k) h = h
-set_here_fails tokens at d (the_fault.Deep k) h = h
-set_here_fails tokens at d the_fault.NoMemory h = h
 
 -- a statement is one derivation more
 statement_here : (tokens : List Token) (at d : ℕ) (o : Outcome StatementTree) → SettlesFrom (statement_family (suc d)) tokens at at o → SettlesFrom (λ m n. statement_at (suc m) d) tokens at at o

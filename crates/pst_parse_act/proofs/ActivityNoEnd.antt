@@ -2,58 +2,20 @@
 use Rattle.std.proofs.Common.{List, [], ◌∷◌, Option, Some, None}
 use Rattle.std.specs.List.{flat_map}
 use Rattle.pst_ast.specs.declared.shared.LabelNode.{LabelNode}
-use Rattle.pst_ast.specs.declared.activity.NextEnd.{NextEnd}
 use Rattle.pst_ast.specs.declared.activity.TogetherWord.TheVariants as the_together_word
 use Rattle.pst_ast.specs.Marks.{spell_option}
-use Rattle.pst_ast.specs.ExpressionSpelling.{spell_expr, spell_ranges}
-use Rattle.pst_ast.specs.SharedSpelling.{spell_label, spell_names, spell_type_name}
-use Rattle.pst_ast.specs.ActivityTree.{ActivityTree, MakeActivity, StatementTree, StatementEmpty, StatementLabeled, StatementPlain, CoreTree, CoreDo, CoreHandle, CoreSequence, CoreTogether, CoreSelect, CoreRepeat, CoreIf, CoreIfElse, CoreMatch, CoreBind, BranchTree, MakeBranch, ArmTree, MakeArm, GuardTree, GuardCondition, GuardWeight, WeightTree, MakeWeight, ArmLabelTree, ArmLabelRanges, ArmLabelDefault, JoinTree, JoinBranch, JoinNothing, JoinSelect, WithTree, WithNothing, WithSet, BindTree, MakeBind, OtherEndsTree, OtherEndsOne, OtherEndsSeveral, StatementRow, NoStatementRow, MoreStatementRow, BranchRow, NoBranchRow, MoreBranchRow, ArmRow, NoArmRow, MoreArmRow}
-use Rattle.pst_ast.specs.ActivitySpelling.{spell_activity, spell_statement, spell_core, spell_branch, spell_arm, spell_statement_row, spell_branch_row, spell_arm_row, spell_with, spell_join, spell_next_end, spell_other_ends, spell_bind, spell_weight, spell_guard, spell_arm_label}
+use Rattle.pst_ast.specs.ExpressionSpelling.{spell_expr}
+use Rattle.pst_ast.specs.SharedSpelling.{spell_label, spell_type_name}
+use Rattle.pst_ast.specs.ActivityTree.{ActivityTree, MakeActivity, StatementTree, StatementEmpty, StatementLabeled, StatementPlain, CoreTree, CoreDo, CoreHandle, CoreSequence, CoreTogether, CoreSelect, CoreRepeat, CoreIf, CoreIfElse, CoreMatch, CoreBind, BranchTree, MakeBranch, ArmTree, MakeArm, StatementRow, NoStatementRow, MoreStatementRow, BranchRow, NoBranchRow, MoreBranchRow, ArmRow, NoArmRow, MoreArmRow}
+use Rattle.pst_ast.specs.ActivitySpelling.{spell_activity, spell_statement, spell_core, spell_branch, spell_arm, spell_statement_row, spell_branch_row, spell_arm_row, spell_join, spell_guard, spell_arm_label}
 use Rattle.pst_reading.proofs.Whole.{NoEnd, both_free}
-use Rattle.pst_parse_expr.proofs.NoEnd.{expr_free, ranges_free}
-use Rattle.pst_parse_expr.proofs.ConstraintNoEnd.{set_free}
-use Rattle.pst_parse_part.proofs.NoEnd.{names_free, type_name_free}
-
-next_ends_free : (es : List NextEnd) → NoEnd (flat_map spell_next_end es)
-next_ends_free [] = tt
-next_ends_free (e ∷ es) = (λ f. cc, (λ f. cc, (λ f. cc, (λ f. cc, next_ends_free es))))
+use Rattle.pst_parse_expr.proofs.NoEnd.{expr_free}
+use Rattle.pst_parse_part.proofs.NoEnd.{type_name_free}
+use Rattle.pst_parse_step.proofs.ActivityPartsNoEnd.{with_free, join_free, bind_free, guard_free, arm_label_free}
 
 label_free : (o : Option LabelNode) → NoEnd (spell_option spell_label o)
 label_free None = tt
 label_free (Some n) = (λ f. cc, (λ f. cc, tt))
-
-with_free : (w : WithTree) → NoEnd (spell_with w)
-with_free (WithNothing p) = (λ f. cc, tt)
-with_free (WithSet p s) = (λ f. cc, set_free s)
-
-join_free : (o : Option JoinTree) → NoEnd (spell_option spell_join o)
-join_free None = tt
-join_free (Some (JoinBranch w l names r)) = (λ f. cc, (λ f. cc, both_free (spell_names names) _ (names_free names) (λ f. cc, tt)))
-join_free (Some (JoinNothing p)) = (λ f. cc, tt)
-join_free (Some (JoinSelect w l e r)) = (λ f. cc, (λ f. cc, both_free (spell_expr e) _ (expr_free e) (λ f. cc, tt)))
-
-others_free : (o : OtherEndsTree) → NoEnd (spell_other_ends o)
-others_free (OtherEndsOne e) = (λ f. cc, (λ f. cc, (λ f. cc, tt)))
-others_free (OtherEndsSeveral l e es r) = (λ f. cc, (λ f. cc, (λ f. cc, (λ f. cc, both_free (flat_map spell_next_end es) _ (next_ends_free es) (λ f. cc, tt)))))
-
-bind_free : (b : BindTree) → NoEnd (spell_bind b)
-bind_free (MakeBind b e o s) = (λ f. cc, (λ f. cc, (λ f. cc, (λ f. cc, both_free (spell_other_ends o) _ (others_free o) (λ f. cc, tt)))))
-
-weight_free : (w : WeightTree) → NoEnd (spell_weight w)
-weight_free (MakeWeight l e r) = (λ f. cc, both_free (spell_expr e) _ (expr_free e) (λ f. cc, tt))
-
-maybe_weight_free : (o : Option WeightTree) → NoEnd (spell_option spell_weight o)
-maybe_weight_free None = tt
-maybe_weight_free (Some w) = weight_free w
-
-guard_free : (o : Option GuardTree) → NoEnd (spell_option spell_guard o)
-guard_free None = tt
-guard_free (Some (GuardCondition l e r w c)) = (λ f. cc, both_free (spell_expr e) _ (expr_free e) (λ f. cc, both_free (spell_option spell_weight w) _ (maybe_weight_free w) (λ f. cc, tt)))
-guard_free (Some (GuardWeight w c)) = both_free (spell_weight w) _ (weight_free w) (λ f. cc, tt)
-
-arm_label_free : (a : ArmLabelTree) → NoEnd (spell_arm_label a)
-arm_label_free (ArmLabelRanges l rs z) = (λ f. cc, both_free (spell_ranges rs) _ (ranges_free rs) (λ f. cc, tt))
-arm_label_free (ArmLabelDefault p) = (λ f. cc, tt)
 
 mutual
   statement_free : (s : StatementTree) → NoEnd (spell_statement s)

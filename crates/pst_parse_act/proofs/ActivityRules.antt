@@ -19,7 +19,8 @@ use Rattle.pst_reading.proofs.Reaching.{Reaches, begin, step, mark_step, name_st
 use Rattle.pst_reading.proofs.Optional.{row_settles, row_fails}
 use Rattle.pst_parse_expr.specs.Constraints.{outermost_at}
 use Rattle.pst_parse_expr.specs.ConstraintFamilies.{outermost_family}
-use Rattle.pst_parse_act.specs.ActivityFamilies.{arm_label_family, with_family, sequence_family, branch_family, select_family, repeated_family, if_family, arm_family, match_family, core_family, named_family, plain_family, statement_family, together_family, activity_family, maybe_join_family, maybe_guard_family, maybe_sequence_word_family, statements_family, branches_family, arms_family, statement_row_family, branch_row_family, arm_row_family}
+use Rattle.pst_parse_step.specs.ActivityPartFamilies.{arm_label_family, with_family, maybe_join_family, maybe_guard_family}
+use Rattle.pst_parse_act.specs.ActivityFamilies.{sequence_family, branch_family, select_family, repeated_family, if_family, arm_family, match_family, core_family, named_family, plain_family, statement_family, together_family, activity_family, maybe_sequence_word_family, statements_family, branches_family, arms_family, statement_row_family, branch_row_family, arm_row_family}
 use Rattle.pst_parse_act.proofs.ActivityNested.{statement_nested, statement_nested_fails}
 use Rattle.pst_parse_act.proofs.ActivityLooks.{no_else_behind, else_behind}
 use Rattle.pst_parse_part.specs.TimesFamilies.{times_family}

@@ -1,14 +1,10 @@
 pub mod ActivityRows
 pub mod ActivityExplains
 pub mod ActivityEnds
-pub mod ActivityPartsAgain
 pub mod ActivityAgain
 pub mod ActivityNoEnd
 pub mod ActivityAnswering
-pub mod ActivityPartRules
 pub mod ActivityViews
 pub mod ActivityLooks
-pub mod ActivityLabelRules
 pub mod ActivityNested
-pub mod ActivityTraversalRules
 pub mod ActivityRules

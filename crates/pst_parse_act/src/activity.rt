@@ -8,13 +8,13 @@ ghost use Rattle.pst_ast.specs.Marks.{together_word_kind};
 ghost use Rattle.pst_reading.specs.Reads.{Reads, ReadsOpen};
 ghost use Rattle.pst_parse_act.specs.ActivityFamilies.{sequence_word_family, maybe_sequence_word_family, sequence_family, together_family, branch_family, branches_family, select_family, repeated_family, if_family, arm_family, arms_family, match_family, core_family, empty_family, named_family, plain_family, statement_family, statements_family, view_statements, view_branches, view_arms};
 
-use crate::labels::{arm_label, maybe_guard};
-use crate::parts::maybe_join;
-use crate::traversal::{bound_core, do_core, handle_core, with_part};
 use pst_ast::{ArmNode, BranchNode, CoreNode, LabelNode, StatementNode, SyntaxFault, TogetherWord};
 use pst_base::Place;
 use pst_parse_expr::shared::outermost;
 use pst_parse_part::times::{Times, read_times};
+use pst_parse_step::labels::{arm_label, maybe_guard};
+use pst_parse_step::parts::maybe_join;
+use pst_parse_step::traversal::{bound_core, do_core, handle_core, with_part};
 use pst_reading::{boxed, expect, expect_name, is, is_name, push};
 use pst_token::{Kind, Token};
 use std::alloc::Global;

@@ -1,0 +1,2 @@
+pub mod ActivityParts
+pub mod ActivityPartFamilies
