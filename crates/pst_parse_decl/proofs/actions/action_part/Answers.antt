@@ -6,7 +6,8 @@ use Rattle.pst_ast.specs.DeclarationView.{view_field, view_reference, view_claim
 use Rattle.pst_parse_part.proofs.Maybe.{choose_next}
 use Rattle.pst_parse_decl.proofs.actions.action_part.Goals as goal
 use Rattle.pst_parse_decl.specs.Actions.{begins_reference, begins_claim}
-use Rattle.pst_parse_decl.specs.Families.{members_family, claim_family, constraint_declaration_family, action_part_family, field_family, reference_family}
+use Rattle.pst_parse_decl.specs.Families.{constraint_declaration_family, action_part_family}
+use Rattle.pst_parse_member.specs.Families.{members_family, claim_family, field_family, reference_family}
 use Rattle.pst_parse_decl.specs.Inner.{activity_parser, body_parser, activity_parser_family, body_parser_family}
 use Rattle.pst_reading.proofs.Reaching.{begin, step, choose, ends, fails}
 use Rattle.pst_reading.specs.Parser.{Done}

@@ -2,7 +2,8 @@ use Rattle.pst_ast.specs.DeclarationView.{view_members, view_action, view_object
 use Rattle.pst_parse_part.proofs.Maybe.{choose_next}
 use Rattle.pst_parse_decl.proofs.components.component_part.Goals as goal
 use Rattle.pst_parse_decl.specs.Components.{begins_action, begins_object}
-use Rattle.pst_parse_decl.specs.Families.{component_part_family, members_family, enum_family, function_family, pool_bind_family, action_family, pool_family, object_family}
+use Rattle.pst_parse_decl.specs.Families.{component_part_family, action_family, object_family}
+use Rattle.pst_parse_member.specs.Families.{members_family, enum_family, function_family, pool_bind_family, pool_family}
 use Rattle.pst_parse_decl.specs.Inner.{activity_parser, body_parser}
 use Rattle.pst_reading.proofs.Reaching.{begin, step, choose, ends, fails}
 use Rattle.pst_token.specs.declared.kind.Kind.TheVariants as kind

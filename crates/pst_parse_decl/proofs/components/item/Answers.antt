@@ -1,6 +1,7 @@
 use Rattle.pst_ast.specs.DeclarationView.{view_object, view_enum, view_function, view_component}
 use Rattle.pst_parse_decl.proofs.components.item.Goals as goal
-use Rattle.pst_parse_decl.specs.Families.{enum_family, function_family, component_family, item_family, object_family}
+use Rattle.pst_parse_decl.specs.Families.{component_family, item_family, object_family}
+use Rattle.pst_parse_member.specs.Families.{enum_family, function_family}
 use Rattle.pst_parse_decl.specs.Inner.{activity_parser, body_parser}
 use Rattle.pst_reading.proofs.Reaching.{begin, step, choose, ends, fails}
 use Rattle.pst_token.specs.declared.kind.Kind.TheVariants as kind

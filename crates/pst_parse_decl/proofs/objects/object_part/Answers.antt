@@ -1,7 +1,8 @@
 use Rattle.pst_ast.specs.ConstraintView.{view_constraint_declaration}
 use Rattle.pst_ast.specs.DeclarationView.{view_field}
 use Rattle.pst_parse_decl.proofs.objects.object_part.Goals as goal
-use Rattle.pst_parse_decl.specs.Families.{constraint_declaration_family, field_family, object_part_family}
+use Rattle.pst_parse_decl.specs.Families.{constraint_declaration_family, object_part_family}
+use Rattle.pst_parse_member.specs.Families.{field_family}
 use Rattle.pst_reading.proofs.Reaching.{begin, step, choose, ends, fails}
 use Rattle.pst_token.specs.declared.kind.Kind.TheVariants as kind
 use Rattle.std.proofs.Common.{arith, rules, true, false}
