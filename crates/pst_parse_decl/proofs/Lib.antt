@@ -1,3 +1,4 @@
+pub mod Boxing
 pub mod Taken
 pub mod Behind
 pub mod ObjectsExplain

@@ -12,13 +12,14 @@ ghost use Rattle.pst_reading.specs.Reads.{Reads};
 ghost use Rattle.pst_token.specs.declared.kind.Kind.TheVariants as kind;
 ghost use Rattle.std.specs.Prelude.{◌≤◌, ◌-◌, ◌≡◌, length, drop};
 
+use crate::boxes::boxed_part;
 use crate::inner::{activity, body};
 use crate::objects::constraint_declaration;
 use pst_ast::{ActionNode, ActionPart, BaseNode, SyntaxFault};
 use pst_parse_member::members::{claim, field, members, reference};
 use pst_parse_part::marks::maybe_mark;
 use pst_parse_part::names::type_name;
-use pst_reading::{boxed, expect, expect_name, is, push};
+use pst_reading::{expect, expect_name, is, push};
 use pst_token::{Kind, Token};
 use std::alloc::Global;
 
@@ -75,41 +76,37 @@ fn action_part(
     ensures { Reads view_action_part (action_part_family activity_parser body_parser 2) tokens.now at at 1 result }
 {
     if is(tokens, at, Kind::Rand) {
-        let (field, after) = field(alloc, tokens, at, IN_ACTION)?;
-        let field = boxed(alloc, field)?;
+        let (field, after) = boxed_part(alloc, field(alloc, tokens, at, IN_ACTION))?;
         return Ok((ActionPart::Field(field), after));
     }
     if begins_reference(tokens, at) {
-        let (reference, after) = reference(alloc, tokens, at, IN_ACTION)?;
-        let reference = boxed(alloc, reference)?;
+        let (reference, after) = boxed_part(alloc, reference(alloc, tokens, at, IN_ACTION))?;
         return Ok((ActionPart::Reference(reference), after));
     }
     if begins_claim(tokens, at) {
-        let (claim, after) = claim(alloc, tokens, at, IN_ACTION)?;
-        let claim = boxed(alloc, claim)?;
+        let (claim, after) = boxed_part(alloc, claim(alloc, tokens, at, IN_ACTION))?;
         return Ok((ActionPart::Claim(claim), after));
     }
     if is(tokens, at, Kind::Constraint) {
-        let (declaration, after) = constraint_declaration(alloc, tokens, at, IN_ACTION)?;
-        let declaration = boxed(alloc, declaration)?;
+        let (declaration, after) = boxed_part(
+            alloc,
+            constraint_declaration(alloc, tokens, at, IN_ACTION),
+        )?;
         return Ok((ActionPart::Constraint(declaration), after));
     }
     if is(tokens, at, Kind::Activity) {
-        let (activity, after) = activity(alloc, tokens, at, IN_ACTION)?;
-        let activity = boxed(alloc, activity)?;
+        let (activity, after) = boxed_part(alloc, activity(alloc, tokens, at, IN_ACTION))?;
         return Ok((ActionPart::Activity(activity), after));
     }
     if is(tokens, at, Kind::Exec) {
-        let (body, after) = body(alloc, tokens, at, IN_ACTION)?;
-        let body = boxed(alloc, body)?;
+        let (body, after) = boxed_part(alloc, body(alloc, tokens, at, IN_ACTION))?;
         return Ok((ActionPart::Body(body), after));
     }
     if is(tokens, at, Kind::Semicolon) {
         let place = expect(tokens, at, Kind::Semicolon, IN_ACTION, 0)?;
         return Ok((ActionPart::Empty(place), at + 1));
     }
-    let (members, after) = members(alloc, tokens, at, IN_ACTION)?;
-    let members = boxed(alloc, members)?;
+    let (members, after) = boxed_part(alloc, members(alloc, tokens, at, IN_ACTION))?;
     Ok((ActionPart::Members(members), after))
 }
 

@@ -13,12 +13,13 @@ ghost use Rattle.pst_token.specs.declared.kind.Kind.TheVariants as kind;
 ghost use Rattle.std.specs.Prelude.{◌≤◌, ◌-◌, ◌≡◌, length, drop};
 
 use crate::actions::action;
+use crate::boxes::boxed_part;
 use crate::objects::object;
 use pst_ast::{ComponentNode, ComponentPart, Item, SyntaxFault};
 use pst_parse_member::enums::{enum_, function};
 use pst_parse_member::members::members;
 use pst_parse_member::pools::{pool, pool_bind};
-use pst_reading::{boxed, expect, expect_name, is, push};
+use pst_reading::{expect, expect_name, is, push};
 use pst_token::{Kind, Token};
 use std::alloc::Global;
 
@@ -52,41 +53,34 @@ fn component_part(
     ensures { Reads view_component_part (component_part_family activity_parser body_parser 1) tokens.now at at 1 result }
 {
     if begins_action(tokens, at) {
-        let (action, after) = action(alloc, tokens, at)?;
-        let action = boxed(alloc, action)?;
+        let (action, after) = boxed_part(alloc, action(alloc, tokens, at))?;
         return Ok((ComponentPart::Action(action), after));
     }
     if begins_object(tokens, at) {
-        let (object, after) = object(alloc, tokens, at, IN_COMPONENT)?;
-        let object = boxed(alloc, object)?;
+        let (object, after) = boxed_part(alloc, object(alloc, tokens, at, IN_COMPONENT))?;
         return Ok((ComponentPart::Object(object), after));
     }
     if is(tokens, at, Kind::Enum) {
-        let (enum_, after) = enum_(alloc, tokens, at, IN_COMPONENT)?;
-        let enum_ = boxed(alloc, enum_)?;
+        let (enum_, after) = boxed_part(alloc, enum_(alloc, tokens, at, IN_COMPONENT))?;
         return Ok((ComponentPart::Enum(enum_), after));
     }
     if is(tokens, at, Kind::Import) {
-        let (function, after) = function(alloc, tokens, at, IN_COMPONENT)?;
-        let function = boxed(alloc, function)?;
+        let (function, after) = boxed_part(alloc, function(alloc, tokens, at, IN_COMPONENT))?;
         return Ok((ComponentPart::Function(function), after));
     }
     if is(tokens, at, Kind::Pool) {
-        let (pool, after) = pool(alloc, tokens, at, IN_COMPONENT)?;
-        let pool = boxed(alloc, pool)?;
+        let (pool, after) = boxed_part(alloc, pool(alloc, tokens, at, IN_COMPONENT))?;
         return Ok((ComponentPart::Pool(pool), after));
     }
     if is(tokens, at, Kind::Bind) {
-        let (bind, after) = pool_bind(alloc, tokens, at, IN_COMPONENT)?;
-        let bind = boxed(alloc, bind)?;
+        let (bind, after) = boxed_part(alloc, pool_bind(alloc, tokens, at, IN_COMPONENT))?;
         return Ok((ComponentPart::PoolBind(bind), after));
     }
     if is(tokens, at, Kind::Semicolon) {
         let place = expect(tokens, at, Kind::Semicolon, IN_COMPONENT, 0)?;
         return Ok((ComponentPart::Empty(place), at + 1));
     }
-    let (members, after) = members(alloc, tokens, at, IN_COMPONENT)?;
-    let members = boxed(alloc, members)?;
+    let (members, after) = boxed_part(alloc, members(alloc, tokens, at, IN_COMPONENT))?;
     Ok((ComponentPart::Members(members), after))
 }
 
@@ -140,25 +134,21 @@ pub fn item(alloc: Global, tokens: &[Token], at: usize) -> Result<(Item, usize),
     ensures { Reads view_item (item_family activity_parser body_parser 0) tokens.now at at 1 result }
 {
     if is(tokens, at, Kind::Component) {
-        let (component, after) = component(alloc, tokens, at)?;
-        let component = boxed(alloc, component)?;
+        let (component, after) = boxed_part(alloc, component(alloc, tokens, at))?;
         return Ok((Item::Component(component), after));
     }
     if is(tokens, at, Kind::Enum) {
-        let (enum_, after) = enum_(alloc, tokens, at, 0)?;
-        let enum_ = boxed(alloc, enum_)?;
+        let (enum_, after) = boxed_part(alloc, enum_(alloc, tokens, at, 0))?;
         return Ok((Item::Enum(enum_), after));
     }
     if is(tokens, at, Kind::Import) {
-        let (function, after) = function(alloc, tokens, at, 0)?;
-        let function = boxed(alloc, function)?;
+        let (function, after) = boxed_part(alloc, function(alloc, tokens, at, 0))?;
         return Ok((Item::Function(function), after));
     }
     if is(tokens, at, Kind::Semicolon) {
         let place = expect(tokens, at, Kind::Semicolon, 0, 0)?;
         return Ok((Item::Empty(place), at + 1));
     }
-    let (object, after) = object(alloc, tokens, at, 0)?;
-    let object = boxed(alloc, object)?;
+    let (object, after) = boxed_part(alloc, object(alloc, tokens, at, 0))?;
     Ok((Item::Object(object), after))
 }

@@ -2,6 +2,7 @@
 #![tactic(auto)]
 
 pub mod actions;
+mod boxes;
 pub mod components;
 mod inner;
 pub mod laws;

@@ -12,13 +12,14 @@ ghost use Rattle.pst_reading.specs.Reads.{Reads};
 ghost use Rattle.pst_token.specs.declared.kind.Kind.TheVariants as kind;
 ghost use Rattle.std.specs.Prelude.{◌≤◌, ◌+◌, ◌-◌, ◌≡◌, length, drop, ◌&&◌};
 
+use crate::boxes::boxed_part;
 use pst_ast::{
     ConstraintContent, ConstraintDeclaration, ObjectNode, ObjectPart, ObjectWord, SyntaxFault,
 };
 use pst_base::Place;
 use pst_parse_expr::constraint::{items, set};
 use pst_parse_member::members::field;
-use pst_reading::{boxed, expect, expect_name, is, is_name, push};
+use pst_reading::{expect, expect_name, is, is_name, push};
 use pst_token::{Kind, Token};
 use std::alloc::Global;
 
@@ -132,13 +133,14 @@ fn object_part(
     ensures { Reads view_object_part (object_part_family depth) tokens.now at at 1 result }
 {
     if is(tokens, at, Kind::Rand) {
-        let (field, after) = field(alloc, tokens, at, depth)?;
-        let field = boxed(alloc, field)?;
+        let (field, after) = boxed_part(alloc, field(alloc, tokens, at, depth))?;
         return Ok((ObjectPart::Field(field), after));
     }
     if is(tokens, at, Kind::Constraint) {
-        let (declaration, after) = constraint_declaration(alloc, tokens, at, depth)?;
-        let declaration = boxed(alloc, declaration)?;
+        let (declaration, after) = boxed_part(
+            alloc,
+            constraint_declaration(alloc, tokens, at, depth),
+        )?;
         return Ok((ObjectPart::Constraint(declaration), after));
     }
     let place = expect(tokens, at, Kind::Semicolon, depth, 0)?;
