@@ -14,9 +14,8 @@ use Rattle.pst_scope.specs.declared.declaration.Scope.TheVariants.{Files, Part}
 use Rattle.pst_scope.specs.Sorts.{same_name, same_place, same_scope}
 use Rattle.pst_scope.specs.Lookups.{item_at, is_item_at}
 use Rattle.pst_index.specs.declared.key.Key.{Key}
-use Rattle.pst_index.specs.declared.key.By.TheVariants as by
 use Rattle.pst_index.specs.Keys.{name_key}
-use Rattle.pst_index.specs.Found.{has_key, same_key, or_first, is_beside, is_other_item, is_item_beside}
+use Rattle.pst_index.specs.Found.{same_key, is_beside, is_other_item, is_item_beside}
 use Rattle.pst_index.proofs.KeyTests.{find_same, item_has}
 
 left_of : (a b : Bool) → (a && b) ≡ true → a ≡ true

@@ -1,10 +1,9 @@
 -- A path is read up to its first wrong name.
-use Rattle.std.proofs.Common.{◌≡◌, ℕ, List, ◌∷◌, [], ◌++◌, Bool, Option, sym, subst, ap, ◌∙◌}
+use Rattle.std.proofs.Common.{◌≡◌, ℕ, List, ◌∷◌, [], ◌++◌, Bool, Option, sym, ap, ◌∙◌}
 use Rattle.pst_base.specs.declared.position.Place.{Place}
 use Rattle.pst_scope.specs.declared.declaration.Declaration.{Declaration}
 use Rattle.pst_scope.specs.declared.referent.Referent.{Referent}
 use Rattle.pst_scope.specs.declared.referent.PathPart.{PathPart}
-use Rattle.pst_scope.specs.declared.referent.PathReferent.{PathReferent}
 use Rattle.pst_scope.specs.declared.referent.Checked.{Checked}
 use Rattle.pst_scope.specs.declared.referent.Checked.TheVariants.{Breaks}
 use Rattle.pst_scope.specs.Paths.{and_then, between, behind, named_behind}

@@ -1,21 +1,15 @@
 -- Facts about a source with handles, locals, binds and loops.
 use Rattle.std.proofs.Common.{refl}
-use Rattle.std.specs.Prelude.{◌≡◌, ℕ, List, [], ◌∷◌, Bool, true, false, Option, Some, None, codes}
-use Rattle.pst_ast.specs.declared.leaf.Name.{Name}
-use Rattle.pst_ast.specs.declared.declaration.ObjectWord.TheVariants as word
-use Rattle.pst_scope.specs.declared.declaration.Declaration.{Declaration}
-use Rattle.pst_scope.specs.declared.declaration.Sort.{Sort}
-use Rattle.pst_scope.specs.declared.declaration.Sort.TheVariants as sort
-use Rattle.pst_scope.specs.Declarations.{type_declared, member, local}
-use Rattle.pst_scope.specs.Lookups.{Environment, OfAction, Declared, Number, ByHandle}
-use Rattle.pst_scope.specs.Paths.{Checked, Is, Breaks, PathPart, PathReferent, is_value, read_path}
+use Rattle.std.specs.Prelude.{◌≡◌, [], ◌∷◌, Some, None}
+use Rattle.pst_scope.specs.Lookups.{Declared, Number}
+use Rattle.pst_scope.specs.Paths.{Is, Breaks, read_path}
 use Rattle.pst_scope.specs.Uses.{Assigns, Traverses, Ends, Joins, Calls, Binds, Targets}
 use Rattle.pst_scope.specs.NameRules.{use_finding, DeclarationBreaks}
 use Rattle.pst_scope.specs.Scopes.{numbers_of}
-use Rattle.pst_scope.specs.Tried.{at, name, type}
+use Rattle.pst_scope.specs.Tried.{at, name}
 use Rattle.pst_scope.specs.Lookups.{look_up, declared_at, base_of, member_of, item_at, value_named, type_of, traversed, stands_for}
-use Rattle.pst_scope.specs.NameRules.{LeadsTo, ToBase, Reaches, AtOnce, Through, Twice, Loops, Inherits, Reserved}
-use Rattle.pst_scope.specs.TriedMembers.{names, ds, env, behind_local, inline, inline_index, part, path, other, other_action, root, resource, its_field, buffer, buffer_field, reserved, pool, one, two, action, field, input, claim, compound, handle, itself, counter, looped, looping, function}
+use Rattle.pst_scope.specs.NameRules.{ToBase, AtOnce, Through, Loops, Inherits, Reserved}
+use Rattle.pst_scope.specs.TriedMembers.{names, ds, env, behind_local, inline, inline_index, part, path, resource, buffer_field, reserved, one, field, input, claim, handle, counter, looped, looping}
 
 pub field_of_handle : path env (part 15 50) (part 11 51 ∷ []) ≡ Is (record { before = Declared handle ∷ []; last = Declared field })
 unfolding look_up declared_at base_of member_of item_at value_named type_of traversed stands_for read_path

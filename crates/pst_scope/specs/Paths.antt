@@ -4,7 +4,6 @@ use Rattle.std.specs.List.{find}
 use Rattle.std.specs.Option.{option_or, option_and_then}
 use Rattle.pst_base.specs.declared.position.Place.{Place}
 use Rattle.pst_base.specs.declared.table.NameId.{NameId}
-use Rattle.pst_ast.specs.declared.leaf.Name.{Name}
 use Rattle.pst_scope.specs.declared.declaration.Declaration.{Declaration}
 use Rattle.pst_scope.specs.declared.declaration.Scope.{Scope}
 use Rattle.pst_scope.specs.declared.declaration.Sort.{Sort}

@@ -7,7 +7,7 @@
 --     action P : Q { } action Q : P { }
 --     import function void call();
 --   }
-use Rattle.std.specs.Prelude.{◌≡◌, ℕ, List, [], ◌∷◌, Bool, true, false, Option, Some, None, codes}
+use Rattle.std.specs.Prelude.{◌≡◌, ℕ, List, [], ◌∷◌, false, Some, None, codes}
 use Rattle.pst_ast.specs.declared.leaf.Name.{Name}
 use Rattle.pst_ast.specs.declared.declaration.ObjectWord.TheVariants as word
 use Rattle.pst_scope.specs.declared.declaration.Declaration.{Declaration}

@@ -1,4 +1,4 @@
-use Rattle.std.proofs.Common.{rules, ◌≡◌, true, false, List, Option, sym, subst, ap, ◌∙◌, is_some}
+use Rattle.std.proofs.Common.{rules, ◌≡◌, true, false, List, Option, sym, ap, ◌∙◌, is_some}
 use Rattle.std.specs.HashMap.{get}
 use Rattle.std.specs.Prelude.{Some}
 use Rattle.std.specs.List.{find}

@@ -1,4 +1,4 @@
-use Rattle.std.proofs.Common.{◌≡◌, ℕ}
+use Rattle.std.proofs.Common.{◌≡◌}
 use Rattle.std.specs.Option.{option_and_then}
 use Rattle.pst_scope.specs.Lookups.{member_of, member_within}
 use Rattle.pst_index.proofs.index.Index.member_of.Given as goal

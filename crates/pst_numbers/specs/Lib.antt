@@ -1,0 +1,2 @@
+pub mod NumberKeys
+pub mod Ranked

@@ -1,0 +1,10 @@
+//! The types of the sources in order of declaration, and what is declared as numbers.
+#![tactic(auto)]
+
+mod keys;
+mod listed;
+mod ranks;
+
+pub use keys::{MemberKey, PlaceKey, member_key, place_key};
+pub use listed::entries;
+pub use ranks::ranks;
