@@ -3,8 +3,8 @@
 
 mod keys;
 mod listed;
-mod ranks;
+mod ranking;
 
 pub use keys::{MemberKey, PlaceKey, member_key, place_key};
 pub use listed::entries;
-pub use ranks::ranks;
+pub use ranking::ranks;

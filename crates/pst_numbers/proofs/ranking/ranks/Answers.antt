@@ -4,7 +4,7 @@ use Rattle.std.proofs.lemmas.List.{take_more}
 use Rattle.pst_scope.specs.declared.declaration.Declaration.{Declaration}
 use Rattle.pst_numbers.specs.NumberKeys.{same_member_key, same_place_key}
 use Rattle.pst_numbers.specs.Ranked.{IsRanked}
-use Rattle.pst_numbers.proofs.ranks.ranks.Goals as goal
+use Rattle.pst_numbers.proofs.ranking.ranks.Goals as goal
 
 pub loop-declaration-preserved : goal.loop-declaration-preserved
 loop-declaration-preserved c =

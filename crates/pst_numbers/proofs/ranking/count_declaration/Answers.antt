@@ -2,7 +2,7 @@ use Rattle.std.proofs.Common.{sym, ◌∙◌}
 use Rattle.std.specs.HashMap.{get}
 use Rattle.pst_numbers.specs.NumberKeys.{same_member_key, same_place_key}
 use Rattle.pst_numbers.proofs.Counting.{counts_on}
-use Rattle.pst_numbers.proofs.ranks.count_declaration.Goals as goal
+use Rattle.pst_numbers.proofs.ranking.count_declaration.Goals as goal
 
 pub returns-in_ok-count-in-Some : goal.returns-in_ok-count-in-Some
 returns-in_ok-count-in-Some c = λ ps so_far.
