@@ -2,7 +2,7 @@
 use Rattle.std.proofs.Common.{◌≡◌, ℕ, ◌+◌, ◌<◌, ◌≤◌, Bool, true, false, not, ◌&&◌, List, [], ◌∷◌, ◌++◌, length, nat_eq, nat_lt, refl, sym, ap, ◌∙◌, cond, Option, true≢false, arith, ⊎_elim}
 use Rattle.std.specs.Prelude.{Some, None, is_some, position, if◌then◌else◌}
 use Rattle.std.specs.Cmp.{nat_eq_equiv}
-use Rattle.std.specs.List.{filter, position_or_len}
+use Rattle.std.specs.List.{position_or_len}
 use Rattle.std.specs.Option.{option_map, option_map_or}
 use Rattle.std.proofs.Math.Dec.{eqb}
 use Rattle.std.proofs.lemmas.Bool.{eqb-true, lt-ltb, le-ltb}
@@ -17,8 +17,8 @@ use Rattle.pst_scope.specs.Sorts.{same_place}
 use Rattle.pst_scope.specs.Scopes.{is_type, is_inside, names_in}
 use Rattle.pst_numbers.specs.declared.keys.PlaceKey.{PlaceKey}
 use Rattle.pst_numbers.specs.declared.keys.MemberKey.{MemberKey}
-use Rattle.pst_numbers.specs.NumberKeys.{place_key, member_key, same_place_key, same_member_key}
-use Rattle.pst_numbers.specs.Ranked.{counts_here, rank_at, count_of, or_new, IsCounted, IsRanked, HasRanks}
+use Rattle.pst_numbers.specs.NumberKeys.{place_key, member_key}
+use Rattle.pst_numbers.specs.Ranked.{counts_here, rank_at, count_of, or_new, IsCounted, IsRanked}
 
 abbrev passes : Place → Declaration → Bool
 passes type d = is_inside type d && not (is_type d.sort)
