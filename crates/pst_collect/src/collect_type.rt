@@ -2,9 +2,8 @@
 ghost use Rattle.std.specs.Prelude.{◌≡◌, ◌++◌, OnOk, map};
 ghost use Rattle.std.specs.List.{flat_map};
 ghost use Rattle.std.specs.Option.{option_map};
-ghost use Rattle.pst_ast.specs.DeclarationView.{view_action, view_action_part, view_component, view_component_part, view_enum, view_function, view_item, view_next_enum_item, view_next_parameter, view_object, view_object_part, view_parameters, view_pool};
+ghost use Rattle.pst_ast.specs.DeclarationView.{view_action, view_action_part, view_component, view_component_part, view_enum, view_function, view_item, view_members, view_next_enum_item, view_next_parameter, view_object, view_object_part, view_parameters, view_pool};
 ghost use Rattle.pst_scope.specs.declared.declaration.Sort.TheVariants.{Handle, Instance, Parameter};
-ghost use Rattle.pst_ast.specs.DeclarationView.{view_members};
 ghost use Rattle.pst_scope.specs.Declarations;
 
 use crate::collect_activity::add_activity;
