@@ -7,10 +7,10 @@ use Rattle.pst_ast.specs.declared.activity.StatementNode.{StatementNode}
 use Rattle.pst_scope.specs.declared.referent.PathPart.{PathPart}
 use Rattle.pst_scope.specs.Uses
 use Rattle.pst_scope.specs.Uses.{part_of}
-use Rattle.pst_walk.specs.declared.visitor.Role.{Role}
-use Rattle.pst_walk.specs.declared.visitor.Role.TheVariants as role
-use Rattle.pst_walk.specs.declared.visitor.Wanted.{Wanted}
-use Rattle.pst_walk.specs.declared.visitor.Wanted.TheVariants as wanted
+use Rattle.pst_walk_parts.specs.declared.visitor.Role.{Role}
+use Rattle.pst_walk_parts.specs.declared.visitor.Role.TheVariants as role
+use Rattle.pst_walk_parts.specs.declared.visitor.Wanted.{Wanted}
+use Rattle.pst_walk_parts.specs.declared.visitor.Wanted.TheVariants as wanted
 
 -- statements as a block has them
 abbrev pub row_of : List StatementTree → StatementRow

@@ -7,7 +7,7 @@ ghost use Rattle.pst_ast.specs.DeclarationView.{view_target};
 ghost use Rattle.pst_ast.specs.ExpressionView.{view_expr, view_next_part, view_part};
 ghost use Rattle.pst_ast.specs.SharedView.{view_next_expr, view_plain, view_type};
 ghost use Rattle.pst_scope.specs.Uses.{Use, Judges, JoinCount, HasPlain, HasType, Uniques, Branches, Arms, Performs, Ties, Passes, Reads, Repeats, TakesItem, NamesType, NamesBase, Calls, Assigns, Traverses, Ends, Joins, Binds, arguments_of, arm_label, branch_places, branches_in, labels_in, next_expr, other_ends, part_of, plain_part, target_use};
-ghost use Rattle.pst_walk.specs.Shown.{dotted_part, view_role, view_statements, view_wanted};
+ghost use Rattle.pst_walk_parts.specs.Shown.{dotted_part, view_role, view_statements, view_wanted};
 
 use pst_ast::{
     ArgumentsNode, ArmNode, DotName, EndNode, ExprNode, Name, NextExpr, NextPart, OtherEnds,
@@ -88,7 +88,7 @@ pub trait Visitor {
 
     /// The items of a `unique`.
     fn uniques(&mut self, first: &ExprNode, rest: &[NextExpr]) -> Result<(), NoMemory>
-        ensures { OnOk result (self.new ≡ step self.old (Uniques (view_expr first.now ∷ map (λ n. next_expr (view_next_expr n)) rest.now))) };
+        ensures { OnOk result (self.new ≡ step self.old (Uniques (view_expr first.now ∷ map next_expr (map view_next_expr rest.now)))) };
 
     /// The branches of a block with a join form, which has these statements.
     fn branches(&mut self, statements: &[StatementNode]) -> Result<(), NoMemory>

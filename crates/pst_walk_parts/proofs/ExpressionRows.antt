@@ -13,8 +13,8 @@ use Rattle.pst_ast.specs.declared.expression.NextRange.{NextRange}
 use Rattle.pst_ast.specs.ExpressionView.{view_path, view_part, view_next_part, view_next_part_row, view_range, view_ranges, view_next_range, view_next_range_row}
 use Rattle.pst_scope.specs.declared.environment.Environment.{Environment}
 use Rattle.pst_scope.specs.declared.referent.PathPart.{PathPart}
-use Rattle.pst_scope.specs.Uses.{Use, Reads, part_of, parts_of, path_uses, part_uses, next_part_uses, dotted_uses, ranges_uses, range_uses, next_range_uses, comma_range_uses}
-use Rattle.pst_walk.specs.Shown.{dotted_part}
+use Rattle.pst_scope.specs.Uses.{Use, Reads, part_of, parts_of, path_uses, part_uses, next_part_uses, dotted_uses, ranges_uses, range_uses, next_range_uses, comma_range_uses, end_uses, ends_uses, next_ends}
+use Rattle.pst_walk_parts.specs.Shown.{dotted_part}
 
 abbrev in_part : Environment → NextPart → List Use
 in_part at next = dotted_uses at (view_next_part next)
@@ -45,3 +45,14 @@ ranges_row at (more_of-NextRange comma range tail) = ap (λ (us : List Use). in_
 pub ranges_uses_are : (at : Environment) (r : RangesNode) → ranges_uses at (view_ranges r) ≡ range_uses at (view_range (out-RangesNode r).first.value) ++ flat_map (λ next. comma_range_uses at (view_next_range next)) (out-RangesNode r).rest.items
 unfolding out-RangesNode denote.Hole.Carrier.out
 ranges_uses_are at (RangesNode' pointer first shape rest) = ap (λ (us : List Use). range_uses at (view_range first) ++ us) (ranges_row at rest ∙ ap (flat_map (in_range at)) (sym (items_shown-the_row-NextRange-1 shape rest)))
+
+abbrev ends_in : Environment → NextRange → List Use
+ends_in at next = end_uses at (view_range next.range)
+
+ends_row : (at : Environment) {n : _} (k : Row_of-NextRange n) → flat_map (end_uses at) (next_ends (view_next_range_row k)) ≡ flat_map (ends_in at) (items-the_row-NextRange n k)
+ends_row at end_of-NextRange = refl
+ends_row at (more_of-NextRange comma range tail) = ap (λ (us : List Use). end_uses at (view_range range) ++ us) (ends_row at tail)
+
+pub ends_uses_are : (at : Environment) (r : RangesNode) → ends_uses at (view_ranges r) ≡ end_uses at (view_range (out-RangesNode r).first.value) ++ flat_map (λ next. end_uses at (view_range next.range)) (out-RangesNode r).rest.items
+unfolding out-RangesNode denote.Hole.Carrier.out
+ends_uses_are at (RangesNode' pointer first shape rest) = ap (λ (us : List Use). end_uses at (view_range first) ++ us) (ends_row at rest ∙ ap (flat_map (ends_in at)) (sym (items_shown-the_row-NextRange-1 shape rest)))
