@@ -11,7 +11,7 @@ use pst_ast::{ActionNode, ActionPart, BaseNode, TypeName};
 use pst_base::{NoMemory, Place};
 use pst_scope::{Declaration, Environment, Owner, Sort};
 use pst_walk_act::show_activity::show_activity;
-use pst_walk_act::show_body::show_body;
+use pst_walk_body::show_body::show_body;
 use pst_walk_parts::show_constraint::show_constraint;
 use pst_walk_parts::show_shared::show_field;
 use pst_walk_parts::{Visitor, Wanted};

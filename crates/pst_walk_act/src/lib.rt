@@ -1,8 +1,7 @@
-//! The uses of names in activities and bodies, shown to a visitor one after another.
+//! The uses of names in activities, shown to a visitor one after another.
 #![tactic(auto)]
 
 pub mod show_activity;
 pub mod show_bind;
-pub mod show_body;
 pub mod show_join;
 pub mod show_traversal;

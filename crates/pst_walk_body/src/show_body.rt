@@ -5,7 +5,7 @@ ghost use Rattle.std.specs.Option.{option_map};
 ghost use Rattle.pst_ast.specs.BodyView.{view_arguments, view_body, view_body_statement, view_boxed_value, view_call, view_source};
 ghost use Rattle.pst_ast.specs.SharedView.{view_next_expr};
 ghost use Rattle.pst_scope.specs.Uses.{InBody, arguments_of, behind_statement, body_list_uses, body_statement_uses, body_uses, call_uses, next_expr, option_uses, source_uses, value_uses, whole_uses, with_index};
-ghost use Rattle.pst_walk_act.specs.Locals.{without_inner};
+ghost use Rattle.pst_walk_body.specs.Locals.{without_inner};
 
 use pst_ast::{
     ArgumentsNode, BodyNode, BodyStatement, CallNode, LabelNode, NextExpr, SourceNode, ValueNode,
