@@ -15,6 +15,7 @@ use Rattle.pst_scope.specs.declared.entry.TypeSort.{TypeSort}
 use Rattle.pst_scope.specs.declared.entry.TypeSort.TheVariants as type_sort
 use Rattle.pst_scope.specs.declared.entry.TypeEntry.{TypeEntry}
 use Rattle.pst_scope.specs.declared.entry.NameMeaning.{NameMeaning}
+pub use Rattle.pst_scope.specs.declared.referent.Meant.{Meant}
 use Rattle.pst_scope.specs.Declarations.{declarations}
 use Rattle.pst_scope.specs.Sorts.{same_place, is_instance, is_pool}
 use Rattle.pst_scope.specs.Lookups.{Referent, Declared, Initial, Previous, Number, referent, declared_at, type_here, type_named, component_named, second_of, type_of, stands_for}
@@ -78,11 +79,6 @@ numbers_of ds (Previous object) = numbered ds object.name.place (Some (2 ^ 32 - 
 numbers_of ds (Number object) = numbered ds object.name.place (Some (2 ^ 32 - 3))
 
 -- ---- the names of a use, each with what it stands for
-
--- a name that is used, and what it stands for
-pub record Meant : Type 0 where
-  pub name : Name
-  pub referent : Referent
 
 abbrev pub meant : Name → Option Referent → List Meant
 meant name None = []

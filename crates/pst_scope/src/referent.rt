@@ -68,6 +68,15 @@ pub struct Target {
     pub need: Declaration,
 }
 
+/// A name that is used, and what it stands for.
+#[derive(Clone, Copy, PartialEq, Eq)]
+pub struct Meant {
+    /// The name, where it is used.
+    pub name: Name,
+    /// What it stands for.
+    pub referent: Referent,
+}
+
 /// What was asked for, or the place of a name that is wrong and the rule that it breaks.
 #[derive(Drop)]
 pub enum Checked<X> {
