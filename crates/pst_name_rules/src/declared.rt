@@ -2,7 +2,7 @@
 ghost use Rattle.std.specs.Prelude.{◌≡◌};
 ghost use Rattle.std.specs.List.{list_any};
 ghost use Rattle.pst_scope.specs.NameRules;
-ghost use Rattle.pst_names.specs.Own.{own_finding, is_reserved};
+ghost use Rattle.pst_name_rules.specs.Own.{own_finding, is_reserved};
 
 use pst_base::{NameId, Names};
 use pst_index::Index;

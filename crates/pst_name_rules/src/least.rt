@@ -1,6 +1,6 @@
 //! The earlier of two breaches.
 ghost use Rattle.std.specs.Prelude.{◌≡◌};
-ghost use Rattle.pst_names.specs.Earlier;
+ghost use Rattle.pst_name_rules.specs.Earlier;
 
 use pst_scope::Finding;
 

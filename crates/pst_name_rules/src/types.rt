@@ -4,44 +4,33 @@ ghost use Rattle.std.specs.Option.{option_or, option_and_then};
 ghost use Rattle.pst_scope.specs.NameRules;
 ghost use Rattle.pst_scope.specs.Sorts.{is_enum, is_item, is_function, is_action};
 ghost use Rattle.pst_scope.specs.Lookups.{type_here, base_of, second_of, if_sort};
-ghost use Rattle.pst_names.specs.Tests.{test_of};
+ghost use Rattle.pst_scope.specs.NameRules.{is_wanted};
+ghost use Rattle.pst_walk_parts.specs.Shown.{view_wanted};
 
 use pst_ast::{Name, TypeName};
 use pst_base::Place;
 use pst_index::Index;
 use pst_scope::{Declaration, Finding, Scope, Sort};
-
-/// The sort of type that a name has to stand for.
-#[derive(Clone, Copy, PartialEq, Eq)]
-pub enum TypeTest {
-    /// A component.
-    Component,
-    /// An action.
-    Action,
-    /// An object type.
-    Object,
-    /// An enum.
-    Enumeration,
-}
+use pst_walk_parts::Wanted;
 
 // Whether a sort is the one that is asked for.
-fn passes(test: TypeTest, sort: Sort) -> bool
-    ensures { result ≡ test_of test sort }
+fn passes(wanted: Wanted, sort: Sort) -> bool
+    ensures { result ≡ is_wanted (view_wanted wanted) sort }
 {
-    match test {
-        TypeTest::Component => matches!(sort, Sort::Component),
-        TypeTest::Action => matches!(sort, Sort::Action { .. }),
-        TypeTest::Object => matches!(sort, Sort::Object { .. }),
-        TypeTest::Enumeration => matches!(sort, Sort::Enumeration),
+    match wanted {
+        Wanted::Component => matches!(sort, Sort::Component),
+        Wanted::Action => matches!(sort, Sort::Action { .. }),
+        Wanted::Object => matches!(sort, Sort::Object { .. }),
+        Wanted::Enumeration => matches!(sort, Sort::Enumeration),
     }
 }
 
 // Whether a declaration is there, and of the sort that is asked for.
-fn is_so(test: TypeTest, found: Option<Declaration>) -> bool
-    ensures { result ≡ NameRules.is_so (test_of test) found }
+fn is_so(wanted: Wanted, found: Option<Declaration>) -> bool
+    ensures { result ≡ NameRules.is_so (is_wanted (view_wanted wanted)) found }
 {
     match found {
-        Some(declaration) => passes(test, declaration.sort),
+        Some(declaration) => passes(wanted, declaration.sort),
         None => false,
     }
 }
@@ -61,15 +50,15 @@ pub fn unless(good: bool, place: Place, rule: u8) -> Option<Finding>
 pub fn type_finding(
     index: &Index,
     component: Option<Place>,
-    test: TypeTest,
+    wanted: Wanted,
     first: Name,
     second: Option<Name>,
 ) -> Option<Finding>
-    ensures { result ≡ NameRules.type_finding index.now component (test_of test) first second }
+    ensures { result ≡ NameRules.type_finding index.now component (is_wanted (view_wanted wanted)) first second }
 {
     let Some(second) = second else {
         return unless(
-            is_so(test, index.type_here(component, first.id)),
+            is_so(wanted, index.type_here(component, first.id)),
             first.place,
             2,
         );
@@ -81,7 +70,7 @@ pub fn type_finding(
         });
     }
     unless(
-        is_so(test, index.type_by(component, first, Some(second))),
+        is_so(wanted, index.type_by(component, first, Some(second))),
         second.place,
         2,
     )
@@ -97,8 +86,8 @@ fn enum_finding(
     ensures { result ≡ NameRules.enum_finding index.now component outer enum_ }
 {
     match outer {
-        None => type_finding(index, component, TypeTest::Enumeration, enum_, None),
-        Some(outer) => type_finding(index, component, TypeTest::Enumeration, outer, Some(enum_)),
+        None => type_finding(index, component, Wanted::Enumeration, enum_, None),
+        Some(outer) => type_finding(index, component, Wanted::Enumeration, outer, Some(enum_)),
     }
 }
 
@@ -177,7 +166,7 @@ pub fn base_finding(index: &Index, action: &Declaration, name: &TypeName) -> Opt
     ensures { result ≡ option_or (NameRules.type_finding index.now action.now.inside is_action name.now.first (second_of name.now)) (NameRules.unless (is_some (base_of index.now action.now)) (NameRules.last_name name.now).place 2) }
 {
     let second = second_name(name);
-    let wrong = type_finding(index, action.inside, TypeTest::Action, name.first, second);
+    let wrong = type_finding(index, action.inside, Wanted::Action, name.first, second);
     if wrong.is_some() {
         return wrong;
     }
