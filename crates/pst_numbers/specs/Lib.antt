@@ -1,2 +1,3 @@
 pub mod NumberKeys
+pub mod Numbered
 pub mod Ranked
