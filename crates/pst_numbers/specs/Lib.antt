@@ -1,3 +1,4 @@
+pub mod Meanings
 pub mod NumberKeys
 pub mod Numbered
 pub mod Ranked

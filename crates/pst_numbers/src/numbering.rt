@@ -31,10 +31,7 @@ fn keep_number(
 }
 
 // The number of each type by its place: of several at one place the first's.
-fn type_numbers(
-    alloc: Global,
-    entries: &[TypeEntry],
-) -> Result<HashMap<PlaceKey, u32>, NoMemory>
+fn type_numbers(alloc: Global, entries: &[TypeEntry]) -> Result<HashMap<PlaceKey, u32>, NoMemory>
     ensures { IfOk result (λ found. (place : Place) → get same_place_key found (key_of place) ≡ position (λ e. same_place e.place place) entries.now) }
 {
     let mut found = HashMap::new(alloc);

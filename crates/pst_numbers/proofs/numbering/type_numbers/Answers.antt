@@ -1,4 +1,4 @@
-use Rattle.std.proofs.Common.{ℕ, ◌≡◌, ◌<◌, length, get_or, refl, sym, ap, ◌∙◌, subst, arith}
+use Rattle.std.proofs.Common.{ap, ◌∙◌, arith}
 use Rattle.std.specs.HashMap.{get}
 use Rattle.pst_numbers.specs.declared.keys.PlaceKey.{PlaceKey}
 use Rattle.pst_numbers.specs.NumberKeys.{same_place_key}
