@@ -54,9 +54,10 @@ by_units : (names : List (List ℕ)) (units : List UnitTree) → list_any (is_ro
 by_units names units none [] e = λ f has. no_front has.0 has.1 (e ∙ has.2)
 by_units names units none (u ∷ us) e =
     let (front, last, split) = split_last u us in
-    subst (IsLeastOf (IsRootless units names)) (sym (last_finished (u ∷ us) front last split))
-    ((front, last, sym e ∙ split, none, refl),
-    λ g (other, end, parts, rootless, is). inr (ap (λ (f : Finding). f.place) (same_some (sym (last_finished (u ∷ us) front last split) ∙ last_finished (u ∷ us) other end (e ∙ parts)) ∙ sym is), omega (arith, ap (λ (f : Finding). f.rule) is)))
+    subst (IsLeastOf (IsRootless units names)) (sym (last_finished (u ∷ us) front last split)) (
+      (front, last, sym e ∙ split, none, refl),
+      λ g (other, end, parts, rootless, is). inr (ap (λ (f : Finding). f.place) (same_some (sym (last_finished (u ∷ us) front last split) ∙ last_finished (u ∷ us) other end (e ∙ parts)) ∙ sym is), omega (arith, ap (λ (f : Finding). f.rule) is)),
+    )
 
 by_root : (units : List UnitTree) (names : List (List ℕ)) (has : Bool) → list_any (is_root_component names) (declarations units) ≡ has → IsLeastOf (IsRootless units names) (root_finding has units)
 by_root units names true is = λ f (front, last, split, none, at). absurd (true≢false (sym is ∙ none))

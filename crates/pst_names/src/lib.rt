@@ -8,7 +8,7 @@ mod judge_joins;
 mod judge_paths;
 mod judge_targets;
 mod judge_uses;
-mod resolve;
+mod sources;
 
 pub use end::RuleEnd;
-pub use resolve::resolve;
+pub use sources::resolve;
