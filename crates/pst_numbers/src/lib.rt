@@ -1,4 +1,4 @@
-//! The types of the sources in order of declaration, and what their names mean as numbers.
+//! The types of the sources in order of declaration, and what names mean as numbers.
 #![tactic(auto)]
 
 mod in_order;
@@ -8,8 +8,5 @@ mod meanings;
 mod numbering;
 mod ranking;
 
-pub use keys::{MemberKey, PlaceKey, member_key, place_key};
 pub use listed::entries;
 pub use meanings::scopes;
-pub use numbering::Numbers;
-pub use ranking::ranks;

@@ -44,13 +44,13 @@ fn meanings_of(
 
 /// The types and functions of the sources, and what the names of a list mean.
 ///
-/// The types and functions stand in order of declaration. What a name means is told by numbers
-/// (`NameMeaning`); each meaning stands once, in order of place, and names that have no numbers have
-/// none.
+/// The types and functions stand in order of declaration. What names mean is told by numbers
+/// (`NameMeaning`): each meaning once, in order of place. A name of which what it stands for has no
+/// numbers has no meaning.
 ///
-/// `NoMemory` comes where memory runs out, where a number would be 2^32 or more, and where two names
-/// at one place have different meanings, since there are no scopes in order of place then. Sources
-/// whose tokens stand at rising places never have such names.
+/// `NoMemory` comes where memory runs out, where there are 2^32 types and functions or as many names
+/// in the text of one, and where names at one place have different meanings: there are no scopes in
+/// order of place then. Sources whose tokens stand at rising places have no such names.
 pub fn scopes(alloc: Global, index: &Index, meant: &[Meant]) -> Result<Scopes, NoMemory>
     ensures types { IfOk result (λ s. s.types ≡ entries_in index.now) }
     ensures meanings { IfOk result (λ s. AreMeanings index.now meant.now s.meanings) }
