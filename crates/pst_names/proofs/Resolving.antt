@@ -1,8 +1,7 @@
 -- The least breach of all, and the scopes where there is none.
-use Rattle.std.proofs.Common.{◌≡◌, ◌⊎◌, ◌↔◌, inl, inr, ⊎_elim, ℕ, List, [], ◌∷◌, ◌++◌, Option, refl, sym, ap, subst, ◌∙◌}
+use Rattle.std.proofs.Common.{◌≡◌, ◌⊎◌, inr, ⊎_elim, ℕ, List, Option, sym, ap, subst, ◌∙◌}
 use Rattle.std.specs.Prelude.{Some, None, Contains}
 use Rattle.std.specs.List.{flat_map, list_any}
-use Rattle.pst_base.specs.declared.position.Place.{Place}
 use Rattle.pst_base.specs.Laws.{BeforeGoesOn}
 use Rattle.pst_ast.specs.DeclarationTree.{UnitTree}
 use Rattle.pst_scope.specs.declared.declaration.Declaration.{Declaration}
@@ -14,17 +13,17 @@ use Rattle.pst_scope.specs.Breaches.{IsLeast, IsNone}
 use Rattle.pst_scope.specs.Declarations.{declarations}
 use Rattle.pst_scope.specs.NameRules.{NameBreach, is_root_component, use_finding}
 use Rattle.pst_scope.specs.Scopes.{AreScopes, IsMeaning, entries, use_meant}
-use Rattle.pst_scope.specs.Uses.{Use, uses}
+use Rattle.pst_scope.specs.Uses.{uses}
 use Rattle.pst_loops.specs.First.{IsFirstOnLoop}
 use Rattle.pst_numbers.specs.Meanings.{Means, AreMeanings}
 use Rattle.pst_name_rules.specs.Earlier.{earlier}
 use Rattle.pst_name_rules.specs.Own.{own_finding}
 use Rattle.pst_names.specs.Leasts.{NoLater, IsLeastOf, IsIn, least_at}
-use Rattle.pst_names.specs.Resolved.{IsBreach, IsRootless, root_finding, AreResolved, IsUnresolved}
+use Rattle.pst_names.specs.Resolved.{IsBreach, IsRootless, root_finding}
 use Rattle.pst_names.proofs.Elements.{in_flat_map, flat_map_cases}
 use Rattle.pst_names.proofs.Leasts.{goes_on, least_of_both, told, least_in}
 use Rattle.pst_names.proofs.Rootless.{least_rootless}
-use Rattle.pst_names.proofs.Breaking.{IsLoop, IsFound, IsCovered, least_loop, found_breaks, breaks_covered}
+use Rattle.pst_names.proofs.Breaking.{IsLoop, IsFound, least_loop, found_breaks, breaks_covered}
 
 module _ (on : BeforeGoesOn) where
   -- where each is found, or one that is no later
@@ -40,7 +39,7 @@ module _ (on : BeforeGoesOn) where
     abbrev ds : List Declaration
     ds = declarations units
 
-    pub least_of_all : (loops : Option Finding) → IsFirstOnLoop ds loops
+    least_of_all : (loops : Option Finding) → IsFirstOnLoop ds loops
         → IsLeastOf (IsBreach units names) (earlier (earlier (earlier (least_at (use_finding ds names) (uses units) None) (least_at (own_finding ds names) ds None)) loops) (root_finding (list_any (is_root_component names) ds) units))
     least_of_all loops first =
         let used = least_at (use_finding ds names) (uses units) None in
@@ -53,6 +52,24 @@ module _ (on : BeforeGoesOn) where
         (least_loop ds loops first))
         (least_rootless units names))
 
+    parts : (used own loops root all : Option Finding) → used ≡ least_at (use_finding ds names) (uses units) None → own ≡ least_at (own_finding ds names) ds None → IsFirstOnLoop ds loops
+        → root ≡ root_finding (list_any (is_root_component names) ds) units → all ≡ earlier (earlier (earlier used own) loops) root → IsLeastOf (IsBreach units names) all
+    parts used own loops root all is_used is_own first is_root is =
+        subst (IsLeastOf (IsBreach units names)) (sym
+        (is
+        ∙ ap (λ (u : Option Finding). earlier (earlier (earlier u own) loops) root) is_used
+        ∙ ap (λ (o : Option Finding). earlier (earlier (earlier (least_at (use_finding ds names) (uses units) None) o) loops) root) is_own
+        ∙ ap (λ (r : Option Finding). earlier (earlier (earlier (least_at (use_finding ds names) (uses units) None) (least_at (own_finding ds names) ds None)) loops) r) is_root))
+        (least_of_all loops first)
+
+    abbrev FromParts : List Declaration → Type 0
+    FromParts all_declared = (used own loops root all : Option Finding) → used ≡ least_at (use_finding all_declared names) (uses units) None → own ≡ least_at (own_finding all_declared names) all_declared None → IsFirstOnLoop all_declared loops
+        → root ≡ root_finding (list_any (is_root_component names) all_declared) units → all ≡ earlier (earlier (earlier used own) loops) root → IsLeastOf (IsBreach units names) all
+
+    -- the earliest of the four, whichever list the declarations are told by
+    pub least_of_parts : (all_declared : List Declaration) → all_declared ≡ ds → FromParts all_declared
+    least_of_parts all_declared e = subst FromParts (sym e) parts
+
 module _ (units : List UnitTree) (names : List (List ℕ)) where
   pub is_least : (f : Finding) → IsLeastOf (IsBreach units names) (Some f) → IsLeast (NameBreach units names) f.place f.rule
   is_least f least = record { is = least.0; least = λ p r breaks. least.1 (record { place = p; rule = r }) breaks }
@@ -64,14 +81,21 @@ module _ (units : List UnitTree) (names : List (List ℕ)) where
   named = flat_map (use_meant (declarations units) names) (uses units)
 
   to_meaning : (m : NameMeaning) → ((n : Meant) × Contains named n × Means (declarations units) n m) → IsMeaning units names m
-  to_meaning m (n, among, place, numbers) =
+  to_meaning m (n, among, (place, numbers)) =
       let (u, used, there) = flat_map_cases (use_meant (declarations units) names) (uses units) n among in
       record { used = u; among = used; name = n; meant = there; at = place; numbers = numbers }
 
   from_meaning : (m : NameMeaning) → IsMeaning units names m → (n : Meant) × Contains named n × Means (declarations units) n m
-  from_meaning m is = (is.name, in_flat_map (use_meant (declarations units) names) (uses units) is.used is.name is.among is.meant, is.at, is.numbers)
+  from_meaning m is = (is.name, in_flat_map (use_meant (declarations units) names) (uses units) is.used is.name is.among is.meant, (is.at, is.numbers))
 
-  pub are_scopes : (types : List TypeEntry) (meant : List Meant) (meanings : List NameMeaning) → types ≡ entries (declarations units) → meant ≡ named → AreMeanings (declarations units) meant meanings → AreScopes units names types meanings
-  are_scopes types meant meanings are is each =
+  scopes_of : (types : List TypeEntry) (meant : List Meant) (meanings : List NameMeaning) → types ≡ entries (declarations units) → meant ≡ named → AreMeanings (declarations units) meant meanings → AreScopes units names types meanings
+  scopes_of types meant meanings are is each =
       let all = subst (λ (ns : List Meant). AreMeanings (declarations units) ns meanings) is each in
       record { are_types = are; order = all.order; each = λ m. ((λ there. to_meaning m ((all.each m).0 there)), (λ is. (all.each m).1 (from_meaning m is))) }
+
+  abbrev FromNames : List Declaration → Type 0
+  FromNames all_declared = (types : List TypeEntry) (meant : List Meant) (meanings : List NameMeaning) → types ≡ entries all_declared → meant ≡ flat_map (use_meant all_declared names) (uses units) → AreMeanings all_declared meant meanings → AreScopes units names types meanings
+
+  -- the scopes, whichever list the declarations are told by
+  pub are_scopes : (all_declared : List Declaration) → all_declared ≡ declarations units → FromNames all_declared
+  are_scopes all_declared e = subst FromNames (sym e) scopes_of

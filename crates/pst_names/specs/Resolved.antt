@@ -3,11 +3,14 @@ use Rattle.std.specs.Prelude.{◌≡◌, ℕ, List, ◌∷◌, [], ◌++◌, ◌
 use Rattle.std.specs.Option.{option_map}
 use Rattle.std.specs.List.{list_any}
 use Rattle.pst_ast.specs.DeclarationTree.{UnitTree}
+use Rattle.pst_scope.specs.declared.referent.Checked.{Checked}
+use Rattle.pst_scope.specs.declared.referent.Checked.TheVariants.{Is, Breaks}
 use Rattle.pst_scope.specs.declared.referent.Finding.{Finding}
 use Rattle.pst_scope.specs.Breaches.{IsLeast, IsNone}
 use Rattle.pst_scope.specs.Declarations.{declarations}
 use Rattle.pst_scope.specs.NameRules.{NameBreach, is_root_component, finish_of}
 use Rattle.pst_scope.specs.Scopes.{AreScopes}
+use Rattle.pst_scope.specs.declared.entry.Scopes.{Scopes}
 use Rattle.pst_scope.specs.declared.entry.TypeEntry.{TypeEntry}
 use Rattle.pst_scope.specs.declared.entry.NameMeaning.{NameMeaning}
 use Rattle.pst_names.specs.declared.end.RuleEnd.{RuleEnd}
@@ -21,6 +24,11 @@ AreResolved units names types meanings = IsNone (NameBreach units names) × AreS
 abbrev pub IsUnresolved : List UnitTree → List (List ℕ) → RuleEnd → Type 0
 IsUnresolved units names (rule_end.Broken place rule) = IsLeast (NameBreach units names) place rule
 IsUnresolved units names rule_end.NoMemory = Unit {0}
+
+-- what judging them says of them, where memory sufficed
+abbrev pub IsJudged : List UnitTree → List (List ℕ) → Checked Scopes → Type 0
+IsJudged units names (Is scopes) = AreResolved units names scopes.types scopes.meanings
+IsJudged units names (Breaks place rule) = IsLeast (NameBreach units names) place rule
 
 -- ---- parts of it
 

@@ -46,7 +46,7 @@ fn root_finding(units: &[Unit], index: &Index, names: &Names) -> Option<Finding>
 }
 
 /// The least breach of all, given the least finding of the uses of names.
-#[tactic(auto, using(crate::proofs::Resolving::least_of_all))]
+#[tactic(auto, using(crate::proofs::Resolving::least_of_parts))]
 pub fn least_breach(
     alloc: Global,
     units: &[Unit],

@@ -1,5 +1,5 @@
 //! How judging names ends without scopes.
-use pst_base::{NoMemory, Place};
+use pst_base::Place;
 use thiserror::Error;
 
 /// Why sources have no scopes.
@@ -17,10 +17,4 @@ pub enum RuleEnd {
     /// Memory ran out.
     #[error("memory ran out")]
     NoMemory,
-}
-
-impl From<NoMemory> for RuleEnd {
-    fn from(_error: NoMemory) -> RuleEnd {
-        RuleEnd::NoMemory
-    }
 }

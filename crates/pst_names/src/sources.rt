@@ -2,11 +2,12 @@
 ghost use Rattle.std.specs.Prelude.{◌≡◌, IfErr, IfOk, None, map};
 ghost use Rattle.std.specs.List.{flat_map};
 ghost use Rattle.pst_ast.specs.DeclarationView.{view_unit};
+ghost use Rattle.pst_scope.specs.Declarations.{declarations as the_declarations};
 ghost use Rattle.pst_scope.specs.NameRules.{use_finding};
 ghost use Rattle.pst_scope.specs.Scopes.{use_meant};
 ghost use Rattle.pst_scope.specs.Uses.{uses};
 ghost use Rattle.pst_names.specs.Leasts.{least_at};
-ghost use Rattle.pst_names.specs.Resolved.{AreResolved, IsUnresolved};
+ghost use Rattle.pst_names.specs.Resolved.{AreResolved, IsJudged, IsUnresolved};
 
 use crate::breaches::least_breach;
 use crate::end::RuleEnd;
@@ -16,7 +17,7 @@ use pst_base::{Names, NoMemory};
 use pst_collect::declarations;
 use pst_index::Index;
 use pst_numbers::scopes;
-use pst_scope::{Finding, Meant, Scopes};
+use pst_scope::{Checked, Finding, Meant, Scopes};
 use pst_walk::walk;
 use std::alloc::Global;
 
@@ -36,6 +37,36 @@ fn judged(
     Ok(judge.into_parts())
 }
 
+// What judging the names of sources says of them, given what they declare.
+#[tactic(auto, using(crate::proofs::Resolving::is_least, crate::proofs::Resolving::is_none, crate::proofs::Resolving::are_scopes))]
+fn judged_index(
+    alloc: Global,
+    units: &[Unit],
+    index: &Index,
+    names: &Names,
+) -> Result<Checked<Scopes>, NoMemory>
+    requires declared { index.now ≡ the_declarations (map view_unit units.now) }
+    ensures { IfOk result (λ found. IsJudged (map view_unit units.now) names.now found) }
+{
+    let (used, meant) = judged(alloc, units, index, names)?;
+    match least_breach(alloc, units, index, names, used)? {
+        Some(Finding { place, rule }) => Ok(Checked::Breaks { place, rule }),
+        None => {
+            let scopes = scopes(alloc, index, meant.as_slice())?;
+            Ok(Checked::Is(scopes))
+        }
+    }
+}
+
+// What judging the names of sources says of them.
+fn judged_units(alloc: Global, units: &[Unit], names: &Names) -> Result<Checked<Scopes>, NoMemory>
+    ensures { IfOk result (λ found. IsJudged (map view_unit units.now) names.now found) }
+{
+    let declared = declarations(alloc, units)?;
+    let index = Index::new(alloc, declared)?;
+    judged_index(alloc, units, &index, names)
+}
+
 /// Judges the names of sources by the rules of names: the types of the sources, and what each name
 /// that is used means, where none of the rules is broken.
 ///
@@ -43,15 +74,13 @@ fn judged(
 /// `NoMemory` comes where memory ran out, where something is counted that a `u32` can't hold, and
 /// where two names that mean different things are used at one place, which no tokens at rising
 /// places are.
-#[tactic(auto, using(crate::proofs::Resolving::is_least, crate::proofs::Resolving::is_none, crate::proofs::Resolving::are_scopes))]
 pub fn resolve(alloc: Global, units: &[Unit], names: &Names) -> Result<Scopes, RuleEnd>
     ensures resolved { IfOk result (λ scopes. AreResolved (map view_unit units.now) names.now scopes.types scopes.meanings) }
     ensures broken { IfErr result (λ end. IsUnresolved (map view_unit units.now) names.now end) }
 {
-    let index = Index::new(alloc, declarations(alloc, units)?)?;
-    let (used, meant) = judged(alloc, units, &index, names)?;
-    match least_breach(alloc, units, &index, names, used)? {
-        Some(Finding { place, rule }) => Err(RuleEnd::Broken { place, rule }),
-        None => Ok(scopes(alloc, &index, meant.as_slice())?),
+    match judged_units(alloc, units, names) {
+        Ok(Checked::Is(scopes)) => Ok(scopes),
+        Ok(Checked::Breaks { place, rule }) => Err(RuleEnd::Broken { place, rule }),
+        Err(NoMemory) => Err(RuleEnd::NoMemory),
     }
 }
