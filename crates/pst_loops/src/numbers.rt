@@ -100,7 +100,8 @@ fn number_of(
     first_same(declarations, declaration)
 }
 
-/// The number of a declaration of the list: where it stands for the first time.
+/// The number of a declaration of the list: where it stands for the first time. (What a look-up
+/// gives is of the list.)
 pub fn vertex_of(
     declarations: &[Declaration],
     in_order: bool,
