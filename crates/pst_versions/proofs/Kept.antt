@@ -2,6 +2,7 @@
 use Rattle.std.proofs.Common.{◌≡◌, ℕ, ◌<◌, List, ◌∷◌, [], ◌++◌, length, ap, ◌∙◌, Option, arith}
 use Rattle.std.specs.Prelude.{Some, None, slice_get}
 use Rattle.std.proofs.lemmas.List.{length-append}
+use Rattle.std.proofs.lemmas.Option.{slice_get_within}
 use Rattle.std.specs.Option.{option_and_then}
 use Rattle.pst_versions.specs.declared.node.Node.{Node}
 use Rattle.pst_versions.specs.declared.node.Node.TheVariants.{Empty, Leaf, Branch}
@@ -56,3 +57,6 @@ keeps_on a b c first second = record {
   more = omega (arith, first.more, second.more);
   same = λ version key le. second.same version key (omega (arith, le, first.more)) ∙ first.same version key le;
 }
+
+pub is_there : (versions : Versions) → 0 < count versions
+is_there versions = slice_get_within versions.nodes.items 0 Empty versions.stored.empty

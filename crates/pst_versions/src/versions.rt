@@ -20,16 +20,24 @@ impl Versions {
     ghost use Rattle.std.specs.Prelude.{◌≡◌, ◌<◌, ℕ, None, IfOk};
     ghost use Rattle.pst_versions.specs.Found.{Keeps, IsWith, count, found};
 
-    /// The number of the version that finds nothing.
-    pub const EMPTY: u32 = 0;
+    // The number of the version that finds nothing.
+    pub(crate) const EMPTY: u32 = 0;
 
-    /// The empty version alone.
+    /// The version that finds nothing, alone.
     pub fn new(alloc: Global) -> Result<Versions, NoMemory>
-        ensures { IfOk result (λ versions. (0 < count versions) × ((key : ℕ) → found versions 0 key ≡ None)) }
+        ensures { IfOk result (λ versions. count versions ≡ 1) }
     {
         let mut nodes = Vec::new(alloc);
         nodes.push(Node::Empty)?;
         Ok(Versions { nodes })
+    }
+
+    /// The version that finds nothing.
+    pub fn empty(&self) -> u32
+        ensures there { result < count self.now }
+        ensures nothing { (key : ℕ) → found self.now result key ≡ None }
+    {
+        Versions::EMPTY
     }
 
     /// What a version finds by a key. A version that isn't there finds nothing.
