@@ -1,48 +1,22 @@
 //! Statements of activities. A parser stands at a place, and `depth` derivations that count are open
 //! at the tokens of its part; it answers the part and the place behind it. Behind a part that ends
 //! with an `if` without `else` no `else` stands.
-ghost use Rattle.std.specs.Prelude.{◌≡◌, ◌≤◌, ◌-◌, length};
+ghost use Rattle.std.specs.Prelude.{◌≤◌, ◌-◌, length};
 ghost use Rattle.pst_ast.specs.ActivityView.{view_statement, view_core, view_branch, view_arm};
 ghost use Rattle.pst_ast.specs.ActivityProper.{statement_ends_open, core_ends_open};
-ghost use Rattle.pst_ast.specs.Marks.{together_word_kind};
 ghost use Rattle.pst_reading.specs.Reads.{Reads, ReadsOpen};
-ghost use Rattle.pst_parse_act.specs.ActivityFamilies.{sequence_word_family, maybe_sequence_word_family, sequence_family, together_family, branch_family, branches_family, select_family, repeated_family, if_family, arm_family, arms_family, match_family, core_family, empty_family, named_family, plain_family, statement_family, statements_family, view_statements, view_branches, view_arms};
+ghost use Rattle.pst_parse_statement.specs.ActivityFamilies.{sequence_family, together_family, branch_family, branches_family, select_family, repeated_family, if_family, arm_family, arms_family, match_family, core_family, named_family, plain_family, statement_family, statements_family, view_statements, view_branches, view_arms};
 
 use pst_ast::{ArmNode, BranchNode, CoreNode, LabelNode, StatementNode, SyntaxFault, TogetherWord};
-use pst_base::Place;
 use pst_parse_expr::shared::outermost;
 use pst_parse_part::times::{Times, read_times};
+use pst_parse_statement::words::{empty, maybe_sequence_word, word_kind};
 use pst_parse_step::labels::{arm_label, maybe_guard};
 use pst_parse_step::parts::maybe_join;
 use pst_parse_step::traversal::{bound_core, do_core, handle_core, with_part};
 use pst_reading::{boxed, expect, expect_name, is, is_name, push};
 use pst_token::{Kind, Token};
 use std::alloc::Global;
-
-// The word `sequence`.
-fn sequence_word(tokens: &[Token], at: usize, depth: u32) -> Result<(Place, usize), SyntaxFault>
-    requires inside { at ≤ length tokens.now }
-    ensures { Reads (λ place. place) (sequence_word_family depth) tokens.now at at 1 result }
-{
-    let place = expect(tokens, at, Kind::Sequence, depth, 0)?;
-    Ok((place, at + 1))
-}
-
-// The word `sequence`, where it stands.
-fn maybe_sequence_word(
-    tokens: &[Token],
-    at: usize,
-    depth: u32,
-) -> Result<(Option<Place>, usize), SyntaxFault>
-    requires inside { at ≤ length tokens.now }
-    ensures { Reads (λ place. place) (maybe_sequence_word_family depth) tokens.now at at 0 result }
-{
-    if !is(tokens, at, Kind::Sequence) {
-        return Ok((None, at));
-    }
-    let (word, after) = sequence_word(tokens, at, depth)?;
-    Ok((Some(word), after))
-}
 
 // Statements one after another.
 #[cycle(activity)]
@@ -67,16 +41,6 @@ fn sequence_core(
         right_brace,
     };
     Ok((core, after + 1))
-}
-
-// The reserved word of a block whose statements run side by side or in any order.
-fn word_kind(word: TogetherWord) -> Kind
-    ensures { result ≡ together_word_kind word }
-{
-    match word {
-        TogetherWord::Parallel => Kind::Parallel,
-        TogetherWord::Schedule => Kind::Schedule,
-    }
 }
 
 // Statements side by side, or in any order.
@@ -377,15 +341,6 @@ fn unlabeled(
         return bound_core(alloc, tokens, at, depth);
     }
     handle_core(alloc, tokens, at, depth)
-}
-
-// A statement that does nothing.
-fn empty(tokens: &[Token], at: usize, depth: u32) -> Result<(StatementNode, usize), SyntaxFault>
-    requires inside { at ≤ length tokens.now }
-    ensures { ReadsOpen view_statement statement_ends_open (empty_family depth) tokens.now at at result }
-{
-    let semicolon = expect(tokens, at, Kind::Semicolon, depth, 0)?;
-    Ok((StatementNode::Empty(semicolon), at + 1))
 }
 
 // A statement that begins with a name: a label where a colon comes next, and else a handle.

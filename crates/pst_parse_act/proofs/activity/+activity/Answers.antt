@@ -12,16 +12,16 @@ use Rattle.pst_reading.proofs.Lists.{list_begins, list_turns, list_fails, list_e
 use Rattle.pst_reading.proofs.Reaching.{begin, choose, reads_open_on}
 use Rattle.pst_parse_expr.specs.Constraints.{is_other}
 use Rattle.pst_parse_step.specs.ActivityPartFamilies.{do_family, handle_family, bound_family}
-use Rattle.pst_parse_act.specs.ActivityFamilies.{nested_family, sequence_family, branch_family, select_family, repeated_family, if_family, arm_family, match_family, core_family, empty_family, named_family, plain_family, statement_family, together_family}
-use Rattle.pst_parse_act.proofs.ActivityRules.{arm_colon_fails, arm_given, arm_label_fails, arm_statement_fails, both_else__fails, both_given, both_other_fails, branch_given, branch_guard_fails, branch_statement_fails, handle_given, handle_name_fails, handle_with_fails, label_colon_fails, label_core_fails, label_given, match_core_expr_fails, match_core_first_fails, match_core_given, match_core_left_brace_fails, match_core_left_parenthesis_fails, match_core_match__fails, match_core_rest_fails, match_core_right_brace_fails, match_core_right_parenthesis_fails, only_condition_fails, only_given, only_holds_fails, only_if__fails, only_left_parenthesis_fails, only_right_parenthesis_fails, plain_core_fails, plain_given, repeat_core_given, repeat_core_repeat_fails, repeat_core_repeated_fails, select_core_first_fails, select_core_given, select_core_left_brace_fails, select_core_rest_fails, select_core_right_brace_fails, select_core_select_fails, sequence_core_given, sequence_core_left_brace_fails, sequence_core_right_brace_fails, sequence_core_sequence_fails, sequence_core_statements_fails, together_core_given, together_core_join_fails, together_core_left_brace_fails, together_core_place_fails, together_core_right_brace_fails, together_core_statements_fails, repeat_core_times_fails}
+use Rattle.pst_parse_statement.specs.ActivityFamilies.{nested_family, sequence_family, branch_family, select_family, repeated_family, if_family, arm_family, match_family, core_family, empty_family, named_family, plain_family, statement_family, together_family}
+use Rattle.pst_parse_statement.proofs.ActivityRules.{arm_colon_fails, arm_given, arm_label_fails, arm_statement_fails, both_else__fails, both_given, both_other_fails, branch_given, branch_guard_fails, branch_statement_fails, handle_given, handle_name_fails, handle_with_fails, label_colon_fails, label_core_fails, label_given, match_core_expr_fails, match_core_first_fails, match_core_given, match_core_left_brace_fails, match_core_left_parenthesis_fails, match_core_match__fails, match_core_rest_fails, match_core_right_brace_fails, match_core_right_parenthesis_fails, only_condition_fails, only_given, only_holds_fails, only_if__fails, only_left_parenthesis_fails, only_right_parenthesis_fails, plain_core_fails, plain_given, repeat_core_given, repeat_core_repeat_fails, repeat_core_repeated_fails, select_core_first_fails, select_core_given, select_core_left_brace_fails, select_core_rest_fails, select_core_right_brace_fails, select_core_select_fails, sequence_core_given, sequence_core_left_brace_fails, sequence_core_right_brace_fails, sequence_core_sequence_fails, sequence_core_statements_fails, together_core_given, together_core_join_fails, together_core_left_brace_fails, together_core_place_fails, together_core_right_brace_fails, together_core_statements_fails, repeat_core_times_fails}
 use Rattle.pst_token.specs.declared.kind.Kind.{Kind}
 use Rattle.pst_ast.specs.declared.activity.TogetherWord.TheVariants as the_together_word
 use Rattle.pst_ast.specs.Limits.{counted, is_over}
 use Rattle.pst_reading.specs.Parser.{Took, run, mark_by}
 use Rattle.pst_reading.specs.Gives.{Expects}
-use Rattle.pst_parse_act.proofs.ActivityLooks.{name_decides, earlier, earlier_fault}
-use Rattle.pst_parse_act.proofs.ActivityNested.{statement_nested, statement_nested_fails}
-use Rattle.pst_parse_act.proofs.ActivityViews.{sequence_view, together_view, select_view, match_view}
+use Rattle.pst_parse_statement.proofs.ActivityLooks.{name_decides, earlier, earlier_fault}
+use Rattle.pst_parse_statement.proofs.ActivityNested.{statement_nested, statement_nested_fails}
+use Rattle.pst_parse_statement.proofs.ActivityViews.{sequence_view, together_view, select_view, match_view}
 use Rattle.pst_parse_act.proofs.activity.+activity.Goals as goal
 use Rattle.pst_parse_part.specs.TimesFamilies.{view_times}
 
