@@ -4,8 +4,8 @@ use Rattle.pst_token.specs.declared.token.Token.{Token}
 use Rattle.pst_ast.specs.declared.activity.CoreNode.{CoreNode}
 use Rattle.pst_ast.specs.ActivityView.{view_core}
 use Rattle.pst_ast.specs.ActivitySpelling.{spell_core}
-use Rattle.pst_spell.proofs.ActivityRows.{sequence_spells, together_spells, select_spells, match_spells}
-use Rattle.pst_spell.proofs.spell_activity.+activity_spelling.Goals as goal
+use Rattle.pst_spell_act.proofs.ActivityRows.{sequence_spells, together_spells, select_spells, match_spells}
+use Rattle.pst_spell_act.proofs.spell_activity.+activity_spelling.Goals as goal
 
 pub add_core-returns-in_ok-add_statements-in-Sequence : goal.add_core-returns-in_ok-add_statements-in-Sequence
 add_core-returns-in_ok-add_statements-in-Sequence t c = subst (λ (ts : List Token). OnOk c.push_mark-in-Sequence-2.result (c.push_mark-in-Sequence-2.new.tokens.items ≡ c.args.tokens.now.items ++ ts)) (sym (ap (λ (k : CoreNode). spell_core (view_core k)) c.in-Sequence.is ∙ sequence_spells c.in-Sequence.sequence c.in-Sequence.left_brace c.in-Sequence.statements c.in-Sequence.right_brace)) (grind (arith, common_steps))

@@ -19,7 +19,7 @@ use pst_spell_parts::spell_shared::{
 };
 use pst_token::{Kind, Token};
 
-// activity = "activity" "{" { stmt } "}"
+/// Adds the tokens of an activity: `"activity" "{" { stmt } "}"`.
 pub fn add_activity(tokens: &mut Vec<Token>, activity: &ActivityNode) -> Result<(), NoMemory>
     ensures { OnOk result (tokens.new.items ≡ tokens.old.items ++ spell_activity (view_activity activity.now)) }
 {
