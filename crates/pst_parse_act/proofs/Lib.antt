@@ -1,1 +1,2 @@
 pub mod ActivityAnswering
+pub mod ActivityKept

@@ -9,6 +9,7 @@ ghost use Rattle.pst_parse_statement.specs.ActivityFamilies.{sequence_family, to
 
 use pst_ast::{ArmNode, BranchNode, CoreNode, LabelNode, StatementNode, SyntaxFault, TogetherWord};
 use pst_parse_expr::shared::outermost;
+use pst_parse_member::keeping::both;
 use pst_parse_part::times::{Times, read_times};
 use pst_parse_statement::words::{empty, maybe_sequence_word, word_kind};
 use pst_parse_step::labels::{arm_label, maybe_guard};
@@ -189,24 +190,30 @@ fn if_core(
 {
     let if_ = expect(tokens, at, Kind::If, depth, 0)?;
     let left_parenthesis = expect(tokens, at + 1, Kind::LeftParenthesis, depth, 0)?;
-    let (condition, behind) = outermost(alloc, tokens, at + 2, depth)?;
-    let right_parenthesis = expect(tokens, behind, Kind::RightParenthesis, depth, 0)?;
-    let (holds, after) = statement(alloc, tokens, behind + 1, depth + 1)?;
-    let then = boxed(alloc, holds)?;
+    let (asked, behind) = outermost(alloc, tokens, at + 2, depth)?;
+    let closing = expect(tokens, behind, Kind::RightParenthesis, depth, 0);
+    let (tested, right_parenthesis) = both(asked, closing)?;
+    let first = statement(alloc, tokens, behind + 1, depth + 1);
+    let (kept, (holds, after)) = both(tested, first)?;
+    let heap = boxed(alloc, holds);
+    let (held, done) = both(kept, heap)?;
     if !is(tokens, after, Kind::Else) {
         let only = CoreNode::If {
             if_,
             left_parenthesis,
-            condition,
+            condition: held,
             right_parenthesis,
-            then,
+            then: done,
         };
         return Ok((only, after));
     }
-    let else_ = expect(tokens, after, Kind::Else, depth, 0)?;
-    let (other, end) = statement(alloc, tokens, after + 1, depth + 1)?;
-    let otherwise = boxed(alloc, other)?;
-    let both = CoreNode::IfElse {
+    let word = expect(tokens, after, Kind::Else, depth, 0);
+    let (front, else_) = both((held, done), word)?;
+    let second = statement(alloc, tokens, after + 1, depth + 1);
+    let (head, (other, end)) = both(front, second)?;
+    let tail = boxed(alloc, other);
+    let ((condition, then), otherwise) = both(head, tail)?;
+    let whole = CoreNode::IfElse {
         if_,
         left_parenthesis,
         condition,
@@ -215,7 +222,7 @@ fn if_core(
         else_,
         otherwise,
     };
-    Ok((both, end))
+    Ok((whole, end))
 }
 
 // An arm of `match`.
@@ -278,13 +285,19 @@ fn match_core(
 {
     let match_ = expect(tokens, at, Kind::Match, depth, 0)?;
     let left_parenthesis = expect(tokens, at + 1, Kind::LeftParenthesis, depth, 0)?;
-    let (expr, behind) = outermost(alloc, tokens, at + 2, depth)?;
-    let right_parenthesis = expect(tokens, behind, Kind::RightParenthesis, depth, 0)?;
-    let left_brace = expect(tokens, behind + 1, Kind::LeftBrace, depth, 0)?;
-    let (head, after) = arm(alloc, tokens, behind + 2, depth)?;
-    let first = boxed(alloc, head)?;
-    let (rest, end) = arms(alloc, tokens, after, depth)?;
-    let right_brace = expect(tokens, end, Kind::RightBrace, depth, 0)?;
+    let (asked, behind) = outermost(alloc, tokens, at + 2, depth)?;
+    let closing = expect(tokens, behind, Kind::RightParenthesis, depth, 0);
+    let (tested, right_parenthesis) = both(asked, closing)?;
+    let opening = expect(tokens, behind + 1, Kind::LeftBrace, depth, 0);
+    let (matched, left_brace) = both(tested, opening)?;
+    let one = arm(alloc, tokens, behind + 2, depth);
+    let (kept, (head, after)) = both(matched, one)?;
+    let heap = boxed(alloc, head);
+    let (held, arm) = both(kept, heap)?;
+    let others = arms(alloc, tokens, after, depth);
+    let (front, (listed, end)) = both((held, arm), others)?;
+    let last = expect(tokens, end, Kind::RightBrace, depth, 0);
+    let (((expr, first), rest), right_brace) = both((front, listed), last)?;
     let core = CoreNode::Match {
         match_,
         left_parenthesis,
