@@ -68,6 +68,19 @@ enum Within {
     Member,
 }
 
+// A source that is being read.
+#[derive(Drop)]
+struct Reading {
+    alloc: Global,
+    read: Annotated,
+    current: String,
+    place: Place,
+    within: Within,
+    sort: char,
+    target: u32,
+    member: u32,
+}
+
 // The digit's value behind a number.
 fn with_digit(number: u32, digit: char) -> u32 {
     match digit.to_digit(10) {
@@ -76,76 +89,108 @@ fn with_digit(number: u32, digit: char) -> u32 {
     }
 }
 
+impl Reading {
+    fn new(alloc: Global) -> Reading {
+        Reading {
+            alloc,
+            read: Annotated {
+                files: Vec::new(alloc),
+                types: Vec::new(alloc),
+                meanings: Vec::new(alloc),
+            },
+            current: String::new(alloc),
+            place: Place {
+                file: 0,
+                line: 1,
+                column: 1,
+            },
+            within: Within::Text,
+            sort: ' ',
+            target: 0,
+            member: 0,
+        }
+    }
+
+    // Ends a file.
+    fn end_file(&mut self) -> Result<(), AllocError> {
+        let next = String::new(self.alloc);
+        let text = std::mem::replace(&mut self.current, next);
+        self.read.files.push(text)?;
+        self.place.file = self.place.file.wrapping_add(1);
+        self.place.column = 1;
+        Ok(())
+    }
+
+    // Takes a letter of a file, or one that begins something else.
+    fn take_text(&mut self, letter: char) -> Result<(), AllocError> {
+        match letter {
+            '^' => self.within = Within::Sort,
+            '`' => {
+                self.within = Within::Target;
+                self.target = 0;
+                self.member = 0;
+            }
+            '#' => self.end_file()?,
+            _ => {
+                self.current.push(letter)?;
+                self.place.column = self.place.column.wrapping_add(1);
+            }
+        }
+        Ok(())
+    }
+
+    // Takes the component of a type.
+    fn take_component(&mut self, component: char) -> Result<(), AllocError> {
+        self.within = Within::Text;
+        self.read.types.push(Declared {
+            place: self.place,
+            sort: self.sort,
+            component,
+        })?;
+        Ok(())
+    }
+
+    // Takes a digit of the number of a name, or the end of a meaning.
+    fn take_member(&mut self, letter: char) -> Result<(), AllocError> {
+        if letter != '`' {
+            self.member = with_digit(self.member, letter);
+            return Ok(());
+        }
+        self.within = Within::Text;
+        self.read.meanings.push(Meaning {
+            place: self.place,
+            target: self.target,
+            member: self.member,
+        })?;
+        Ok(())
+    }
+
+    // Takes a letter.
+    fn take(&mut self, letter: char) -> Result<(), AllocError> {
+        match self.within {
+            Within::Text => self.take_text(letter)?,
+            Within::Sort => {
+                self.sort = letter;
+                self.within = Within::Component;
+            }
+            Within::Component => self.take_component(letter)?,
+            Within::Target if letter == '.' => self.within = Within::Member,
+            Within::Target => self.target = with_digit(self.target, letter),
+            Within::Member => self.take_member(letter)?,
+        }
+        Ok(())
+    }
+}
+
 /// Reads a source of one line for each file. `#` stands between files. Before the name of a type
 /// stand `^`, the letter of its sort and the number of its component as a digit, or `-`; before a
 /// name that is used its meaning between backquotes, the number of the type, `.`, and that of the
 /// name in its text.
 pub fn annotated(alloc: Global, text: &str) -> Result<Annotated, AllocError> {
-    let mut files = Vec::new(alloc);
-    let mut types = Vec::new(alloc);
-    let mut meanings = Vec::new(alloc);
-    let mut current = String::new(alloc);
-    let mut place = Place {
-        file: 0,
-        line: 1,
-        column: 1,
-    };
-    let mut within = Within::Text;
-    let mut sort = ' ';
-    let (mut target, mut member): (u32, u32) = (0, 0);
+    let mut reading = Reading::new(alloc);
     for letter in text.chars() {
-        match within {
-            Within::Text => match letter {
-                '^' => within = Within::Sort,
-                '`' => {
-                    within = Within::Target;
-                    target = 0;
-                    member = 0;
-                }
-                '#' => {
-                    let next = String::new(alloc);
-                    files.push(std::mem::replace(&mut current, next))?;
-                    place.file = place.file.wrapping_add(1);
-                    place.column = 1;
-                }
-                _ => {
-                    current.push(letter)?;
-                    place.column = place.column.wrapping_add(1);
-                }
-            },
-            Within::Sort => {
-                sort = letter;
-                within = Within::Component;
-            }
-            Within::Component => {
-                types.push(Declared {
-                    place,
-                    sort,
-                    component: letter,
-                })?;
-                within = Within::Text;
-            }
-            Within::Target => match letter {
-                '.' => within = Within::Member,
-                _ => target = with_digit(target, letter),
-            },
-            Within::Member => match letter {
-                '`' => {
-                    meanings.push(Meaning {
-                        place,
-                        target,
-                        member,
-                    })?;
-                    within = Within::Text;
-                }
-                _ => member = with_digit(member, letter),
-            },
-        }
+        reading.take(letter)?;
     }
-    files.push(current)?;
-    Ok(Annotated {
-        files,
-        types,
-        meanings,
-    })
+    reading.end_file()?;
+    Ok(reading.read)
 }

@@ -107,7 +107,10 @@ fn longest_texts(rt: HostRuntime) -> Result<(), Fail> {
             line: 1,
             column: *times + 1,
         };
-        assert_eq!(rt; judged(rt.alloc(), files.as_slice()).err(), Some(RuleEnd::Broken { place, rule: 8 }));
+        assert_eq!(rt;
+            judged(rt.alloc(), files.as_slice()).err(),
+            Some(RuleEnd::Broken { place, rule: 8 })
+        );
     }
     Ok(())
 }

@@ -12,8 +12,8 @@ ghost use Rattle.pst_scope.specs.Uses.{Use, Judges, JoinCount, HasPlain, HasType
 ghost use Rattle.pst_walk_parts.specs.Shown.{dotted_part, view_role, view_statements, view_wanted};
 
 use pst_ast::{
-    ArgumentsNode, ArmNode, DotName, EndNode, ExprNode, Name, NextExpr, NextPart, OtherEnds,
-    NamesNode, PartNode, PlainNode, StatementNode, TargetNode, TypeName, TypeNode,
+    ArgumentsNode, ArmNode, DotName, EndNode, ExprNode, Name, NamesNode, NextExpr, NextPart,
+    OtherEnds, PartNode, PlainNode, StatementNode, TargetNode, TypeName, TypeNode,
 };
 use pst_base::{NoMemory, Place};
 use pst_scope::{Declaration, Environment, Traversal};
