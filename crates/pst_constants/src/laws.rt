@@ -1,0 +1,18 @@
+//! Laws of the definitions: each function here does nothing, and its contract is a law.
+ghost use Rattle.pst_constants.specs.Laws.{ItemsHaveOneValue, ExpressionsHaveOneValue};
+ghost use Rattle.pst_constants.specs.Tried.{ConstantsAreTried};
+
+/// An enum item has at most one value.
+pub fn items_have_one_value()
+    ensures { ItemsHaveOneValue }
+{}
+
+/// An expression has at most one value.
+pub fn expressions_have_one_value()
+    ensures { ExpressionsHaveOneValue }
+{}
+
+/// Values of enum items and of expressions, in a small source.
+pub fn constants_are_tried()
+    ensures { ConstantsAreTried }
+{}

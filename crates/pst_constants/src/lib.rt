@@ -1,0 +1,7 @@
+//! The values of constant expressions, those of enum items, and the domains of types: definitions
+//! on syntax trees.
+#![tactic(auto)]
+
+mod laws;
+
+pub use laws::{constants_are_tried, expressions_have_one_value, items_have_one_value};
