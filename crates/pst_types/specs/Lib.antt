@@ -7,3 +7,5 @@ pub mod Binds
 pub mod TypeRules
 pub mod Typed
 pub mod Laws
+pub mod Tried
+pub mod TriedRules
