@@ -1,3 +1,4 @@
 mod Ordered
 mod SourcesTried
 mod RulesTried
+mod WidthTried

@@ -83,7 +83,8 @@ abbrev pub Breaks : UnitTree → Place → ℕ → Type 0
 Breaks unit place rule = TypeBreach (unit ∷ []) names place rule
 
 pub record SourcesAreTried : Type 0 where
-  pub width : Breaks wide (on 1 37) 9
+  -- the least of all breaches
+  pub width : IsLeast (TypeBreach (wide ∷ []) names) (on 1 37) 9
   pub range : Breaks reversed (on 1 48) 10
   pub count : Breaks joined (on 3 51) 12
   pub size : Breaks long (on 1 46) 12
