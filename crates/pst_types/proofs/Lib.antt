@@ -2,3 +2,4 @@ mod Ordered
 mod SourcesTried
 mod RulesTried
 mod WidthTried
+mod MoreTried

@@ -1,24 +1,22 @@
 -- Facts about a source that breaks many rules.
 use Rattle.std.proofs.Common.{◌≡◌, arith, refl, sym, subst, ap, ◌∙◌, true≢false}
-use Rattle.std.specs.Prelude.{ℕ, ℤ, pos, List, [], ◌∷◌, map, Bool, true, false, Option, Some, None}
+use Rattle.std.specs.Prelude.{ℤ, pos, List, [], ◌∷◌, true, false, Some, None}
 use Rattle.std.specs.List.{flat_map}
 use Rattle.std.specs.Option.{unwrap_or}
 use Rattle.pst_base.specs.declared.position.Place.{Place}
 use Rattle.pst_ast.specs.ActivityTree.{StatementTree}
 use Rattle.pst_ast.specs.DeclarationTree.{UnitTree}
 use Rattle.pst_scope.specs.declared.declaration.Declaration.{Declaration}
-use Rattle.pst_scope.specs.Uses.{Use, uses}
-use Rattle.pst_scope.specs.Declarations.{declarations, action_declared}
+use Rattle.pst_scope.specs.Declarations.{action_declared}
 use Rattle.pst_scope.specs.Lookups.{look_up, declared_at, base_of, member_of, item_at as an_item_at, value_named, type_of, traversed, stands_for}
-use Rattle.pst_scope.specs.Paths.{read_path}
-use Rattle.pst_constants.specs.Enums.{enum_at, item_at}
+use Rattle.pst_constants.specs.Enums.{item_at}
 use Rattle.pst_constants.specs.Constants.{IsItemValue, Given, Next}
 use Rattle.pst_constants.specs.Domains.{span, Single, Between}
-use Rattle.pst_types.specs.Sites.{DeclaredAction, action_at, function_at, field_at}
+use Rattle.pst_types.specs.Sites.{DeclaredAction, action_at, function_at}
 use Rattle.pst_types.specs.Members.{WithoutBase, WithBase, activities_of, IsCompound, Own, Inherited}
 use Rattle.pst_types.specs.Handles.{traversals, IsSteadyIn, ByOwner}
-use Rattle.pst_types.specs.TypeRules.{UseBreaks, InnerIn, NotConstant, Meeting, TwoDefaults, SizeOfNoResources, AbstractTraversed, NotDecided, UnfitEnds, OtherObject, WrongArguments, NoAnswer, NoLocal, SameValue, ItemOutside, ReferenceOfResource, ClaimOfNoResource, CompoundWithNeed, TypeBreach, OfUse, OfEnum, OfDeclaration, Unsteady}
-use Rattle.pst_types.specs.Tried.{on, name, number}
+use Rattle.pst_types.specs.TypeRules.{InnerIn, NotConstant, Meeting, TwoDefaults, SizeOfNoResources, AbstractTraversed, NotInCondition, UnfitEnds, OtherObject, WrongArguments, NoAnswer, NoLocal, SameValue, ItemOutside, ReferenceOfResource, ClaimOfNoResource, CompoundWithNeed, OfUse, OfEnum, OfDeclaration, Unsteady}
+use Rattle.pst_types.specs.Tried.{on, name}
 use Rattle.pst_types.specs.TriedRules.{source, names, Breaks, performs, zero_to_one, only_one, range_label, default_label}
 use Rattle.pst_types.proofs.SourcesTried.{nothing, is_missing, number_is}
 
@@ -105,7 +103,7 @@ compound = action_declared (on 1 11) None (name 15 (on 10 10))
 
 pub condition : Breaks 11 46 19
 unfolding look_up declared_at base_of member_of an_item_at value_named type_of traversed stands_for
-condition = OfUse _ _ _ (29, omega arith, refl) (NotDecided _ _ _ _ _ _ (0, omega arith, refl) refl refl)
+condition = OfUse _ _ _ (29, omega arith, refl) (NotInCondition _ _ _ _ _ _ (0, omega arith, refl) refl refl)
 
 pub from_input : Breaks 11 63 20
 unfolding look_up declared_at base_of member_of an_item_at value_named type_of traversed stands_for
@@ -131,10 +129,10 @@ assigned_field = OfUse _ _ _ (50, omega arith, refl) (NoLocal _ _ _ refl refl)
 
 -- ---- a handle within a `select`
 
-some_is : {A : Type 0} (x y : A) → Some x ≡ Some y → x ≡ y
+pub some_is : {A : Type 0} (x y : A) → Some x ≡ Some y → x ≡ y
 some_is x y e = ap (λ o. unwrap_or o x) e
 
-abbrev first_or : {A : Type 0} → A → List A → A
+abbrev pub first_or : {A : Type 0} → A → List A → A
 first_or x [] = x
 first_or x (y ∷ more) = y
 

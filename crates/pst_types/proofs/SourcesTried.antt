@@ -1,15 +1,12 @@
 -- Facts about small sources.
-use Rattle.std.proofs.Common.{◌≡◌, arith, refl, sym, subst, true≢false}
-use Rattle.std.specs.Prelude.{ℕ, ℤ, pos, ◌<ℤ◌, ◌≤ℤ◌, List, [], ◌∷◌, Bool, true, false, Option, Some, None}
-use Rattle.std.specs.List.{Contains}
+use Rattle.std.proofs.Common.{◌≡◌, arith, refl, subst}
+use Rattle.std.specs.Prelude.{ℕ, ℤ, pos, List, [], Option, Some, None}
 use Rattle.pst_base.specs.declared.position.Place.{Place}
 use Rattle.pst_ast.specs.DeclarationTree.{UnitTree}
 use Rattle.pst_scope.specs.declared.environment.Environment.{Environment}
-use Rattle.pst_scope.specs.Uses.{Use, uses}
-use Rattle.pst_expr.specs.Spans.{IsInSpan}
-use Rattle.pst_constants.specs.Constants.{value_by, IsItemValue, HasValue, IsConstant}
-use Rattle.pst_constants.specs.Domains.{span, HasWidth, ByCount, IsSpanOf, Single, Between}
-use Rattle.pst_types.specs.TypeRules.{UseBreaks, WidthOutside, ReversedInDomain, Outside, TypeBreach, OfUse}
+use Rattle.pst_constants.specs.Constants.{value_by, IsConstant}
+use Rattle.pst_constants.specs.Domains.{span, ByCount, Between}
+use Rattle.pst_types.specs.TypeRules.{WidthOutside, ReversedInDomain, ValueOutside, OfUse}
 use Rattle.pst_types.specs.Tried.{on, number, names, wide, reversed, long, joined, Breaks}
 
 -- ---- numbers are constants
@@ -35,7 +32,7 @@ pub range : Breaks reversed (on 1 48) 10
 range = OfUse _ _ _ (0, omega arith, refl) (ReversedInDomain _ _ _ (span (pos 3) (pos 1)) (0, omega arith, refl) (Between _ _ _ _ _ (number_is _ _ _ 3 (on 1 48) (pos 3) refl) (number_is _ _ _ 1 (on 1 51) (pos 1) refl)) (omega arith))
 
 pub count : Breaks joined (on 3 51) 12
-count = OfUse _ _ _ (1, omega arith, refl) (Outside _ _ _ (span (pos 0) (pos 2)) (pos 3) refl (number_is _ _ _ 3 (on 3 51) (pos 3) refl) (λ h. omega (arith, h.1)))
+count = OfUse _ _ _ (1, omega arith, refl) (ValueOutside _ _ _ (span (pos 0) (pos 2)) (pos 3) refl (number_is _ _ _ 3 (on 3 51) (pos 3) refl) (λ h. omega (arith, h.1)))
 
 pub size : Breaks long (on 1 46) 12
-size = OfUse _ _ _ (3, omega arith, refl) (Outside _ _ _ (span (pos 1) (pos 64)) (pos 65) refl (number_is _ _ _ 65 (on 1 46) (pos 65) refl) (λ h. omega (arith, h.1)))
+size = OfUse _ _ _ (3, omega arith, refl) (ValueOutside _ _ _ (span (pos 1) (pos 64)) (pos 65) refl (number_is _ _ _ 65 (on 1 46) (pos 65) refl) (λ h. omega (arith, h.1)))

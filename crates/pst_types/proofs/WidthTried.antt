@@ -1,12 +1,12 @@
 -- A source with one type that is too wide: that is its first breach.
-use Rattle.std.proofs.Common.{◌≡◌, ◌⊎◌, inl, inr, arith, refl, sym, subst, ap, ◌∙◌, true≢false, zero, suc, get_or}
-use Rattle.std.specs.Prelude.{ℕ, ◌<◌, ◌+◌, ◌≤◌, ℤ, pos, List, [], ◌∷◌, ◌++◌, length, map, Bool, true, false, Option, Some, None, IsTrue, if◌then◌else◌}
+use Rattle.std.proofs.Common.{◌≡◌, inl, inr, arith, refl, sym, subst, ap, ◌∙◌, true≢false, zero, suc}
+use Rattle.std.specs.Prelude.{ℕ, ◌<◌, ◌+◌, ◌≤◌, List, [], ◌∷◌, ◌++◌, length, Bool, true, false, Option, Some, None, IsTrue, if◌then◌else◌}
 use Rattle.std.specs.List.{Contains, filter}
 use Rattle.std.specs.Option.{option_and_then, option_map_or}
 use Rattle.std.proofs.lemmas.List.{length-append}
 use Rattle.pst_base.specs.declared.position.Place.{Place}
 use Rattle.pst_ast.specs.ExpressionTree.{MakePart, NoIndex}
-use Rattle.pst_ast.specs.SharedTree.{TypeTree, TypePlain}
+use Rattle.pst_ast.specs.SharedTree.{TypePlain}
 use Rattle.pst_ast.specs.ActivityTree.{StatementTree}
 use Rattle.pst_ast.specs.DeclarationTree.{UnitTree, MakeAction, ActionPartField, MakeField}
 use Rattle.pst_scope.specs.declared.declaration.Declaration.{Declaration}
@@ -23,8 +23,8 @@ use Rattle.pst_types.specs.Members.{own_members, AreMembers, WithoutBase, WithBa
 use Rattle.pst_types.specs.Limits.{is_parameter, is_local_of, IsLimited, Items, Parameters, Locals, References, Claims, AddsFields, One, Array, WrongArray, AddTogether, Nothing, More}
 use Rattle.pst_types.specs.Handles.{Mention, mentions}
 use Rattle.pst_types.specs.Binds.{pairs}
-use Rattle.pst_types.specs.TypeRules.{UseBreaks, WidthOutside, LowestNotZero, ReversedInDomain, Empty, InnerIn, NotConstant, Outside, DeclarationBreaks, TooMany, ManyFields, ReferenceOfResource, ClaimOfNoResource, TwoActivities, TwoBodies, ActivityAndBody, CompoundWithNeed, TypeBreach, OfUse, OfEnum, OfDeclaration, Unsteady, BoundTwice}
-use Rattle.pst_types.specs.Tried.{on, name, number, names, bits, wide, Breaks}
+use Rattle.pst_types.specs.TypeRules.{UseBreaks, WidthOutside, LowestNotZero, ReversedInDomain, Empty, InnerIn, NotConstant, ValueOutside, DeclarationBreaks, TooMany, ManyFields, ReferenceOfResource, ClaimOfNoResource, TwoActivities, TwoBodies, ActivityAndBody, CompoundWithNeed, TypeBreach, OfUse, OfEnum, OfDeclaration, Unsteady, BoundTwice}
+use Rattle.pst_types.specs.Tried.{on, name, number, names, bits, wide}
 use Rattle.pst_types.proofs.SourcesTried.{is_missing, width}
 
 abbrev units : List UnitTree
@@ -55,7 +55,7 @@ of_plain p r (LowestNotZero _ _ expr v is has other) = inr (refl, omega arith)
 of_width : (p : Place) (r : ℕ) → UseBreaks units names (Judges inside (Width false) (number 64 (on 1 41))) p r → NoLater p r
 of_width p r (InnerIn _ _ _ place among) = absurd (none_of place among)
 of_width p r (NotConstant _ _ _ must none) = inl (inr (refl, inr (refl, omega arith)))
-of_width p r (Outside _ _ _ limits v is has outside) = absurd (is_missing limits is)
+of_width p r (ValueOutside _ _ _ limits v is has outside) = absurd (is_missing limits is)
 
 of_use : (u : Use) (p : Place) (r : ℕ) → Contains (uses units) u → UseBreaks units names u p r → NoLater p r
 of_use u p r (zero, less, is) breaks = of_type p r (subst (λ (v : Use). UseBreaks units names v p r) (sym is) breaks)
@@ -143,7 +143,7 @@ performs_nothing : (place : Place) (a : DeclaredAction) → action_at units plac
 unfolding action_at
 performs_nothing place a e = nothing_in (same_place (on 1 28) place) a e
 
-abbrev IsFilled : {A : Type 0} → List A → Type 0
+abbrev pub IsFilled : {A : Type 0} → List A → Type 0
 IsFilled [] = ⊥
 IsFilled (x ∷ more) = Unit {0}
 

@@ -1,5 +1,5 @@
 -- The pairs of ends that the binds of activities join.
-use Rattle.std.specs.Prelude.{◌≡◌, ℕ, Bool, true, false, List, [], ◌∷◌, map, Option, Some, IsTrue}
+use Rattle.std.specs.Prelude.{◌≡◌, ℕ, Bool, true, false, List, [], map, Option, Some, IsTrue}
 use Rattle.std.specs.List.{flat_map}
 use Rattle.pst_ast.specs.declared.activity.EndNode.{EndNode}
 use Rattle.pst_ast.specs.declared.declaration.ObjectWord.TheVariants as word
@@ -8,7 +8,6 @@ use Rattle.pst_scope.specs.declared.declaration.Declaration.{Declaration}
 use Rattle.pst_scope.specs.declared.declaration.Sort.{Sort}
 use Rattle.pst_scope.specs.declared.declaration.Sort.TheVariants as sort
 use Rattle.pst_scope.specs.declared.environment.Environment.{Environment}
-use Rattle.pst_scope.specs.Declarations.{declarations}
 use Rattle.pst_scope.specs.Lookups.{type_of}
 use Rattle.pst_scope.specs.Uses.{Use, Ties, uses}
 use Rattle.pst_scope.specs.NameRules.{end_named}

@@ -9,3 +9,4 @@ pub mod Typed
 pub mod Laws
 pub mod Tried
 pub mod TriedRules
+pub mod TriedMore

@@ -1,7 +1,7 @@
 -- The members of types, with those of their bases, and the activity that an action has.
-use Rattle.std.specs.Prelude.{◌≡◌, List, [], ◌∷◌, ◌++◌, Bool, Option, Some, None}
+use Rattle.std.specs.Prelude.{◌≡◌, List, [], ◌∷◌, ◌++◌, Bool, Some, None}
 use Rattle.std.specs.List.{filter, flat_map}
-use Rattle.pst_ast.specs.ActivityTree.{StatementTree, ActivityTree, MakeActivity}
+use Rattle.pst_ast.specs.ActivityTree.{StatementTree, MakeActivity}
 use Rattle.pst_ast.specs.BodyTree.{BodyTree}
 use Rattle.pst_ast.specs.DeclarationTree.{UnitTree, ActionPartTree, ActionPartActivity, ActionPartBody}
 use Rattle.pst_scope.specs.declared.declaration.Declaration.{Declaration}

@@ -1,11 +1,11 @@
 -- The actions, functions and fields of the sources, each with the parts of its text.
-use Rattle.std.specs.Prelude.{List, [], ◌∷◌, ◌++◌, map, Bool, Option, Some, None, is_some}
+use Rattle.std.specs.Prelude.{List, [], ◌∷◌, map, Bool, Option, Some, None, is_some}
 use Rattle.std.specs.List.{find, flat_map}
 use Rattle.pst_base.specs.declared.position.Place.{Place}
 use Rattle.pst_ast.specs.declared.leaf.Name.{Name}
 use Rattle.pst_ast.specs.ExpressionTree.{ExprTree, PartTree, MakePart, MaybeIndex, NoIndex, SomeIndex, MakeIndex}
 use Rattle.pst_ast.specs.SharedTree.{TypeTree}
-use Rattle.pst_ast.specs.DeclarationTree.{UnitTree, MakeUnit, ItemTree, ItemComponent, ItemObject, ItemFunction, ComponentTree, MakeComponent, ComponentPartTree, ComponentPartAction, ComponentPartObject, ComponentPartFunction, ObjectTree, MakeObject, ObjectPartTree, ObjectPartField, FunctionTree, MakeFunction, AnswerTree, ParameterTree, ActionTree, MakeAction, ActionPartTree, ActionPartField, FieldTree, MakeField}
+use Rattle.pst_ast.specs.DeclarationTree.{UnitTree, MakeUnit, ItemTree, ItemComponent, ItemObject, ItemFunction, MakeComponent, ComponentPartTree, ComponentPartAction, ComponentPartObject, ComponentPartFunction, ObjectTree, MakeObject, ObjectPartTree, ObjectPartField, FunctionTree, MakeFunction, AnswerTree, ParameterTree, ActionTree, MakeAction, ActionPartTree, ActionPartField, FieldTree, MakeField}
 use Rattle.pst_scope.specs.declared.declaration.Sort.TheVariants as sort
 use Rattle.pst_scope.specs.declared.environment.Environment.{Environment}
 use Rattle.pst_scope.specs.declared.referent.Owner.TheVariants.{OfAction, OfObject}

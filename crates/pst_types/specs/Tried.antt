@@ -1,16 +1,14 @@
 -- The rules of types on small sources, each token at a column of its own line where the source has but one.
-use Rattle.std.specs.Prelude.{◌≡◌, ℕ, ◌+◌, ℤ, pos, List, [], ◌∷◌, Bool, true, false, Option, Some, None, codes}
+use Rattle.std.specs.Prelude.{ℕ, ◌+◌, pos, List, [], ◌∷◌, Some, None, codes}
 use Rattle.pst_base.specs.declared.position.Place.{Place}
-use Rattle.pst_base.specs.declared.table.NameId.{NameId}
 use Rattle.pst_token.specs.declared.token.Token.{Token}
 use Rattle.pst_token.specs.declared.kind.Kind.TheVariants as kind
 use Rattle.pst_ast.specs.declared.leaf.Name.{Name}
-use Rattle.pst_ast.specs.declared.shared.TypeName.{TypeName}
 use Rattle.pst_ast.specs.declared.activity.TogetherWord.TheVariants as word
-use Rattle.pst_ast.specs.ExpressionTree.{ExprTree, ExprUnary, UnaryPrimary, PrimaryNumber, PartTree, MakePart, NoIndex, SomeIndex, MakeIndex, RangeTree, RangeBetween, RangesTree, MakeRanges, NoNextRangeRow}
-use Rattle.pst_ast.specs.SharedTree.{PlainTree, PlainBit, WidthTree, MakeWidth, DomainTree, MakeDomain, TypeTree, TypePlain}
-use Rattle.pst_ast.specs.ActivityTree.{StatementTree, StatementLabeled, StatementPlain, CoreTree, CoreDo, CoreTogether, WithNothing, JoinSelect, StatementRow, NoStatementRow, MoreStatementRow, MakeActivity}
-use Rattle.pst_ast.specs.DeclarationTree.{UnitTree, MakeUnit, ItemTree, ItemComponent, MakeComponent, ComponentPartTree, ComponentPartAction, ActionTree, MakeAction, ActionPartTree, ActionPartField, ActionPartActivity, MakeField}
+use Rattle.pst_ast.specs.ExpressionTree.{ExprTree, ExprUnary, UnaryPrimary, PrimaryNumber, PartTree, MakePart, NoIndex, SomeIndex, MakeIndex, RangeBetween, MakeRanges, NoNextRangeRow}
+use Rattle.pst_ast.specs.SharedTree.{PlainTree, PlainBit, MakeWidth, MakeDomain, TypeTree, TypePlain}
+use Rattle.pst_ast.specs.ActivityTree.{StatementLabeled, StatementPlain, CoreTree, CoreDo, CoreTogether, WithNothing, JoinSelect, NoStatementRow, MoreStatementRow, MakeActivity}
+use Rattle.pst_ast.specs.DeclarationTree.{UnitTree, MakeUnit, ItemComponent, MakeComponent, ComponentPartTree, ComponentPartAction, MakeAction, ActionPartField, ActionPartActivity, MakeField}
 use Rattle.pst_scope.specs.Breaches.{IsLeast}
 use Rattle.pst_types.specs.TypeRules.{TypeBreach}
 

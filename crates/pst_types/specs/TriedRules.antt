@@ -15,17 +15,17 @@
 --   14    enum e { A = 1, Y = 1, F = 2147483647, G }
 --   15    action D : M { activity { h; c; } }
 --        }
-use Rattle.std.specs.Prelude.{◌≡◌, ℕ, ℤ, pos, List, [], ◌∷◌, ◌++◌, Bool, true, false, Option, Some, None, codes}
+use Rattle.std.specs.Prelude.{ℕ, List, [], ◌∷◌, ◌++◌, Some, None, codes}
 use Rattle.pst_base.specs.declared.position.Place.{Place}
 use Rattle.pst_ast.specs.declared.leaf.Operator.TheVariants as sign
 use Rattle.pst_ast.specs.declared.shared.TypeName.{TypeName}
 use Rattle.pst_ast.specs.declared.declaration.ObjectWord.TheVariants as object
 use Rattle.pst_ast.specs.declared.declaration.ReferenceWord.TheVariants as way
 use Rattle.pst_ast.specs.declared.declaration.ClaimWord.TheVariants as claiming
-use Rattle.pst_ast.specs.ExpressionTree.{ExprTree, ExprUnary, ExprBinary, ExprIn, UnaryPrimary, PrimaryPath, PathDotted, PartTree, MakePart, NextPartRow, NoNextPartRow, MoreNextPartRow, MakeNextPart, NoIndex, RangeTree, RangeSingle, RangeBetween, RangesTree, MakeRanges, NoNextRangeRow}
+use Rattle.pst_ast.specs.ExpressionTree.{ExprTree, ExprUnary, ExprBinary, ExprIn, UnaryPrimary, PrimaryPath, PathDotted, MakePart, NextPartRow, NoNextPartRow, MoreNextPartRow, MakeNextPart, NoIndex, RangeTree, RangeSingle, RangeBetween, RangesTree, MakeRanges, NoNextRangeRow}
 use Rattle.pst_ast.specs.SharedTree.{NamesTree, MakeNames, PlainInt, PlainBit, MakeWidth, TypeTree, TypePlain}
 use Rattle.pst_ast.specs.ConstraintTree.{ConstraintOne, ConstraintItemExpr, ConstraintContentSet, MakeConstraintDeclaration}
-use Rattle.pst_ast.specs.ActivityTree.{StatementTree, StatementEmpty, StatementLabeled, StatementPlain, CoreTree, CoreDo, CoreHandle, CoreSelect, CoreIf, CoreMatch, CoreBind, MakeBind, OtherEndsOne, BranchTree, MakeBranch, NoBranchRow, MoreBranchRow, ArmTree, MakeArm, ArmLabelTree, ArmLabelRanges, ArmLabelDefault, NoArmRow, MoreArmRow, WithNothing, MakeActivity}
+use Rattle.pst_ast.specs.ActivityTree.{StatementTree, StatementEmpty, StatementLabeled, StatementPlain, CoreDo, CoreHandle, CoreSelect, CoreIf, CoreMatch, CoreBind, MakeBind, OtherEndsOne, BranchTree, MakeBranch, NoBranchRow, MoreBranchRow, ArmTree, MakeArm, ArmLabelTree, ArmLabelRanges, ArmLabelDefault, NoArmRow, MoreArmRow, WithNothing, MakeActivity}
 use Rattle.pst_ast.specs.BodyTree.{MakeArguments, CallTree, MakeCall, SourceCall, SourceExpr, MakeValue, BodyStatementTree, BodyStatementLocal, BodyStatementAssign, BodyStatementCall, MakeBody}
 use Rattle.pst_ast.specs.DeclarationTree.{UnitTree, ComponentPartTree, ComponentPartAction, ComponentPartObject, ComponentPartEnum, ComponentPartFunction, ComponentPartPool, ComponentPartPoolBind, MakeObject, ObjectPartField, MakeEnum, EnumItemTree, MakeEnumItem, MakeNextEnumItem, MakeEnumValue, MakeFunction, AnswerVoid, MakeParameters, MakeParameter, MakePool, MakeSize, MakePoolBind, TargetsOne, MakeTarget, MakeAction, ActionPartTree, ActionPartField, ActionPartReference, ActionPartClaim, ActionPartMembers, ActionPartConstraint, ActionPartActivity, ActionPartBody, FieldTree, MakeField, MakeReference, MakeClaim, MakeMembers}
 use Rattle.pst_types.specs.TypeRules.{TypeBreach}

@@ -69,19 +69,16 @@ is_constant InBody = false
 is_constant _ = true
 
 -- what the conditions of an activity may name: fields, indices and enum items
-abbrev pub is_decided : Sort → Bool
-is_decided (sort.Field array) = true
-is_decided (sort.Item level) = true
-is_decided sort.Index = true
-is_decided _ = false
+abbrev pub is_condition_sort : Sort → Bool
+is_condition_sort (sort.Field array) = true
+is_condition_sort (sort.Item level) = true
+is_condition_sort sort.Index = true
+is_condition_sort _ = false
 
-abbrev pub may_decide : Referent → Bool
-may_decide (Declared d) = is_decided d.sort
-may_decide _ = false
-
-abbrev pub is_a_local : Referent → Bool
-is_a_local (Declared d) = is_local d.sort
-is_a_local _ = false
+-- what is declared, as something of such a sort
+abbrev pub is_declared : (Sort → Bool) → Referent → Bool
+is_declared test (Declared d) = test d.sort
+is_declared test _ = false
 
 -- the first name of a target
 abbrev pub first_name : List Name → Name → Name
@@ -112,7 +109,7 @@ pub data UseBreaks (units : List UnitTree) (names : List (List ℕ)) : Use → P
       → UseBreaks units names (Judges at role expr) (expr_place expr) 11
 
   -- a constant part is outside its limits: the expression
-  Outside : (at : Environment) (role : Role) (expr : ExprTree) (limits : Span) (v : ℤ) → limits_of role ≡ Some limits → IsConstant units names at expr v → (IsInSpan v limits → ⊥)
+  ValueOutside : (at : Environment) (role : Role) (expr : ExprTree) (limits : Span) (v : ℤ) → limits_of role ≡ Some limits → IsConstant units names at expr v → (IsInSpan v limits → ⊥)
       → UseBreaks units names (Judges at role expr) (expr_place expr) 12
   -- a `unique` has too many items, or a block with a join form too many branches: the first too many
   ManyItems : (items front more : List ExprTree) (item : ExprTree) → items ≡ front ++ item ∷ more → length front ≡ most_unique → UseBreaks units names (Uniques items) (expr_place item) 12
@@ -133,8 +130,8 @@ pub data UseBreaks (units : List UnitTree) (names : List (List ℕ)) : Use → P
       → action_at units d.name.place ≡ Some a → IsTrue a.is_abstract → UseBreaks units names (Performs at place traversal) place 17
 
   -- a condition, guard, count or matched value of an activity names something else than fields, indices and enum items: the name
-  NotDecided : (at env : Environment) (expr : ExprTree) (first : PathPart) (rest : List PathPart) (r : Referent) → Contains (expr_uses at expr) (Reads env first rest)
-      → stands_for (declarations units) names env first.name.id ≡ Some r → IsFalse (may_decide r) → UseBreaks units names (Judges at Condition expr) first.name.place 19
+  NotInCondition : (at env : Environment) (expr : ExprTree) (first : PathPart) (rest : List PathPart) (r : Referent) → Contains (expr_uses at expr) (Reads env first rest)
+      → stands_for (declarations units) names env first.name.id ≡ Some r → IsFalse (is_declared is_condition_sort r) → UseBreaks units names (Judges at Condition expr) first.name.place 19
 
   -- a bind of an activity doesn't go from an output to an input of one object type, or joins two ends of one handle: the later end
   UnfitEnds : (at : Environment) (first other : EndNode) (others : List EndNode) (x y : Declaration) → Contains others other → reference_at (declarations units) names at first ≡ Some x
@@ -151,7 +148,7 @@ pub data UseBreaks (units : List UnitTree) (names : List (List ℕ)) : Use → P
   NoAnswer : (component : Option Place) (name : Name) (arguments : ℕ) (d : Declaration) (f : DeclaredFunction) (void : Place) → type_here (declarations units) component name.id ≡ Some d
       → function_at units d.name.place ≡ Some f → f.answer ≡ AnswerVoid void → UseBreaks units names (Passes component name arguments true) name.place 21
   -- an assignment is to something else than a local: the name
-  NoLocal : (at : Environment) (name : Name) (r : Referent) → stands_for (declarations units) names at name.id ≡ Some r → IsFalse (is_a_local r) → UseBreaks units names (Assigns at name) name.place 21
+  NoLocal : (at : Environment) (name : Name) (r : Referent) → stands_for (declarations units) names at name.id ≡ Some r → IsFalse (is_declared is_local r) → UseBreaks units names (Assigns at name) name.place 21
 
 -- ---- enums
 

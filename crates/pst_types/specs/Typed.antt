@@ -1,7 +1,6 @@
 -- The values of the constant expressions of the sources.
 use Rattle.std.specs.Prelude.{◌≡◌, ◌↔◌, ℕ, List, [], ◌∷◌, IsTrue}
 use Rattle.std.specs.List.{Contains}
-use Rattle.pst_base.specs.declared.position.Place.{Place}
 use Rattle.pst_base.specs.Places.{IsBefore}
 use Rattle.pst_ast.specs.ExpressionTree.{ExprTree}
 use Rattle.pst_ast.specs.DeclarationTree.{UnitTree}

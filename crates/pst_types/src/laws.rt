@@ -2,6 +2,7 @@
 ghost use Rattle.pst_types.specs.Laws.{TypeBreachesHaveOneLeast, ConstantsAreOne};
 ghost use Rattle.pst_types.specs.Tried.{SourcesAreTried};
 ghost use Rattle.pst_types.specs.TriedRules.{RulesAreTried};
+ghost use Rattle.pst_types.specs.TriedMore.{MoreAreTried};
 
 /// Of the breaches of the rules of types at most one is the least.
 pub fn type_breaches_have_one_least()
@@ -25,4 +26,9 @@ pub fn sources_are_tried()
 /// The same of a source that breaks many rules.
 pub fn rules_are_tried()
     ensures { RulesAreTried }
+{}
+
+/// The same with counts, binds and derived actions.
+pub fn more_are_tried()
+    ensures { MoreAreTried }
 {}
