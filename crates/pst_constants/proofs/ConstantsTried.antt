@@ -18,10 +18,10 @@ use Rattle.pst_constants.proofs.OneValue.{some_is, not_both}
 
 -- ---- what is known of items
 
-abbrev nothing : Place → Option ℤ
+abbrev pub nothing : Place → Option ℤ
 nothing p = None
 
-of_nothing : (p : Place) (w : ℤ) → nothing p ≡ Some w → IsItemValue units names p w
+pub of_nothing : (p : Place) (w : ℤ) → nothing p ≡ Some w → IsItemValue units names p w
 of_nothing p w e = absurd (not_both (nothing p) w refl e)
 
 abbrev only : ℕ → ℤ → Place → Option ℤ

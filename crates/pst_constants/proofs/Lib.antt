@@ -1,3 +1,5 @@
 pub mod Agreeing
 pub mod OneValue
 mod ConstantsTried
+mod OneDomain
+mod DomainTried

@@ -14,6 +14,7 @@ use Rattle.pst_scope.specs.declared.referent.Owner.TheVariants.{Nobody}
 use Rattle.pst_scope.specs.Uses.{environment}
 use Rattle.pst_scope.specs.Tried.{at, name}
 use Rattle.pst_constants.specs.Constants.{IsItemValue, HasValue, IsConstant}
+use Rattle.pst_constants.specs.Domains.{IsDomainOf, span}
 
 abbrev pub names : List (List ℕ)
 names = codes "E" ∷ codes "A" ∷ codes "B" ∷ codes "C" ∷ codes "D" ∷ codes "F" ∷ codes "X" ∷ codes "Y" ∷ codes "Z" ∷ codes "W" ∷ codes "nothing" ∷ []
@@ -98,3 +99,5 @@ pub record ConstantsAreTried : Type 0 where
   pub no_quotient : (v : ℤ) → HasValue units names top quotient v → ⊥
   pub right_not_needed : HasValue units names top with_nothing (pos 1)
   pub no_constant : (v : ℤ) → IsConstant units names top with_nothing v → ⊥
+  -- ranges that touch are one span
+  pub one_span : IsDomainOf units names top small (span (pos 0) (pos 2) ∷ [])

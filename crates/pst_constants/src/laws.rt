@@ -1,5 +1,5 @@
 //! Laws of the definitions: each function here does nothing, and its contract is a law.
-ghost use Rattle.pst_constants.specs.Laws.{ItemsHaveOneValue, ExpressionsHaveOneValue};
+ghost use Rattle.pst_constants.specs.Laws.{ItemsHaveOneValue, ExpressionsHaveOneValue, TypesHaveOneDomain};
 ghost use Rattle.pst_constants.specs.Tried.{ConstantsAreTried};
 
 /// An enum item has at most one value.
@@ -15,4 +15,9 @@ pub fn expressions_have_one_value()
 /// Values of enum items and of expressions, in a small source.
 pub fn constants_are_tried()
     ensures { ConstantsAreTried }
+{}
+
+/// A type has at most one domain.
+pub fn types_have_one_domain()
+    ensures { TypesHaveOneDomain }
 {}

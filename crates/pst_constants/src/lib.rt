@@ -4,4 +4,6 @@
 
 mod laws;
 
-pub use laws::{constants_are_tried, expressions_have_one_value, items_have_one_value};
+pub use laws::{
+    constants_are_tried, expressions_have_one_value, items_have_one_value, types_have_one_domain,
+};

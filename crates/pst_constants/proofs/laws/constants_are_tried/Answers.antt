@@ -1,4 +1,5 @@
 use Rattle.pst_constants.proofs.ConstantsTried.{first, given, next, of_other, behind_other, with_enum, itself, not_needed, in_second, no_quotient, right_not_needed, no_constant}
+use Rattle.pst_constants.proofs.DomainTried.{one_span}
 use Rattle.pst_constants.proofs.laws.constants_are_tried.Goals as goal
 
 pub returns : goal.returns
@@ -15,4 +16,5 @@ returns c = record {
   no_quotient = no_quotient;
   right_not_needed = right_not_needed;
   no_constant = no_constant;
+  one_span = one_span;
 }
