@@ -2,4 +2,5 @@ pub mod Agreeing
 pub mod OneValue
 mod ConstantsTried
 mod OneDomain
+mod ShortestDomain
 mod DomainTried

@@ -10,7 +10,7 @@ In v [] = ⊥
 In v (s ∷ more) = IsInSpan v s ⊎ In v more
 
 -- each number of a span is far below those of the later ones
-abbrev AreApart : List Span → Type 0
+abbrev pub AreApart : List Span → Type 0
 AreApart [] = Unit {0}
 AreApart (s ∷ more) = (s.low ≤ℤ s.high) × ((v : ℤ) → In v more → (s.high +ℤ pos 1) <ℤ v) × AreApart more
 
@@ -35,7 +35,7 @@ far s more pairs v has =
     let above : a.1.low ≤ℤ v = a.4.0 in
     omega (arith, ints)
 
-apart : (spans : List Span) → All (λ s. s.low ≤ℤ s.high) spans → AllPairs (λ s t. (s.high +ℤ pos 1) <ℤ t.low) spans → AreApart spans
+pub apart : (spans : List Span) → All (λ s. s.low ≤ℤ s.high) spans → AllPairs (λ s t. (s.high +ℤ pos 1) <ℤ t.low) spans → AreApart spans
 apart [] upright pairs = tt
 apart (s ∷ more) upright pairs =
     (upright 0 s (omega arith), far s more pairs, apart more (λ k d h. upright (suc k) d (omega (arith, h))) (λ i j d less h. pairs (suc i) (suc j) d (omega (arith, less)) (omega (arith, h))))
@@ -45,7 +45,7 @@ low_is_least s more good v (inl h) = h.0
 low_is_least s more good v (inr h) = let far_off = good.1 v h in let upright = good.0 in omega (arith, ints)
 
 -- the number behind a span is in none of them
-none_behind : (s : Span) (more : List Span) → AreApart (s ∷ more) → In (s.high +ℤ pos 1) (s ∷ more) → ⊥
+pub none_behind : (s : Span) (more : List Span) → AreApart (s ∷ more) → In (s.high +ℤ pos 1) (s ∷ more) → ⊥
 none_behind s more good (inl h) = let below = h.1 in omega (arith, ints)
 none_behind s more good (inr h) = let far_off = good.1 (s.high +ℤ pos 1) h in omega (arith, ints)
 
@@ -78,9 +78,9 @@ same_spans (x ∷ xs) [] good other to from = absurd (to x.low (inl (omega (arit
 same_spans (x ∷ xs) (y ∷ ys) good other to from =
     let low : x.low ≡ y.low = same_low x.low y.low (low_is_least x xs good y.low (from y.low (inl (omega (arith, ints), other.0)))) (low_is_least y ys other x.low (to x.low (inl (omega (arith, ints), good.0)))) in
     let high : x.high ≡ y.high =
-        same_low x.high y.high
-        (not_higher y x ys other (sym low) (λ h. to (y.high +ℤ pos 1) (first_only (y.high +ℤ pos 1) x xs h)))
-        (not_higher x y xs good low (λ h. from (x.high +ℤ pos 1) (first_only (x.high +ℤ pos 1) y ys h))) in
+    same_low x.high y.high
+    (not_higher y x ys other (sym low) (λ h. to (y.high +ℤ pos 1) (first_only (y.high +ℤ pos 1) x xs h)))
+    (not_higher x y xs good low (λ h. from (x.high +ℤ pos 1) (first_only (x.high +ℤ pos 1) y ys h))) in
     let same : x ≡ y = λ i. record { low = low i; high = high i } in
     let rest = same_spans xs ys good.2 other.2 (λ v has. behind x y xs ys good same v has (to v (inr has))) (λ v has. behind y x ys xs other (sym same) v has (from v (inr has))) in
     λ i. same i ∷ rest i

@@ -99,7 +99,7 @@ pub record IsKnown (units : List UnitTree) (names : List (List ℕ)) (at : Envir
   pub base : IsBaseKnown units names at type
   pub ranges : (r : RangeTree) → Contains (ranges_in type) r → (s : Span) × IsSpanOf units names at r s × (s.low ≤ℤ s.high)
 
--- The domain of a type: spans that have its values and no others. Between each two of them a number is missing, so none are fewer.
+-- The domain of a type: spans that have its values and no others. Between each two of them a number is missing, so no others are fewer (a law).
 pub record IsDomainOf (units : List UnitTree) (names : List (List ℕ)) (at : Environment) (type : TypeTree) (spans : List Span) : Type 0 where
   pub domain : IsDomain spans
   pub apart : AllPairs (λ s t. (s.high +ℤ pos 1) <ℤ t.low) spans

@@ -1,13 +1,14 @@
 -- Laws of the definitions.
-use Rattle.std.specs.Prelude.{◌≡◌, ℕ, ℤ, List}
+use Rattle.std.specs.Prelude.{◌≡◌, ◌↔◌, ℕ, ◌≤◌, ℤ, List, length}
 use Rattle.pst_base.specs.declared.position.Place.{Place}
 use Rattle.pst_ast.specs.ExpressionTree.{ExprTree}
 use Rattle.pst_ast.specs.SharedTree.{TypeTree}
 use Rattle.pst_ast.specs.DeclarationTree.{UnitTree}
 use Rattle.pst_expr.specs.declared.ranges.Span.{Span}
+use Rattle.pst_expr.specs.Spans.{IsInSpans}
 use Rattle.pst_scope.specs.declared.environment.Environment.{Environment}
 use Rattle.pst_constants.specs.Constants.{IsItemValue, HasValue}
-use Rattle.pst_constants.specs.Domains.{IsDomainOf}
+use Rattle.pst_constants.specs.Domains.{IsInType, IsDomainOf}
 
 -- an enum item has at most one value
 abbrev pub ItemsHaveOneValue : Type 0
@@ -23,3 +24,9 @@ abbrev pub TypesHaveOneDomain : Type 0
 TypesHaveOneDomain =
     (units : List UnitTree) (names : List (List ℕ)) (at : Environment) (type : TypeTree) (spans others : List Span)
     → IsDomainOf units names at type spans → IsDomainOf units names at type others → spans ≡ others
+
+-- no spans with the same numbers are fewer than those of a type's domain
+abbrev pub DomainsAreShortest : Type 0
+DomainsAreShortest =
+    (units : List UnitTree) (names : List (List ℕ)) (at : Environment) (type : TypeTree) (spans others : List Span)
+    → IsDomainOf units names at type spans → ((v : ℤ) → IsInSpans v others ↔ IsInType units names at type v) → length spans ≤ length others

@@ -5,5 +5,6 @@
 mod laws;
 
 pub use laws::{
-    constants_are_tried, expressions_have_one_value, items_have_one_value, types_have_one_domain,
+    constants_are_tried, domains_are_shortest, expressions_have_one_value, items_have_one_value,
+    types_have_one_domain,
 };

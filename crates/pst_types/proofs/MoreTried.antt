@@ -70,7 +70,7 @@ unfolding look_up base_of field_at
 fields_with_array =
     OfDeclaration _ _ _ (10, omega arith, refl)
     (ManyFields _ (_ ∷ []) _ _ 64 1 (WithoutBase _ refl) refl
-        (More _ _ 64 0 (Array _ _ _ 64 refl refl (number_is _ _ _ 64 (on 5 25) (pos 64) refl) (omega arith) (omega arith)) Nothing) (One _ _ refl refl) (omega arith) (omega arith))
+    (More _ _ 64 0 (Array _ _ _ 64 refl refl (number_is _ _ _ 64 (on 5 25) (pos 64) refl) (omega arith) (omega arith)) Nothing) (One _ _ refl refl) (omega arith) (omega arith))
 
 pub references : Breaks 8 17 12
 unfolding look_up base_of

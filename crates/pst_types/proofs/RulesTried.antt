@@ -64,8 +64,8 @@ pub meeting : Breaks 12 32 13
 meeting =
     OfUse _ _ _ (36, omega arith, refl)
     (Meeting _ _ (zero_to_one ∷ []) [] zero_to_one only_one (span (pos 0) (pos 1)) (span (pos 1) (pos 1)) (pos 1) refl (0, omega arith, refl)
-        (Between _ _ _ _ _ (number_is _ _ _ 0 (on 12 22) (pos 0) refl) (number_is _ _ _ 1 (on 12 25) (pos 1) refl)) (Single _ _ (number_is _ _ _ 1 (on 12 32) (pos 1) refl))
-        (omega arith, omega arith) (omega arith, omega arith))
+    (Between _ _ _ _ _ (number_is _ _ _ 0 (on 12 22) (pos 0) refl) (number_is _ _ _ 1 (on 12 25) (pos 1) refl)) (Single _ _ (number_is _ _ _ 1 (on 12 32) (pos 1) refl))
+    (omega arith, omega arith) (omega arith, omega arith))
 
 pub second_default : Breaks 12 49 13
 second_default = OfUse _ _ _ (36, omega arith, refl) (TwoDefaults _ _ (range_label zero_to_one ∷ range_label only_one ∷ default_label 38 ∷ []) [] (on 12 38) (on 12 49) refl (2, omega arith, refl))

@@ -55,15 +55,15 @@ abbrev pub parts : List ComponentPartTree
 parts =
     ComponentPartObject (MakeObject object.Stream mark (name 1 (on 2 10)) mark [] mark)
     ∷ action 2 3 10
-        (ActionPartReference (MakeReference way.Input mark (type 1 3 20) (alone 3 3 22) mark) ∷ ActionPartReference (MakeReference way.Output mark (type 1 3 32) (alone 4 3 34) mark) ∷ ActionPartField (field (bit (on 3 42)) 8 3 46) ∷ [])
+    (ActionPartReference (MakeReference way.Input mark (type 1 3 20) (alone 3 3 22) mark) ∷ ActionPartReference (MakeReference way.Output mark (type 1 3 32) (alone 4 3 34) mark) ∷ ActionPartField (field (bit (on 3 42)) 8 3 46) ∷ [])
     ∷ action 9 4 10
-        (handle 2 5 4 16 ∷ handle 2 6 4 21 ∷ handle 2 7 4 26 ∷ activity (traverse 5 4 40 ∷ traverse 6 4 43 ∷ traverse 7 4 46 ∷ bound 54 6 58 ∷ bound 68 7 72 ∷ bound 82 6 86 ∷ []) ∷ [])
+    (handle 2 5 4 16 ∷ handle 2 6 4 21 ∷ handle 2 7 4 26 ∷ activity (traverse 5 4 40 ∷ traverse 6 4 43 ∷ traverse 7 4 46 ∷ bound 54 6 58 ∷ bound 68 7 72 ∷ bound 82 6 86 ∷ []) ∷ [])
     ∷ action 10 5 10
-        (ActionPartField (MakeField mark (bit (on 5 19)) (MakePart (name 11 (on 5 23)) (SomeIndex (MakeIndex mark (number 64 (on 5 25)) mark))) [] mark) ∷ ActionPartField (field (bit (on 5 35)) 12 5 39)
-        ∷ ActionPartField (field with_lowest 13 5 55) ∷ ActionPartField (field without_value 16 5 75) ∷ [])
+    (ActionPartField (MakeField mark (bit (on 5 19)) (MakePart (name 11 (on 5 23)) (SomeIndex (MakeIndex mark (number 64 (on 5 25)) mark))) [] mark) ∷ ActionPartField (field (bit (on 5 35)) 12 5 39)
+    ∷ ActionPartField (field with_lowest 13 5 55) ∷ ActionPartField (field without_value 16 5 75) ∷ [])
     ∷ action 14 6 10
-        (handle 2 17 6 16 ∷ ActionPartConstraint (MakeConstraintDeclaration mark (ConstraintContentSet (ConstraintOne (ConstraintItemExpr (ExprBinary (path 17 6 30 (behind_dot 8 6 32)) sign.Equal mark (number 1 (on 6 37))) mark))))
-        ∷ activity (traverse 17 6 51 ∷ []) ∷ [])
+    (handle 2 17 6 16 ∷ ActionPartConstraint (MakeConstraintDeclaration mark (ConstraintContentSet (ConstraintOne (ConstraintItemExpr (ExprBinary (path 17 6 30 (behind_dot 8 6 32)) sign.Equal mark (number 1 (on 6 37))) mark))))
+    ∷ activity (traverse 17 6 51 ∷ []) ∷ [])
     ∷ ComponentPartAction (MakeAction None mark (name 15 (on 7 10)) (Some (record { colon = mark; name = type 14 7 14 })) mark (activity [] ∷ []) mark)
     ∷ action 18 8 10 (ActionPartReference (MakeReference way.Input mark (type 1 8 20) (MakeNames (name 20 (on 8 1)) more_names) mark) ∷ [])
     ∷ []

@@ -86,11 +86,11 @@ abbrev pub atomic : List ComponentPartTree
 atomic =
     ComponentPartAction (MakeAction (Some mark) mark (name 7 (on 7 19)) None mark [] mark)
     ∷ action 8 8 10
-        (ActionPartField (field (bit (on 8 19)) 9 8 23) ∷ ActionPartReference (MakeReference way.Output mark (type 1 8 33) (alone 10 8 35) mark)
-        ∷ ActionPartClaim (MakeClaim claiming.Lock mark (type 1 8 43) (alone 11 8 45) mark) ∷ [])
+    (ActionPartField (field (bit (on 8 19)) 9 8 23) ∷ ActionPartReference (MakeReference way.Output mark (type 1 8 33) (alone 10 8 35) mark)
+    ∷ ActionPartClaim (MakeClaim claiming.Lock mark (type 1 8 43) (alone 11 8 45) mark) ∷ [])
     ∷ action 12 9 10
-        (ActionPartReference (MakeReference way.Input mark (type 3 9 20) (alone 13 9 22) mark) ∷ ActionPartReference (MakeReference way.Input mark (type 1 9 31) (alone 14 9 33) mark)
-        ∷ ActionPartField (field quotient 28 9 55) ∷ [])
+    (ActionPartReference (MakeReference way.Input mark (type 3 9 20) (alone 13 9 22) mark) ∷ ActionPartReference (MakeReference way.Input mark (type 1 9 31) (alone 14 9 33) mark)
+    ∷ ActionPartField (field quotient 28 9 55) ∷ [])
     ∷ []
 
 abbrev pub with_body : ComponentPartTree
@@ -133,7 +133,7 @@ performs =
     ∷ StatementPlain (CoreIf (on 11 42) mark (path 16 11 46 (behind_dot 9 11 48)) mark (traverse 17 11 51))
     ∷ StatementPlain (CoreBind (MakeBind (on 11 54) (record { handle = name 17 (on 11 59); dot = mark; name = name 14 (on 11 61) }) (OtherEndsOne (record { handle = name 16 (on 11 63); dot = mark; name = name 10 (on 11 65) })) mark))
     ∷ StatementPlain (CoreMatch (on 12 9) mark (path 18 12 16 NoNextPartRow) mark mark (arm (range_label zero_to_one))
-          (MoreArmRow (arm (range_label only_one)) (MoreArmRow (arm (default_label 38)) (MoreArmRow (arm (default_label 49)) NoArmRow))) mark)
+    (MoreArmRow (arm (range_label only_one)) (MoreArmRow (arm (default_label 38)) (MoreArmRow (arm (default_label 49)) NoArmRow))) mark)
     ∷ []
 
 abbrev pub compound : ComponentPartTree

@@ -93,7 +93,6 @@ pub data UseBreaks (units : List UnitTree) (names : List (List ℕ)) : Use → P
       → UseBreaks units names (HasPlain at plain) (plain_place plain) 9
   LowestNotZero : (at : Environment) (plain : PlainTree) (expr : ExprTree) (v : ℤ) → option_and_then lowest_in (width_in plain) ≡ Some expr → IsConstant units names at expr v → v ≢ pos 0
       → UseBreaks units names (HasPlain at plain) (plain_place plain) 9
-
   -- a range of a domain or of a `match` is reversed: the range
   ReversedInDomain : (at : Environment) (type : TypeTree) (range : RangeTree) (s : Span) → Contains (ranges_in type) range → IsSpanOf units names at range s → s.high <ℤ s.low
       → UseBreaks units names (HasType at type) (range_place range) 10
@@ -103,36 +102,29 @@ pub data UseBreaks (units : List UnitTree) (names : List (List ℕ)) : Use → P
   Empty : (at : Environment) (type : TypeTree) → IsKnown units names at type → ((v : ℤ) → IsInType units names at type v → ⊥) → UseBreaks units names (HasType at type) (type_place type) 10
   -- an `in` stands in the left part of another `in`: the inner `in`
   InnerIn : (at : Environment) (role : Role) (expr : ExprTree) (place : Place) → Contains (ins false expr) place → UseBreaks units names (Judges at role expr) place 10
-
   -- a constant part names something else than enum items, or has no value: the expression
   NotConstant : (at : Environment) (role : Role) (expr : ExprTree) → IsTrue (is_constant role) → ((v : ℤ) → IsConstant units names at expr v → ⊥)
       → UseBreaks units names (Judges at role expr) (expr_place expr) 11
-
   -- a constant part is outside its limits: the expression
   ValueOutside : (at : Environment) (role : Role) (expr : ExprTree) (limits : Span) (v : ℤ) → limits_of role ≡ Some limits → IsConstant units names at expr v → (IsInSpan v limits → ⊥)
       → UseBreaks units names (Judges at role expr) (expr_place expr) 12
   -- a `unique` has too many items, or a block with a join form too many branches: the first too many
   ManyItems : (items front more : List ExprTree) (item : ExprTree) → items ≡ front ++ item ∷ more → length front ≡ most_unique → UseBreaks units names (Uniques items) (expr_place item) 12
   ManyBranches : (places front more : List Place) (branch : Place) → places ≡ front ++ branch ∷ more → length front ≡ most_branches → UseBreaks units names (Branches places) branch 12
-
   -- two ranges of a `match` have a value in common, or there are two defaults: the later one
   Meeting : (at : Environment) (labels : List ArmLabelTree) (front more : List RangeTree) (earlier later : RangeTree) (s t : Span) (v : ℤ) → ranges_of_arms labels ≡ front ++ later ∷ more
       → Contains front earlier → IsSpanOf units names at earlier s → IsSpanOf units names at later t → IsInSpan v s → IsInSpan v t → UseBreaks units names (Arms at labels) (range_place later) 13
   TwoDefaults : (at : Environment) (labels front more : List ArmLabelTree) (first second : Place) → labels ≡ front ++ ArmLabelDefault second ∷ more → Contains front (ArmLabelDefault first)
       → UseBreaks units names (Arms at labels) second 13
-
   -- a pool that isn't of resources has a size: the size
   SizeOfNoResources : (at : Environment) (object : TypeName) (expr : ExprTree) (type : Declaration) → type_named (declarations units) at.component object ≡ Some type → IsFalse (is_resource type.sort)
       → UseBreaks units names (Judges at (PoolSize object) expr) (expr_place expr) 14
-
   -- an abstract action is traversed: the statement
   AbstractTraversed : (at : Environment) (place : Place) (traversal : Traversal) (d : Declaration) (a : DeclaredAction) → traversed (declarations units) names at traversal ≡ Some d
       → action_at units d.name.place ≡ Some a → IsTrue a.is_abstract → UseBreaks units names (Performs at place traversal) place 17
-
   -- a condition, guard, count or matched value of an activity names something else than fields, indices and enum items: the name
   NotInCondition : (at env : Environment) (expr : ExprTree) (first : PathPart) (rest : List PathPart) (r : Referent) → Contains (expr_uses at expr) (Reads env first rest)
       → stands_for (declarations units) names env first.name.id ≡ Some r → IsFalse (is_declared is_condition_sort r) → UseBreaks units names (Judges at Condition expr) first.name.place 19
-
   -- a bind of an activity doesn't go from an output to an input of one object type, or joins two ends of one handle: the later end
   UnfitEnds : (at : Environment) (first other : EndNode) (others : List EndNode) (x y : Declaration) → Contains others other → reference_at (declarations units) names at first ≡ Some x
       → reference_at (declarations units) names at other ≡ Some y → (AreEnds (declarations units) x y → ⊥) → UseBreaks units names (Ties at first others) other.handle.place 20
@@ -141,7 +133,6 @@ pub data UseBreaks (units : List UnitTree) (names : List (List ℕ)) : Use → P
   OtherObject : (component : Place) (pool : Name) (instances : List Name) (action reference : Name) (p x y : Declaration) (target : Target) → named_in (declarations units) component is_pool pool ≡ Some p
       → target_of (declarations units) component instances action reference ≡ Is target → type_of (declarations units) p ≡ Some x → type_of (declarations units) target.need ≡ Some y → x ≢ y
       → UseBreaks units names (Targets component pool instances action reference) (first_name instances action).place 20
-
   -- a call has the wrong number of arguments, or a `void` function gives a value: the name
   WrongArguments : (component : Option Place) (name : Name) (arguments : ℕ) (needed : Bool) (d : Declaration) (f : DeclaredFunction) → type_here (declarations units) component name.id ≡ Some d
       → function_at units d.name.place ≡ Some f → arguments ≢ length f.parameters → UseBreaks units names (Passes component name arguments needed) name.place 21
@@ -172,13 +163,11 @@ pub data DeclarationBreaks (units : List UnitTree) (names : List (List ℕ)) (d 
   -- or too many fields: that with which they exceed their limit
   ManyFields : (members front more : List Declaration) (m : Declaration) (n k : ℕ) → AreMembers (declarations units) d members → those_that is_field members ≡ front ++ m ∷ more
       → AddTogether units names front n → AddsFields units names m k → n ≤ most_fields → most_fields < n + k → DeclarationBreaks units names d m.name.place 12
-
   -- a reference is of a resource, or a claim of something else: the type name
   ReferenceOfResource : (type : Declaration) (name : TypeName) → IsTrue (is_reference d.sort) → type_in d.sort ≡ Some name → type_of (declarations units) d ≡ Some type → IsTrue (is_resource type.sort)
       → DeclarationBreaks units names d name.first.place 15
   ClaimOfNoResource : (type : Declaration) (name : TypeName) → IsTrue (is_claim d.sort) → type_in d.sort ≡ Some name → type_of (declarations units) d ≡ Some type → IsFalse (is_resource type.sort)
       → DeclarationBreaks units names d name.first.place 15
-
   -- an action has two activities, two bodies, or one of each: its name
   TwoActivities : (a : DeclaredAction) (first second : List StatementTree) (more : List (List StatementTree)) → action_at units d.name.place ≡ Some a → activities_of a ≡ first ∷ second ∷ more
       → DeclarationBreaks units names d d.name.place 16
