@@ -1,0 +1,6 @@
+pub mod Agreeing
+pub mod OneValue
+mod ConstantsTried
+mod OneDomain
+mod ShortestDomain
+mod DomainTried

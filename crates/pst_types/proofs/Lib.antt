@@ -1,0 +1,5 @@
+mod Ordered
+mod SourcesTried
+mod RulesTried
+mod WidthTried
+mod MoreTried

@@ -1,0 +1,12 @@
+pub mod Places
+pub mod Sites
+pub mod Members
+pub mod Limits
+pub mod Handles
+pub mod Binds
+pub mod TypeRules
+pub mod Typed
+pub mod Laws
+pub mod Tried
+pub mod TriedRules
+pub mod TriedMore
