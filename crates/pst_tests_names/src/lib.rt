@@ -2,7 +2,7 @@
 #![tactic(auto)]
 
 #[cfg(test)]
-mod annotated;
+mod annotations;
 #[cfg(test)]
 mod meanings;
 #[cfg(test)]

@@ -1,5 +1,5 @@
 //! What the names of small sources mean, worked out by hand.
-use crate::annotated::{Declared, Meaning, annotated, letter};
+use crate::annotations::{Declared, Meaning, letter, read_annotated};
 use crate::texts::judged;
 use pst_names::RuleEnd;
 use pst_scope::{Scopes, TypeEntry, TypeSort};
@@ -77,7 +77,7 @@ fn answered(alloc: Global, files: &[String]) -> Result<(Vec<Declared>, Vec<Meani
 #[test]
 fn meanings_of_names(rt: HostRuntime) -> Result<(), Fail> {
     for text in &SOURCES {
-        let wanted = annotated(rt.alloc(), text)?;
+        let wanted = read_annotated(rt.alloc(), text)?;
         match answered(rt.alloc(), wanted.files.as_slice()) {
             Ok((types, meanings)) => {
                 assert_eq!(rt; types.as_slice(), wanted.types.as_slice(), "{text}");

@@ -1,12 +1,12 @@
 use crate::sources::{DOTS, OTHERS, TWICE, TYPES, VALUES};
-use crate::texts::{judged, marked};
+use crate::texts::{judged, read_marked};
 use pst_names::RuleEnd;
 use std::alloc::Global;
 use std::test::Fail;
 
 // Judges a source, and says how that ends: the rule 0 at no place where no rule of names is broken.
 fn outcome(alloc: Global, text: &str) -> Result<(), RuleEnd> {
-    let Ok(source) = marked(alloc, text) else {
+    let Ok(source) = read_marked(alloc, text) else {
         return Err(RuleEnd::NoMemory);
     };
     judged(alloc, source.files.as_slice())?;
@@ -15,7 +15,7 @@ fn outcome(alloc: Global, text: &str) -> Result<(), RuleEnd> {
 
 // What a source must end with.
 fn wanted(alloc: Global, text: &str, rule: u8) -> Result<(), RuleEnd> {
-    let Ok(source) = marked(alloc, text) else {
+    let Ok(source) = read_marked(alloc, text) else {
         return Err(RuleEnd::NoMemory);
     };
     match source.place {

@@ -33,7 +33,7 @@ pub struct Marked {
 
 /// Reads a text of one line, in which `#` stands between files and `@` before the token that is
 /// marked.
-pub fn marked(alloc: Global, text: &str) -> Result<Marked, AllocError> {
+pub fn read_marked(alloc: Global, text: &str) -> Result<Marked, AllocError> {
     let mut files = Vec::new(alloc);
     let mut place = None;
     let mut current = String::new(alloc);

@@ -186,7 +186,7 @@ impl Reading {
 /// stand `^`, the letter of its sort and the number of its component as a digit, or `-`; before a
 /// name that is used its meaning between backquotes, the number of the type, `.`, and that of the
 /// name in its text.
-pub fn annotated(alloc: Global, text: &str) -> Result<Annotated, AllocError> {
+pub fn read_annotated(alloc: Global, text: &str) -> Result<Annotated, AllocError> {
     let mut reading = Reading::new(alloc);
     for letter in text.chars() {
         reading.take(letter)?;
