@@ -58,8 +58,20 @@ impl Index {
     }
 
     /// A member of an action, with its bases'.
-    #[tactic(auto, unfolding(pst_scope::specs::Lookups::member_of))]
     pub fn member_of(&self, action: &Declaration, name: NameId) -> Option<Declaration>
+        ensures { result ≡ Lookups.member_of self.now action.now name }
+    {
+        match self.tables.of(self.declarations.as_slice(), action) {
+            Some(table) => self
+                .tables
+                .member(self.declarations.as_slice(), &table, name),
+            None => self.member_by_steps(action, name),
+        }
+    }
+
+    // It, looked up in the action and in each of its bases.
+    #[tactic(auto, unfolding(pst_scope::specs::Lookups::member_of))]
+    fn member_by_steps(&self, action: &Declaration, name: NameId) -> Option<Declaration>
         ensures { result ≡ Lookups.member_of self.now action.now name }
     {
         let mut at = Some(*action);

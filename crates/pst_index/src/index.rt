@@ -7,7 +7,9 @@ ghost use Rattle.pst_index.specs.Found.{is_item_beside};
 
 use crate::first::{first_by, other_items};
 use crate::key::{By, Key, name_key, place_key};
+use crate::tabled::tables_of;
 use pst_base::{NameId, NoMemory, Place};
+use pst_members::Tables;
 use pst_scope::{Declaration, Scope, Sort};
 use std::alloc::Global;
 use std::collections::HashMap;
@@ -19,12 +21,13 @@ use std::marker::Model;
 /// Contracts see the list of the declarations. Each look-up takes expected constant time.
 #[derive(Drop)]
 pub struct Index {
-    declarations: Vec<Declaration>,
+    pub(crate) declarations: Vec<Declaration>,
     names: HashMap<Key, Declaration>,
     places: HashMap<Key, Declaration>,
     items: HashMap<Key, Declaration>,
     fields: HashMap<Key, Declaration>,
     others: HashMap<Key, Declaration>,
+    pub(crate) tables: Tables,
 }
 
 impl Model for Index {
@@ -49,14 +52,17 @@ impl Index {
         let items = first_by(alloc, By::Item, declarations.as_slice())?;
         let fields = first_by(alloc, By::Field, declarations.as_slice())?;
         let others = other_items(alloc, &items, declarations.as_slice())?;
-        Ok(Index {
+        let mut index = Index {
             declarations,
             names,
             places,
             items,
             fields,
             others,
-        })
+            tables: Tables::new(alloc)?,
+        };
+        index.tables = tables_of(alloc, &index)?;
+        Ok(index)
     }
 
     /// The declarations in the order of the text.

@@ -1,4 +1,4 @@
-//! Look-ups among what the sources declare, each in expected constant time.
+//! Look-ups among what the sources declare, none of which goes through the list of declarations.
 #![tactic(auto)]
 
 mod bases;
@@ -6,6 +6,7 @@ mod first;
 mod index;
 mod key;
 mod members;
+mod tabled;
 mod types;
 
 pub use index::Index;

@@ -1,0 +1,7 @@
+mod Elements
+mod Leasts
+mod Judging
+mod Walked
+mod Rootless
+mod Breaking
+mod Resolving

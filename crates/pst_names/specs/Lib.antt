@@ -1,3 +1,4 @@
-pub mod Tests
-pub mod Earlier
-pub mod Own
+pub mod Leasts
+pub mod Judged
+pub mod Labels
+pub mod Resolved

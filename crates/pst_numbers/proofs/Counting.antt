@@ -1,15 +1,11 @@
 -- Names are counted as they are declared.
-use Rattle.std.proofs.Common.{◌≡◌, ℕ, ◌+◌, ◌<◌, ◌≤◌, Bool, true, false, not, ◌&&◌, List, [], ◌∷◌, ◌++◌, length, nat_eq, nat_lt, refl, sym, ap, ◌∙◌, cond, Option, true≢false, arith, ⊎_elim}
+use Rattle.std.proofs.Common.{◌≡◌, ℕ, ◌+◌, Bool, true, false, not, ◌&&◌, List, [], ◌∷◌, ◌++◌, length, nat_eq, refl, sym, ap, ◌∙◌, cond, Option, true≢false}
 use Rattle.std.specs.Prelude.{Some, None, is_some, position, if◌then◌else◌}
 use Rattle.std.specs.Cmp.{nat_eq_equiv}
-use Rattle.std.specs.List.{position_or_len}
 use Rattle.std.specs.Option.{option_map, option_map_or}
 use Rattle.std.proofs.Math.Dec.{eqb}
-use Rattle.std.proofs.lemmas.Bool.{eqb-true, lt-ltb, le-ltb}
-use Rattle.std.proofs.lemmas.Bool.Decides.{eqb_tells}
+use Rattle.std.proofs.lemmas.Bool.{eqb-true}
 use Rattle.std.proofs.lemmas.List.{length-append, append-nil}
-use Rattle.std.proofs.lemmas.List.Folds.{position_or_len_push}
-use Rattle.std.proofs.lemmas.List.Sums.{prefix_len-le-length}
 use Rattle.std.proofs.lemmas.List.Elements.{filter-append}
 use Rattle.pst_base.specs.declared.position.Place.{Place}
 use Rattle.pst_scope.specs.declared.declaration.Declaration.{Declaration}
@@ -18,6 +14,7 @@ use Rattle.pst_scope.specs.Scopes.{is_type, is_inside, names_in}
 use Rattle.pst_numbers.specs.declared.keys.PlaceKey.{PlaceKey}
 use Rattle.pst_numbers.specs.declared.keys.MemberKey.{MemberKey}
 use Rattle.pst_numbers.specs.NumberKeys.{place_key, member_key}
+use Rattle.pst_numbers.proofs.Positions.{kept, position_more}
 use Rattle.pst_numbers.specs.Ranked.{counts_here, rank_at, count_of, or_new, IsCounted, IsRanked}
 
 abbrev passes : Place → Declaration → Bool
@@ -42,10 +39,6 @@ nowhere : (type : Place) (b : Bool) (inside : Option Place) → (if b then None 
 nowhere type true inside e = and_false (option_map_or (same_place type) inside false)
 nowhere type false inside e = and_true (option_map_or (same_place type) inside false) ∙ ap (λ (i : Option Place). option_map_or (same_place type) i false) e
 
-kept : (found : Option ℕ) (n : ℕ) → found ≡ or_new found false n
-kept (Some k) n = refl
-kept None n = refl
-
 same_kept : (found : Option ℕ) (m n : ℕ) → or_new found false m ≡ or_new found false n
 same_kept (Some k) m n = refl
 same_kept None m n = refl
@@ -57,36 +50,6 @@ mapped None false n = refl
 
 names_more : (ps : List Declaration) (d : Declaration) (type : Place) → names_in (ps ++ d ∷ []) type ≡ names_in ps type ++ cond (passes type d) (d ∷ []) []
 names_more ps d type = filter-append (passes type) ps (d ∷ [])
-
-module _ (k n k' n' : ℕ) (le : k ≤ n) (longer : n' ≡ n + 1) where
-  found_before : k < n → k' ≡ k → (b : Bool) → cond (nat_lt k' n') (Some k') None ≡ or_new (cond (nat_lt k n) (Some k) None) b n
-  found_before lt same b =
-      ap (λ (x : Bool). cond x (Some k') None) (lt-ltb k' n' (omega (arith, lt, longer, same)))
-      ∙ ap (λ (i : ℕ). Some i) same
-      ∙ sym (ap (λ (x : Bool). or_new (cond x (Some k) None) b n) (lt-ltb k n lt))
-
-  found_here : k ≡ n → (b : Bool) → k' ≡ n + cond b 0 1 → cond (nat_lt k' n') (Some k') None ≡ or_new (cond (nat_lt k n) (Some k) None) b n
-  found_here end true is =
-      ap (λ (x : Bool). cond x (Some k') None) (lt-ltb k' n' (omega (arith, is, longer)))
-      ∙ ap (λ (i : ℕ). Some i) (omega (arith, is))
-      ∙ sym (ap (λ (x : Bool). or_new (cond x (Some k) None) true n) (le-ltb k n (omega (arith, end))))
-  found_here end false is =
-      ap (λ (x : Bool). cond x (Some k') None) (le-ltb k' n' (omega (arith, is, longer)))
-      ∙ sym (ap (λ (x : Bool). or_new (cond x (Some k) None) false n) (le-ltb k n (omega (arith, end))))
-
-  found : (b : Bool) → k' ≡ cond (eqb k n) (n + cond b 0 1) k → cond (nat_lt k' n') (Some k') None ≡ or_new (cond (nat_lt k n) (Some k) None) b n
-  found b is = ⊎_elim
-      (λ e. found_here e.1 b (is ∙ ap (λ (x : Bool). cond x (n + cond b 0 1) k) e.0))
-      (λ e. found_before (omega (arith, le, e.1)) (is ∙ ap (λ (x : Bool). cond x (n + cond b 0 1) k) e.0) b)
-      (eqb_tells k n)
-
-module _ (p : Declaration → Bool) where
-  within : (xs : List Declaration) → position_or_len p xs ≤ length xs
-  within xs = prefix_len-le-length (λ x. not (p x)) xs
-
-  pub position_more : (xs : List Declaration) (y : Declaration) → position p (xs ++ y ∷ []) ≡ or_new (position p xs) (p y) (length xs)
-  position_more xs y =
-      found (position_or_len p xs) (length xs) (position_or_len p (xs ++ y ∷ [])) (length (xs ++ y ∷ [])) (within xs) (length-append xs (y ∷ [])) (p y) (position_or_len_push p xs y)
 
 place : ℕ → ℕ → ℕ → Place
 place file line column = record { file = file; line = line; column = column }
@@ -107,7 +70,7 @@ same_places a b e =
     ∙ ap (λ (l : ℕ). place b.file l a.column) (eqb-true a.line b.line (left_of (nat_eq a.line b.line) (nat_eq a.column b.column) lines))
     ∙ ap (λ (c : ℕ). place b.file b.line c) (eqb-true a.column b.column (right_of (nat_eq a.line b.line) (nat_eq a.column b.column) lines))
 
-turned : (p q : Place) → same_place p q ≡ same_place q p
+pub turned : (p q : Place) → same_place p q ≡ same_place q p
 turned p q =
     ap (λ (b : Bool). b && (nat_eq p.line q.line && nat_eq p.column q.column)) (nat_eq_equiv.symm p.file q.file)
     ∙ ap (λ (b : Bool). nat_eq q.file p.file && (b && nat_eq p.column q.column)) (nat_eq_equiv.symm p.line q.line)

@@ -1,1 +1,6 @@
+mod BehindPlaces
 mod Counting
+mod InOrder
+mod Meant
+mod Positions
+mod TypesCounted

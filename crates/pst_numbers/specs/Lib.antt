@@ -1,2 +1,4 @@
+pub mod Meanings
 pub mod NumberKeys
+pub mod Numbered
 pub mod Ranked

@@ -1,10 +1,12 @@
-//! The types of the sources in order of declaration, and what is declared as numbers.
+//! The types of the sources in order of declaration, and what names mean as numbers.
 #![tactic(auto)]
 
+mod in_order;
 mod keys;
 mod listed;
+mod meanings;
+mod numbering;
 mod ranking;
 
-pub use keys::{MemberKey, PlaceKey, member_key, place_key};
 pub use listed::entries;
-pub use ranking::ranks;
+pub use meanings::scopes;

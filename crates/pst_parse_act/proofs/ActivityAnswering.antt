@@ -20,11 +20,11 @@ use Rattle.pst_reading.specs.Reads.{Reads}
 use Rattle.pst_reading.proofs.Final.{one_tree}
 use Rattle.pst_reading.proofs.Whole.{read_answer, stopped_answer, deep_answer}
 use Rattle.pst_reading.proofs.Rereading.{Anything}
-use Rattle.pst_parse_act.specs.Activities.{activity_at}
-use Rattle.pst_parse_act.specs.ActivityFamilies.{activity_family}
-use Rattle.pst_parse_act.proofs.ActivityExplains.{activity_explains}
-use Rattle.pst_parse_act.proofs.ActivityAgain.{activity_again}
-use Rattle.pst_parse_act.proofs.ActivityNoEnd.{activity_free}
+use Rattle.pst_parse_statement.specs.Activities.{activity_at}
+use Rattle.pst_parse_statement.specs.ActivityFamilies.{activity_family}
+use Rattle.pst_parse_statement.proofs.ActivityExplains.{activity_explains}
+use Rattle.pst_parse_statement.proofs.ActivityAgain.{activity_again}
+use Rattle.pst_parse_statement.proofs.ActivityNoEnd.{activity_free}
 
 -- an activity ends with its brace, whatever follows
 decide_activity : (a : ActivityTree) (t : Token) → IsProperActivity a → Anything (Some t) ⊎ IsViable TheActivity (spell_activity a ++ t ∷ [])

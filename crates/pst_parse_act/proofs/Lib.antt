@@ -1,10 +1,2 @@
-pub mod ActivityRows
-pub mod ActivityExplains
-pub mod ActivityEnds
-pub mod ActivityAgain
-pub mod ActivityNoEnd
 pub mod ActivityAnswering
-pub mod ActivityViews
-pub mod ActivityLooks
-pub mod ActivityNested
-pub mod ActivityRules
+pub mod ActivityKept

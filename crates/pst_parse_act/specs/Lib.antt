@@ -1,2 +1,0 @@
-pub mod Activities
-pub mod ActivityFamilies

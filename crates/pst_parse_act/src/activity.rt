@@ -1,48 +1,23 @@
 //! Statements of activities. A parser stands at a place, and `depth` derivations that count are open
 //! at the tokens of its part; it answers the part and the place behind it. Behind a part that ends
 //! with an `if` without `else` no `else` stands.
-ghost use Rattle.std.specs.Prelude.{◌≡◌, ◌≤◌, ◌-◌, length};
+ghost use Rattle.std.specs.Prelude.{◌≤◌, ◌-◌, length};
 ghost use Rattle.pst_ast.specs.ActivityView.{view_statement, view_core, view_branch, view_arm};
 ghost use Rattle.pst_ast.specs.ActivityProper.{statement_ends_open, core_ends_open};
-ghost use Rattle.pst_ast.specs.Marks.{together_word_kind};
 ghost use Rattle.pst_reading.specs.Reads.{Reads, ReadsOpen};
-ghost use Rattle.pst_parse_act.specs.ActivityFamilies.{sequence_word_family, maybe_sequence_word_family, sequence_family, together_family, branch_family, branches_family, select_family, repeated_family, if_family, arm_family, arms_family, match_family, core_family, empty_family, named_family, plain_family, statement_family, statements_family, view_statements, view_branches, view_arms};
+ghost use Rattle.pst_parse_statement.specs.ActivityFamilies.{sequence_family, together_family, branch_family, branches_family, select_family, repeated_family, if_family, arm_family, arms_family, match_family, core_family, named_family, plain_family, statement_family, statements_family, view_statements, view_branches, view_arms};
 
 use pst_ast::{ArmNode, BranchNode, CoreNode, LabelNode, StatementNode, SyntaxFault, TogetherWord};
-use pst_base::Place;
 use pst_parse_expr::shared::outermost;
+use pst_parse_member::keeping::both;
 use pst_parse_part::times::{Times, read_times};
+use pst_parse_statement::words::{empty, maybe_sequence_word, word_kind};
 use pst_parse_step::labels::{arm_label, maybe_guard};
 use pst_parse_step::parts::maybe_join;
 use pst_parse_step::traversal::{bound_core, do_core, handle_core, with_part};
 use pst_reading::{boxed, expect, expect_name, is, is_name, push};
 use pst_token::{Kind, Token};
 use std::alloc::Global;
-
-// The word `sequence`.
-fn sequence_word(tokens: &[Token], at: usize, depth: u32) -> Result<(Place, usize), SyntaxFault>
-    requires inside { at ≤ length tokens.now }
-    ensures { Reads (λ place. place) (sequence_word_family depth) tokens.now at at 1 result }
-{
-    let place = expect(tokens, at, Kind::Sequence, depth, 0)?;
-    Ok((place, at + 1))
-}
-
-// The word `sequence`, where it stands.
-fn maybe_sequence_word(
-    tokens: &[Token],
-    at: usize,
-    depth: u32,
-) -> Result<(Option<Place>, usize), SyntaxFault>
-    requires inside { at ≤ length tokens.now }
-    ensures { Reads (λ place. place) (maybe_sequence_word_family depth) tokens.now at at 0 result }
-{
-    if !is(tokens, at, Kind::Sequence) {
-        return Ok((None, at));
-    }
-    let (word, after) = sequence_word(tokens, at, depth)?;
-    Ok((Some(word), after))
-}
 
 // Statements one after another.
 #[cycle(activity)]
@@ -67,16 +42,6 @@ fn sequence_core(
         right_brace,
     };
     Ok((core, after + 1))
-}
-
-// The reserved word of a block whose statements run side by side or in any order.
-fn word_kind(word: TogetherWord) -> Kind
-    ensures { result ≡ together_word_kind word }
-{
-    match word {
-        TogetherWord::Parallel => Kind::Parallel,
-        TogetherWord::Schedule => Kind::Schedule,
-    }
 }
 
 // Statements side by side, or in any order.
@@ -225,24 +190,30 @@ fn if_core(
 {
     let if_ = expect(tokens, at, Kind::If, depth, 0)?;
     let left_parenthesis = expect(tokens, at + 1, Kind::LeftParenthesis, depth, 0)?;
-    let (condition, behind) = outermost(alloc, tokens, at + 2, depth)?;
-    let right_parenthesis = expect(tokens, behind, Kind::RightParenthesis, depth, 0)?;
-    let (holds, after) = statement(alloc, tokens, behind + 1, depth + 1)?;
-    let then = boxed(alloc, holds)?;
+    let (asked, behind) = outermost(alloc, tokens, at + 2, depth)?;
+    let closing = expect(tokens, behind, Kind::RightParenthesis, depth, 0);
+    let (tested, right_parenthesis) = both(asked, closing)?;
+    let first = statement(alloc, tokens, behind + 1, depth + 1);
+    let (kept, (holds, after)) = both(tested, first)?;
+    let heap = boxed(alloc, holds);
+    let (held, done) = both(kept, heap)?;
     if !is(tokens, after, Kind::Else) {
         let only = CoreNode::If {
             if_,
             left_parenthesis,
-            condition,
+            condition: held,
             right_parenthesis,
-            then,
+            then: done,
         };
         return Ok((only, after));
     }
-    let else_ = expect(tokens, after, Kind::Else, depth, 0)?;
-    let (other, end) = statement(alloc, tokens, after + 1, depth + 1)?;
-    let otherwise = boxed(alloc, other)?;
-    let both = CoreNode::IfElse {
+    let word = expect(tokens, after, Kind::Else, depth, 0);
+    let (front, else_) = both((held, done), word)?;
+    let second = statement(alloc, tokens, after + 1, depth + 1);
+    let (head, (other, end)) = both(front, second)?;
+    let tail = boxed(alloc, other);
+    let ((condition, then), otherwise) = both(head, tail)?;
+    let whole = CoreNode::IfElse {
         if_,
         left_parenthesis,
         condition,
@@ -251,7 +222,7 @@ fn if_core(
         else_,
         otherwise,
     };
-    Ok((both, end))
+    Ok((whole, end))
 }
 
 // An arm of `match`.
@@ -314,13 +285,19 @@ fn match_core(
 {
     let match_ = expect(tokens, at, Kind::Match, depth, 0)?;
     let left_parenthesis = expect(tokens, at + 1, Kind::LeftParenthesis, depth, 0)?;
-    let (expr, behind) = outermost(alloc, tokens, at + 2, depth)?;
-    let right_parenthesis = expect(tokens, behind, Kind::RightParenthesis, depth, 0)?;
-    let left_brace = expect(tokens, behind + 1, Kind::LeftBrace, depth, 0)?;
-    let (head, after) = arm(alloc, tokens, behind + 2, depth)?;
-    let first = boxed(alloc, head)?;
-    let (rest, end) = arms(alloc, tokens, after, depth)?;
-    let right_brace = expect(tokens, end, Kind::RightBrace, depth, 0)?;
+    let (asked, behind) = outermost(alloc, tokens, at + 2, depth)?;
+    let closing = expect(tokens, behind, Kind::RightParenthesis, depth, 0);
+    let (tested, right_parenthesis) = both(asked, closing)?;
+    let opening = expect(tokens, behind + 1, Kind::LeftBrace, depth, 0);
+    let (matched, left_brace) = both(tested, opening)?;
+    let one = arm(alloc, tokens, behind + 2, depth);
+    let (kept, (head, after)) = both(matched, one)?;
+    let heap = boxed(alloc, head);
+    let (held, arm) = both(kept, heap)?;
+    let others = arms(alloc, tokens, after, depth);
+    let (front, (listed, end)) = both((held, arm), others)?;
+    let last = expect(tokens, end, Kind::RightBrace, depth, 0);
+    let (((expr, first), rest), right_brace) = both((front, listed), last)?;
     let core = CoreNode::Match {
         match_,
         left_parenthesis,
@@ -377,15 +354,6 @@ fn unlabeled(
         return bound_core(alloc, tokens, at, depth);
     }
     handle_core(alloc, tokens, at, depth)
-}
-
-// A statement that does nothing.
-fn empty(tokens: &[Token], at: usize, depth: u32) -> Result<(StatementNode, usize), SyntaxFault>
-    requires inside { at ≤ length tokens.now }
-    ensures { ReadsOpen view_statement statement_ends_open (empty_family depth) tokens.now at at result }
-{
-    let semicolon = expect(tokens, at, Kind::Semicolon, depth, 0)?;
-    Ok((StatementNode::Empty(semicolon), at + 1))
 }
 
 // A statement that begins with a name: a label where a colon comes next, and else a handle.

@@ -4,7 +4,7 @@ ghost use Rattle.pst_ast.specs.ActivityView.{view_activity};
 ghost use Rattle.pst_ast.specs.Answers.{AnswersActivity};
 ghost use Rattle.pst_reading.specs.Ended.{IsEnded};
 ghost use Rattle.pst_reading.specs.Reads.{Reads};
-ghost use Rattle.pst_parse_act.specs.ActivityFamilies.{activity_family};
+ghost use Rattle.pst_parse_statement.specs.ActivityFamilies.{activity_family};
 
 use crate::activity::statements;
 use pst_ast::{ActivityNode, SyntaxFault};

@@ -28,8 +28,8 @@ use Rattle.pst_reading.proofs.Chains.{becomes_mark, becomes_name}
 use Rattle.pst_reading.proofs.Lists.{list_again}
 use Rattle.pst_reading.proofs.Peeking.{takes, takes_followed, peek_becomes}
 use Rattle.pst_parse_expr.specs.Constraints.{Within, outermost_at, is_at, is_other, ConditionTree, condition_by, next_expr_by, next_exprs_by}
-use Rattle.pst_parse_expr.proofs.Stops.{IsNo, Separates, separated, semicolon_closes, right_parenthesis_closes, comma_closes}
-use Rattle.pst_parse_expr.proofs.ExprAgain.{expr_again}
+use Rattle.pst_parse_operator.proofs.Stops.{IsNo, Separates, separated, semicolon_closes, right_parenthesis_closes, comma_closes}
+use Rattle.pst_parse_operator.proofs.ExprAgain.{expr_again}
 use Rattle.pst_parse_expr.proofs.Starts.{starts_expr, no_parenthesis_begins}
 use Rattle.pst_parse_expr.proofs.Takes.{expr_takes, expr_apart, parenthesis_outside}
 use Rattle.pst_parse_expr.proofs.SharedLaws.{spell_condition, IsProperCondition, counts_condition, same_text, bracketed, condition_again, next_expr_again, next_expr_starts, some_next_expr, brace_ends, brace_is_no_else}

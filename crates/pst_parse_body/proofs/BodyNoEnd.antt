@@ -8,7 +8,7 @@ use Rattle.pst_ast.specs.SharedSpelling.{spell_label, spell_plain}
 use Rattle.pst_ast.specs.BodyTree.{BodyTree, MakeBody, BodyStatementTree, BodyStatementEmpty, BodyStatementLocal, BodyStatementAssign, BodyStatementCall, BodyStatementBlock, BodyStatementIf, BodyStatementIfElse, BodyStatementRepeat, ValueTree, MakeValue, SourceTree, SourceCall, SourceExpr, CallTree, MakeCall, ArgumentsTree, MakeArguments, BodyStatementRow, NoBodyStatementRow, MoreBodyStatementRow}
 use Rattle.pst_ast.specs.BodySpelling.{spell_arguments, spell_call, spell_source, spell_value, spell_body_statement, spell_body_statement_row, spell_body}
 use Rattle.pst_reading.proofs.Whole.{NoEnd, both_free}
-use Rattle.pst_parse_expr.proofs.NoEnd.{expr_free}
+use Rattle.pst_parse_operator.proofs.NoEnd.{expr_free}
 use Rattle.pst_parse_expr.proofs.ConstraintNoEnd.{next_exprs_free}
 use Rattle.pst_parse_part.proofs.NoEnd.{plain_free}
 

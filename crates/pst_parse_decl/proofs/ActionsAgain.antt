@@ -30,7 +30,7 @@ use Rattle.pst_parse_member.specs.Members.{field_by, claim_by, members_by, refer
 use Rattle.pst_parse_decl.specs.Objects.{constraint_declaration_by}
 use Rattle.pst_parse_part.specs.Names.{type_name_by}
 use Rattle.pst_parse_expr.proofs.SharedLaws.{IsAny}
-use Rattle.pst_parse_expr.proofs.Stops.{IsNo}
+use Rattle.pst_parse_operator.proofs.Stops.{IsNo}
 use Rattle.pst_parse_expr.specs.Constraints.{Within, is_at, is_other}
 use Rattle.pst_reading.proofs.Lists.{StartsPart}
 use Rattle.pst_reading.proofs.Rereading.{Rereads, Anything, reread_done, narrower, reread_mark, reread_name, reread_part, reread_last, reread_choice, EndsOption, reread_option, reread_list}

@@ -7,8 +7,8 @@ use Rattle.pst_ast.specs.declared.leaf.Name.{Name}
 use Rattle.pst_ast.specs.declared.leaf.PrefixOperator.{PrefixOperator}
 use Rattle.pst_parse_decl.specs.Objects.{behind, set_content_by}
 use Rattle.pst_parse_expr.specs.Constraints.{Within, outermost_at, item_by, constraint_at, behind_expr, set_by}
-use Rattle.pst_parse_expr.specs.Operators.{prefix_of, is_bare}
-use Rattle.pst_parse_expr.specs.Reading.{expr_at, ranges_by, Parsers, primary_by, unary_by, prefix_by, level_by}
+use Rattle.pst_parse_operator.specs.Operators.{prefix_of, is_bare}
+use Rattle.pst_parse_operator.specs.Reading.{expr_at, ranges_by, Parsers, primary_by, unary_by, prefix_by, level_by}
 use Rattle.pst_reading.specs.Kinds.{is_mark, is_name, is_number}
 use Rattle.pst_reading.specs.Parser.{Parser, Done, Wrong, Spent, Look, Take, followed_by, run, TooDeep, counts_taken}
 use Rattle.pst_token.specs.declared.token.Token.{Token}

@@ -28,7 +28,7 @@ use Rattle.pst_parse_member.specs.Enums.{function_by, enum_by}
 use Rattle.pst_parse_member.specs.Members.{members_by}
 use Rattle.pst_parse_decl.specs.Objects.{object_by}
 use Rattle.pst_parse_member.specs.Pools.{pool_by, pool_bind_by}
-use Rattle.pst_parse_expr.proofs.Stops.{IsNo}
+use Rattle.pst_parse_operator.proofs.Stops.{IsNo}
 use Rattle.pst_parse_expr.specs.Constraints.{Within, is_at, is_other}
 use Rattle.pst_reading.proofs.Lists.{StartsPart}
 use Rattle.pst_reading.proofs.Rereading.{Rereads, Anything, reread_done, reread_mark, reread_name, reread_part, reread_choice, EndsOption, reread_list}

@@ -13,9 +13,9 @@ use Rattle.pst_ast.specs.declared.activity.ActivityNode.{ActivityNode}
 use Rattle.pst_ast.specs.declared.body.BodyNode.{BodyNode}
 use Rattle.pst_ast.specs.declared.fault.SyntaxFault.TheVariants as the_fault
 use Rattle.pst_ast.specs.declared.fault.SyntaxFault.{SyntaxFault}
-use Rattle.pst_parse_act.proofs.ActivityAgain.{activity_again}
-use Rattle.pst_parse_act.proofs.ActivityExplains.{activity_explains}
-use Rattle.pst_parse_act.specs.ActivityFamilies.{activity_family}
+use Rattle.pst_parse_statement.proofs.ActivityAgain.{activity_again}
+use Rattle.pst_parse_statement.proofs.ActivityExplains.{activity_explains}
+use Rattle.pst_parse_statement.specs.ActivityFamilies.{activity_family}
 use Rattle.pst_parse_body.proofs.BodyAgain.{body_again}
 use Rattle.pst_parse_body.proofs.BodyExplains.{body_explains}
 use Rattle.pst_parse_body.specs.BodyFamilies.{body_family}

@@ -8,7 +8,7 @@ use Rattle.pst_ast.specs.Laws.{AtMostOneTree}
 use Rattle.pst_ast.specs.Rule.{TheItem}
 use Rattle.pst_ast.specs.declared.declaration.Item.{Item}
 use Rattle.pst_ast.specs.declared.fault.SyntaxFault.{SyntaxFault}
-use Rattle.pst_parse_act.proofs.ActivityNoEnd.{activity_free}
+use Rattle.pst_parse_statement.proofs.ActivityNoEnd.{activity_free}
 use Rattle.pst_parse_body.proofs.BodyNoEnd.{body_free}
 use Rattle.pst_parse_decl.proofs.Answering.{one_item, item_answers}
 use Rattle.pst_parse_decl.proofs.ComponentsAgain.{item_rereads, component_begins, enum_begins, function_begins}

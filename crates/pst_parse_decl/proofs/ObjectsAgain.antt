@@ -23,7 +23,7 @@ use Rattle.pst_parse_member.specs.Members.{field_by}
 use Rattle.pst_parse_decl.specs.Objects.{constraint_declaration_by, behind_name_by, behind, set_content_by, constraint_items_by, content_by, named_constraint_by, object_by, object_part_by, object_word_by}
 use Rattle.pst_parse_expr.proofs.ConstraintAgain.{item_again, constraint_again, some_item}
 use Rattle.pst_parse_expr.proofs.Starts.{item_starts}
-use Rattle.pst_parse_expr.proofs.Stops.{IsNo, Separates, closes}
+use Rattle.pst_parse_operator.proofs.Stops.{IsNo, Separates, closes}
 use Rattle.pst_parse_expr.specs.Constraints.{Within, outermost_at, is_at, is_other, item_by, constraint_at, behind_expr, set_by}
 use Rattle.pst_reading.proofs.Becoming.{Becomes, becomes_followed, run_followed}
 use Rattle.pst_reading.proofs.Lists.{StartsPart}

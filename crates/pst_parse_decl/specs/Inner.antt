@@ -1,7 +1,7 @@
 -- The parsers of activities and bodies, as parts of an action.
 use Rattle.pst_ast.specs.ActivityTree.{ActivityTree}
 use Rattle.pst_ast.specs.BodyTree.{BodyTree}
-use Rattle.pst_parse_act.specs.Activities.{activity_at}
+use Rattle.pst_parse_statement.specs.Activities.{activity_at}
 use Rattle.pst_parse_body.specs.Bodies.{body_at}
 use Rattle.pst_parse_expr.specs.Constraints.{Within}
 use Rattle.pst_reading.specs.Gives.{Family}

@@ -9,14 +9,14 @@ use Rattle.pst_ast.specs.Laws.{AtMostOneTree}
 use Rattle.pst_ast.specs.Rule.{TheExpr}
 use Rattle.pst_reading.proofs.Explaining.{Means, Explains, wider}
 use Rattle.pst_reading.proofs.Final.{one_tree}
-use Rattle.pst_parse_expr.specs.Reading.{expr_at}
-use Rattle.pst_parse_expr.proofs.Levels.{IsLevel}
-use Rattle.pst_parse_expr.proofs.Parts.{expr_explains}
-use Rattle.pst_parse_expr.proofs.ExprAgain.{expr_again}
-use Rattle.pst_parse_expr.proofs.Stops.{Stops, separated, nothing_closes}
-use Rattle.pst_parse_expr.proofs.Deciding.{decide}
-use Rattle.pst_parse_expr.proofs.NoEnd.{expr_free}
-use Rattle.pst_parse_expr.specs.Families.{level_family}
+use Rattle.pst_parse_operator.specs.Reading.{expr_at}
+use Rattle.pst_parse_operator.proofs.Levels.{IsLevel}
+use Rattle.pst_parse_operator.proofs.Parts.{expr_explains}
+use Rattle.pst_parse_operator.proofs.ExprAgain.{expr_again}
+use Rattle.pst_parse_operator.proofs.Stops.{Stops, separated, nothing_closes}
+use Rattle.pst_parse_operator.proofs.Deciding.{decide}
+use Rattle.pst_parse_operator.proofs.NoEnd.{expr_free}
+use Rattle.pst_parse_operator.specs.Families.{level_family}
 use Rattle.pst_ast.specs.declared.expression.ExprNode.{ExprNode}
 use Rattle.pst_ast.specs.declared.fault.SyntaxFault.{SyntaxFault}
 use Rattle.pst_ast.specs.declared.fault.SyntaxFault.TheVariants as the_fault

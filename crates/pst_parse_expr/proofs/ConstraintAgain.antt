@@ -28,8 +28,8 @@ use Rattle.pst_reading.proofs.Tokens.{mark_is_so}
 use Rattle.pst_reading.proofs.Chains.{becomes_mark, becomes_name}
 use Rattle.pst_reading.proofs.Lists.{StartsPart, list_again}
 use Rattle.pst_parse_expr.specs.Constraints.{Within, outermost_at, is_at, is_other, ConditionTree, condition_close, condition_inner, condition_by, next_expr_by, next_expr_inner, next_exprs_by, dot_name_by, dot_name_inner, dot_names_by, behind_expr, expr_end, implies_by, implied_by, expr_item_by, else_by, otherwise_by, maybe_else_by, behind_then, then_by, if_condition_by, if_by, unique_end, unique_close, unique_by, unique_open, unique_first, unique_rest, SubscriptTree, subscript_by, subscript_name, subscript_close, subscript_end, foreach_by, foreach_open, foreach_first, foreach_rest, foreach_index, foreach_set, empty_by, item_by, item_row, items_by, block_close, block_items, block_by, one_by, set_by, constraint_at}
-use Rattle.pst_parse_expr.proofs.Stops.{IsNo, Separates, separated, semicolon_closes, arrow_closes, right_parenthesis_closes, right_brace_closes, comma_closes}
-use Rattle.pst_parse_expr.proofs.ExprAgain.{expr_again}
+use Rattle.pst_parse_operator.proofs.Stops.{IsNo, Separates, separated, semicolon_closes, arrow_closes, right_parenthesis_closes, right_brace_closes, comma_closes}
+use Rattle.pst_parse_operator.proofs.ExprAgain.{expr_again}
 use Rattle.pst_parse_expr.proofs.Starts.{BeginsItem, begins_empty, begins_if, begins_unique, begins_foreach, begins_with_expr, starts_expr, item_starts}
 use Rattle.pst_parse_expr.proofs.ConstraintExplains.{items_spelled, items_counted}
 use Rattle.pst_parse_expr.proofs.SharedLaws.{IsAny, spell_condition, IsProperCondition, counts_condition, spell_subscript, counts_subscript, same_text, bracketed, no_arrow, no_comma_at_brace, no_dot_at_bracket, brace_is_no_else, brace_ends, condition_again, next_expr_again, next_expr_starts, some_next_expr, dot_name_again, subscript_again}

@@ -8,7 +8,7 @@ use Rattle.pst_ast.specs.SharedSpelling.{spell_next_expr, spell_dot_name}
 use Rattle.pst_ast.specs.ConstraintTree.{ConstraintTree, ConstraintOne, ConstraintBlock, ConstraintItemTree, ConstraintItemEmpty, ConstraintItemExpr, ConstraintItemImplies, ConstraintItemIf, ConstraintItemIfElse, ConstraintItemUnique, ConstraintItemForeach, ConstraintItemRow, NoConstraintItemRow, MoreConstraintItemRow}
 use Rattle.pst_ast.specs.ConstraintSpelling.{spell_constraint, spell_constraint_item, spell_constraint_item_row}
 use Rattle.pst_reading.proofs.Whole.{NoEnd, both_free}
-use Rattle.pst_parse_expr.proofs.NoEnd.{expr_free}
+use Rattle.pst_parse_operator.proofs.NoEnd.{expr_free}
 
 pub next_exprs_free : (es : List NextExprTree) → NoEnd (flat_map spell_next_expr es)
 next_exprs_free [] = tt

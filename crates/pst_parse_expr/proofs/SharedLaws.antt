@@ -30,7 +30,7 @@ use Rattle.pst_ast.specs.declared.leaf.Name.{Name}
 use Rattle.pst_ast.specs.declared.shared.DotName.{DotName}
 use Rattle.pst_reading.proofs.Becoming.{Becomes, stays, becomes_both, becomes_followed}
 use Rattle.pst_reading.proofs.Tokens.{mark_is_so}
-use Rattle.pst_parse_expr.proofs.Stops.{IsNo, Separates, separated, semicolon_closes, arrow_closes, right_parenthesis_closes, right_brace_closes, comma_closes}
+use Rattle.pst_parse_operator.proofs.Stops.{IsNo, Separates, separated, semicolon_closes, arrow_closes, right_parenthesis_closes, right_brace_closes, comma_closes}
 
 -- ---- parts that have no rule of their own
 

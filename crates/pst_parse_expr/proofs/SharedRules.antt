@@ -11,8 +11,8 @@ use Rattle.pst_ast.specs.Limits.{counted, is_over}
 use Rattle.pst_reading.specs.Parser.{Done, Outcome, Took, run, mark_by}
 use Rattle.pst_reading.specs.Gives.{SettlesFrom, FailsFrom, Expects}
 use Rattle.pst_reading.proofs.Reaching.{Reaches, begin, step, mark_step, ends, fails, mark_fails}
-use Rattle.pst_parse_expr.specs.Reading.{expr_at}
-use Rattle.pst_parse_expr.specs.Families.{level_family}
+use Rattle.pst_parse_operator.specs.Reading.{expr_at}
+use Rattle.pst_parse_operator.specs.Families.{level_family}
 use Rattle.pst_parse_expr.specs.Constraints.{outermost_at, condition_close, condition_inner, next_expr_inner}
 use Rattle.pst_parse_expr.specs.ConstraintFamilies.{outermost_family, condition_family, next_expr_family}
 

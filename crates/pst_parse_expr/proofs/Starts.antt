@@ -16,9 +16,9 @@ use Rattle.pst_ast.specs.ConstraintSpelling.{spell_constraint, spell_constraint_
 use Rattle.pst_reading.specs.Kinds.{is_mark, is_name, is_number, next_is}
 use Rattle.pst_reading.specs.Parser.{next}
 use Rattle.pst_reading.proofs.Tokens.{mark_is}
-use Rattle.pst_parse_expr.specs.Operators.{prefix_of, is_bare}
+use Rattle.pst_parse_operator.specs.Operators.{prefix_of, is_bare}
 use Rattle.pst_parse_expr.specs.Constraints.{begins_expr}
-use Rattle.pst_parse_expr.proofs.Stops.{IsNo}
+use Rattle.pst_parse_operator.proofs.Stops.{IsNo}
 
 or_true : (b : Bool) → (b || true) ≡ true
 or_true true = refl

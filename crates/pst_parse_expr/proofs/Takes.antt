@@ -19,10 +19,10 @@ use Rattle.pst_reading.specs.Parser.{Done, followed_by, next, repeat_by}
 use Rattle.pst_reading.specs.Peeking.{name_then}
 use Rattle.pst_reading.proofs.Tokens.{name_is}
 use Rattle.pst_reading.proofs.Peeking.{takes, takes_followed}
-use Rattle.pst_parse_expr.specs.Operators.{prefix_of, is_bare}
-use Rattle.pst_parse_expr.specs.Reading.{Parsers, operation_of, level_by, primary_by, prefix_by, unary_by, ranges_by, expr_at}
+use Rattle.pst_parse_operator.specs.Operators.{prefix_of, is_bare}
+use Rattle.pst_parse_operator.specs.Reading.{Parsers, operation_of, level_by, primary_by, prefix_by, unary_by, ranges_by, expr_at}
 use Rattle.pst_parse_expr.specs.Constraints.{outermost_at}
-use Rattle.pst_parse_expr.proofs.Stops.{IsNo}
+use Rattle.pst_parse_operator.proofs.Stops.{IsNo}
 
 -- ---- an expression takes a name
 

@@ -13,11 +13,11 @@ use Rattle.pst_reading.specs.Kinds.{is_mark, is_name, is_number, next_is}
 use Rattle.pst_reading.specs.Parser.{Parser, Done, Wrong, Take, followed_by, Outcome, Refused, TooDeep, run, next, and_then, mark_by, name_by, if_mark, repeat_by}
 use Rattle.pst_reading.specs.Gives.{FailsFrom}
 use Rattle.pst_reading.proofs.Becoming.{run_followed}
-use Rattle.pst_parse_expr.specs.Operators.{prefix_of}
-use Rattle.pst_parse_expr.specs.Reading.{Parsers, operation_of, level_by, primary_by, group_by, path_by, item_by, dotted_by, number_by, prefix_by, unary_by, ranges_by, expr_at}
+use Rattle.pst_parse_operator.specs.Operators.{prefix_of}
+use Rattle.pst_parse_operator.specs.Reading.{Parsers, operation_of, level_by, primary_by, group_by, path_by, item_by, dotted_by, number_by, prefix_by, unary_by, ranges_by, expr_at}
 use Rattle.pst_parse_expr.specs.Constraints.{begins_expr}
 use Rattle.pst_parse_expr.specs.ConstraintFamilies.{outermost_family}
-use Rattle.pst_parse_expr.proofs.Tokens.{no_prefix}
+use Rattle.pst_parse_operator.proofs.Tokens.{no_prefix}
 
 true_or : (b : Bool) → b ≡ true → (c : Bool) → (b || c) ≡ true
 true_or b e c = ap (λ (x : Bool). x || c) e

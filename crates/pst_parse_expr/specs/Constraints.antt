@@ -14,8 +14,8 @@ use Rattle.pst_ast.specs.Limits.{counted}
 use Rattle.pst_reading.specs.Kinds.{is_mark, is_name, is_number, next_is}
 use Rattle.pst_reading.specs.Parser.{Parser, Done, Spent, followed_by, mark_by, name_by, if_mark}
 use Rattle.pst_reading.specs.Lists.{list_by}
-use Rattle.pst_parse_expr.specs.Operators.{prefix_of}
-use Rattle.pst_parse_expr.specs.Reading.{expr_at}
+use Rattle.pst_parse_operator.specs.Operators.{prefix_of}
+use Rattle.pst_parse_operator.specs.Reading.{expr_at}
 
 -- a parser for each number of open derivations
 abbrev pub Within : Type 0 → Type 0

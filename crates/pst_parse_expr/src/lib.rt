@@ -2,9 +2,7 @@
 #![tactic(auto)]
 
 pub mod constraint;
-pub mod expression;
 pub mod laws;
-mod operators;
 mod parse;
 pub mod shared;
 

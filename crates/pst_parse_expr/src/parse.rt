@@ -4,8 +4,8 @@ ghost use Rattle.pst_ast.specs.Answers.{AnswersConstraint, AnswersExpr};
 ghost use Rattle.pst_reading.specs.Ended.{IsEnded};
 
 use crate::constraint::set;
-use crate::expression::{LEVELS, level};
 use pst_ast::{ConstraintNode, ExprNode, SyntaxFault};
+use pst_parse_operator::expression::{LEVELS, level};
 use pst_token::Token;
 use std::alloc::Global;
 

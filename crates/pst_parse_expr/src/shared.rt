@@ -9,10 +9,10 @@ ghost use Rattle.pst_parse_expr.specs.Constraints.{begins_expr};
 ghost use Rattle.pst_parse_expr.specs.Constraints;
 ghost use Rattle.pst_parse_expr.specs.ConstraintFamilies.{outermost_family, condition_family, next_expr_family, next_exprs_family, dot_name_family, dot_names_family, view_condition, view_next_exprs, view_dot_names};
 
-use crate::expression::{LEVELS, level};
-use crate::operators::prefix_at;
 use pst_ast::{DotName, ExprNode, NextExpr, SyntaxFault};
 use pst_base::Place;
+use pst_parse_operator::expression::{LEVELS, level};
+use pst_parse_operator::operators::prefix_at;
 use pst_reading::{expect, expect_name, is, is_name, is_number, is_over, push};
 use pst_token::{Kind, Token};
 use std::alloc::Global;

@@ -13,7 +13,7 @@ use Rattle.pst_parse_part.proofs.PlainAgain.{plain_rereads, plain_begins}
 use Rattle.pst_parse_member.specs.Enums.{parameters_by, function_rest_by, function_by, next_enum_item_by, enum_by, enum_item_by, parameter_by, enum_value_by, answer_by, next_parameter_by}
 use Rattle.pst_parse_part.specs.Plain.{plain_by}
 use Rattle.pst_parse_expr.proofs.SharedLaws.{IsAny}
-use Rattle.pst_parse_expr.proofs.Stops.{IsNo, Separates, right_brace_closes, comma_closes}
+use Rattle.pst_parse_operator.proofs.Stops.{IsNo, Separates, right_brace_closes, comma_closes}
 use Rattle.pst_parse_expr.specs.Constraints.{outermost_at, is_at, is_other}
 use Rattle.pst_reading.proofs.Rereading.{Rereads, Anything, reread_done, reread_mark, reread_name, reread_part, reread_last, reread_choice, EndsOption, reread_option, reread_list}
 use Rattle.pst_reading.proofs.Tokens.{mark_is_so}

@@ -23,9 +23,9 @@ use Rattle.pst_parse_part.proofs.NamesAgain.{type_name_rereads, names_begins, na
 use Rattle.pst_parse_member.specs.Members.{field_by, word_by, next_field_by, part_by, claim_by, reference_word_by, members_by, reference_by, claim_word_by}
 use Rattle.pst_parse_part.specs.Names.{names_by, type_name_by}
 use Rattle.pst_parse_member.specs.Types.{type_by}
-use Rattle.pst_parse_expr.proofs.Stops.{IsNo}
+use Rattle.pst_parse_operator.proofs.Stops.{IsNo}
 use Rattle.pst_parse_expr.specs.Constraints.{is_at}
-use Rattle.pst_parse_expr.specs.Reading.{expr_at, maybe_index_by}
+use Rattle.pst_parse_operator.specs.Reading.{expr_at, maybe_index_by}
 use Rattle.pst_reading.proofs.Rereading.{Rereads, Anything, reread_done, reread_mark, reread_name, reread_part, reread_last, reread_choice, EndsOption, reread_list}
 use Rattle.pst_reading.proofs.Tokens.{mark_is_so, name_is_so}
 use Rattle.pst_reading.specs.Lists.{list_by}

@@ -25,7 +25,7 @@ use Rattle.pst_parse_part.specs.Names.{names_by, type_name_by}
 use Rattle.pst_parse_member.specs.Types.{type_by}
 use Rattle.pst_parse_expr.proofs.SharedLaws.{IsAny}
 use Rattle.pst_parse_expr.specs.Constraints.{is_at}
-use Rattle.pst_parse_expr.specs.Reading.{expr_at, maybe_index_by}
+use Rattle.pst_parse_operator.specs.Reading.{expr_at, maybe_index_by}
 use Rattle.pst_reading.proofs.Chains.{explains_mark, explains_name, explains_part}
 use Rattle.pst_reading.proofs.Explaining.{Means, Explains, explains_done}
 use Rattle.pst_reading.proofs.Lists.{list_explains}

@@ -10,7 +10,7 @@ use Rattle.pst_ast.specs.declared.declaration.ClaimWord.{ClaimWord}
 use Rattle.pst_ast.specs.declared.declaration.ReferenceWord.TheVariants as the_reference_word
 use Rattle.pst_ast.specs.declared.declaration.ReferenceWord.{ReferenceWord}
 use Rattle.pst_ast.specs.declared.shared.DotName.{DotName}
-use Rattle.pst_parse_expr.proofs.NoEnd.{expr_free, part_free, ranges_free}
+use Rattle.pst_parse_operator.proofs.NoEnd.{expr_free, part_free, ranges_free}
 use Rattle.pst_reading.proofs.Whole.{NoEnd, both_free}
 use Rattle.pst_token.specs.declared.kind.Kind.TheVariants as kind
 use Rattle.std.proofs.Common.{◌≢◌, [], ◌∷◌}

@@ -15,7 +15,7 @@ use Rattle.pst_parse_part.proofs.NamesAgain.{type_name_begins, type_name_rereads
 use Rattle.pst_parse_member.specs.Pools.{target_by, next_target_by, several_targets_by, targets_by, pool_by, pool_bind_by, size_by}
 use Rattle.pst_parse_part.specs.Names.{type_name_by}
 use Rattle.pst_parse_expr.proofs.SharedLaws.{IsAny}
-use Rattle.pst_parse_expr.proofs.Stops.{IsNo, Separates, right_bracket_closes}
+use Rattle.pst_parse_operator.proofs.Stops.{IsNo, Separates, right_bracket_closes}
 use Rattle.pst_parse_expr.specs.Constraints.{outermost_at, is_at, dot_name_by}
 use Rattle.pst_reading.proofs.Rereading.{Rereads, Anything, reread_done, narrower, reread_mark, reread_name, reread_part, reread_last, reread_choice, EndsOption, reread_option, reread_list}
 use Rattle.pst_reading.proofs.Tokens.{mark_is_so}

@@ -13,7 +13,7 @@ use Rattle.pst_parse_member.specs.Types.{type_by, named_type_by, plain_type_by, 
 use Rattle.pst_parse_part.specs.Names.{type_name_by}
 use Rattle.pst_parse_part.specs.Ranges.{ranges_by}
 use Rattle.pst_parse_part.specs.Plain.{plain_by}
-use Rattle.pst_parse_expr.proofs.Stops.{IsNo, right_bracket_closes}
+use Rattle.pst_parse_operator.proofs.Stops.{IsNo, right_bracket_closes}
 use Rattle.pst_parse_expr.specs.Constraints.{is_at}
 use Rattle.pst_reading.proofs.Rereading.{Rereads, Anything, reread_done, narrower, reread_mark, reread_part, reread_last, EndsOption, reread_option}
 use Rattle.pst_reading.proofs.Tokens.{mark_is_so, name_is_so}

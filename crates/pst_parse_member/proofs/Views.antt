@@ -7,8 +7,8 @@ use Rattle.pst_ast.specs.declared.fault.SyntaxFault.TheVariants as the_fault
 use Rattle.pst_ast.specs.declared.fault.SyntaxFault.{SyntaxFault}
 use Rattle.pst_ast.specs.declared.leaf.Name.{Name}
 use Rattle.pst_parse_member.specs.Families.{array_size_family}
-use Rattle.pst_parse_expr.proofs.Rules.{part_view}
-use Rattle.pst_parse_expr.specs.Families.{view_index_option, index_family}
+use Rattle.pst_parse_operator.proofs.Rules.{part_view}
+use Rattle.pst_parse_operator.specs.Families.{view_index_option, index_family}
 use Rattle.pst_reading.specs.Gives.{SettlesFrom, FailsFrom}
 use Rattle.pst_reading.specs.Parser.{Outcome, Refused, TooDeep}
 use Rattle.pst_token.specs.declared.token.Token.{Token}

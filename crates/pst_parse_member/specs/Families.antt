@@ -11,7 +11,7 @@ use Rattle.pst_parse_member.specs.Members.{claim_word_by, reference_by, members_
 use Rattle.pst_parse_member.specs.Pools.{target_by, several_targets_by, next_target_by, targets_by, pool_by, pool_bind_by, size_by}
 use Rattle.pst_parse_member.specs.Types.{named_type_by, domain_by, plain_type_by, type_by}
 use Rattle.pst_parse_member.specs.declared.enums.FunctionRest.{FunctionRest}
-use Rattle.pst_parse_expr.specs.Reading.{expr_at, maybe_index_by}
+use Rattle.pst_parse_operator.specs.Reading.{expr_at, maybe_index_by}
 use Rattle.pst_reading.specs.Gives.{Family}
 use Rattle.std.specs.Option.{option_map}
 use Rattle.std.specs.Prelude.{ℕ, suc}

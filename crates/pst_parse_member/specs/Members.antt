@@ -10,7 +10,7 @@ use Rattle.pst_base.specs.declared.position.Place.{Place}
 use Rattle.pst_parse_member.specs.Types.{type_by}
 use Rattle.pst_parse_part.specs.Names.{type_name_by, names_by}
 use Rattle.pst_parse_expr.specs.Constraints.{Within, is_at}
-use Rattle.pst_parse_expr.specs.Reading.{expr_at, maybe_index_by}
+use Rattle.pst_parse_operator.specs.Reading.{expr_at, maybe_index_by}
 use Rattle.pst_reading.specs.Lists.{list_by}
 use Rattle.pst_reading.specs.Parser.{Done, followed_by, ◌>>=◌, mark_by, name_by, if_mark}
 use Rattle.pst_token.specs.declared.kind.Kind.TheVariants as kind

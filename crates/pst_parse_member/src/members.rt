@@ -5,7 +5,7 @@ ghost use Rattle.pst_ast.specs.ExpressionView.{view_part};
 ghost use Rattle.pst_parse_member.specs.Families.{members_family, part_family, reference_word_family, claim_family, reference_family, array_size_family, field_family, next_field_family, claim_word_family};
 ghost use Rattle.pst_parse_part.specs.Families.{view_list, view_itself};
 ghost use Rattle.pst_parse_expr.specs.Constraints.{is_at};
-ghost use Rattle.pst_parse_expr.specs.Families.{view_index_option};
+ghost use Rattle.pst_parse_operator.specs.Families.{view_index_option};
 ghost use Rattle.pst_reading.specs.Lists.{listed};
 ghost use Rattle.pst_reading.specs.Reads.{Reads};
 ghost use Rattle.pst_token.specs.declared.kind.Kind.TheVariants as kind;
@@ -18,7 +18,7 @@ use pst_ast::{
     ReferenceWord, SyntaxFault,
 };
 use pst_base::Place;
-use pst_parse_expr::expression::index;
+use pst_parse_operator::expression::index;
 use pst_parse_part::names::{names, type_name};
 use pst_reading::{expect, expect_name, is, push};
 use pst_token::{Kind, Token};

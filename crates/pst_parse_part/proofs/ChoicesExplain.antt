@@ -9,9 +9,9 @@ use Rattle.pst_ast.specs.SharedSpelling.{spell_dot_name}
 use Rattle.pst_base.specs.declared.position.Place.{Place}
 use Rattle.pst_parse_part.specs.Choices.{if_next}
 use Rattle.pst_parse_expr.proofs.SharedLaws.{IsAny}
-use Rattle.pst_parse_expr.proofs.Parts.{maybe_index_explains, expr_explains}
+use Rattle.pst_parse_operator.proofs.Parts.{maybe_index_explains, expr_explains}
 use Rattle.pst_parse_expr.specs.Constraints.{dot_name_by}
-use Rattle.pst_parse_expr.specs.Reading.{expr_at, maybe_index_by}
+use Rattle.pst_parse_operator.specs.Reading.{expr_at, maybe_index_by}
 use Rattle.pst_reading.proofs.Chains.{explains_mark, explains_name, explains_part}
 use Rattle.pst_reading.proofs.Explaining.{Meaning, Means, Explains, Behind, explains_done, wider}
 use Rattle.pst_reading.proofs.Marks.{explains_choice, mark_explains, IsMark}

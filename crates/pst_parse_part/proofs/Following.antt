@@ -12,11 +12,11 @@ use Rattle.pst_ast.specs.declared.shared.DotName.{DotName}
 use Rattle.pst_base.specs.declared.position.Place.{Place}
 use Rattle.pst_parse_part.specs.Choices.{if_next}
 use Rattle.pst_parse_expr.proofs.SharedLaws.{IsAny}
-use Rattle.pst_parse_expr.proofs.ExprAgain.{expr_again}
-use Rattle.pst_parse_expr.proofs.PartsAgain.{maybe_index_again}
-use Rattle.pst_parse_expr.proofs.Stops.{IsNo, Separates, separated, StopsIndex}
+use Rattle.pst_parse_operator.proofs.ExprAgain.{expr_again}
+use Rattle.pst_parse_operator.proofs.PartsAgain.{maybe_index_again}
+use Rattle.pst_parse_operator.proofs.Stops.{IsNo, Separates, separated, StopsIndex}
 use Rattle.pst_parse_expr.specs.Constraints.{outermost_at, is_other, dot_name_by}
-use Rattle.pst_parse_expr.specs.Reading.{expr_at, maybe_index_by}
+use Rattle.pst_parse_operator.specs.Reading.{expr_at, maybe_index_by}
 use Rattle.pst_reading.proofs.Marks.{look_becomes, test_becomes, mark_becomes}
 use Rattle.pst_reading.proofs.Rereading.{Rereads, Anything, reread_done, reread_mark, reread_name, reread_last}
 use Rattle.pst_reading.proofs.Tokens.{mark_is_so, name_is}

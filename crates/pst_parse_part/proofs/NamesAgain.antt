@@ -12,7 +12,7 @@ use Rattle.pst_base.specs.declared.position.Place.{Place}
 use Rattle.pst_parse_part.proofs.Following.{any_option, any_list}
 use Rattle.pst_parse_part.specs.Names.{scoped_name_by, type_name_by, names_by, next_name_by}
 use Rattle.pst_parse_expr.proofs.SharedLaws.{IsAny}
-use Rattle.pst_parse_expr.proofs.Stops.{IsNo}
+use Rattle.pst_parse_operator.proofs.Stops.{IsNo}
 use Rattle.pst_parse_expr.specs.Constraints.{is_at}
 use Rattle.pst_reading.proofs.Rereading.{Rereads, Anything, reread_done, narrower, reread_mark, reread_name, reread_last, EndsOption, reread_option, reread_list}
 use Rattle.pst_reading.proofs.Tokens.{mark_is_so}

@@ -6,7 +6,7 @@ use Rattle.pst_ast.specs.SharedTree.{NamesTree, LowTree, WidthTree, PlainTree, M
 use Rattle.pst_ast.specs.declared.shared.NextName.{NextName}
 use Rattle.pst_ast.specs.declared.shared.ScopedName.{ScopedName}
 use Rattle.pst_ast.specs.declared.shared.TypeName.{TypeName}
-use Rattle.pst_parse_expr.proofs.NoEnd.{expr_free}
+use Rattle.pst_parse_operator.proofs.NoEnd.{expr_free}
 use Rattle.pst_reading.proofs.Whole.{NoEnd, both_free}
 use Rattle.pst_token.specs.declared.token.Token.{Token}
 use Rattle.std.proofs.Common.{List, [], ◌∷◌, Option, Some, None}

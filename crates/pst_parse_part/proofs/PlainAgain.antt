@@ -8,7 +8,7 @@ use Rattle.pst_ast.specs.SharedSpelling.{spell_low, spell_width, spell_plain}
 use Rattle.pst_ast.specs.SharedTree.{LowTree, WidthTree, PlainTree, MakeLow, MakeWidth, PlainInt, PlainBit, PlainBool}
 use Rattle.pst_base.specs.declared.position.Place.{Place}
 use Rattle.pst_parse_part.proofs.Following.{other_mark, next_option_in, expr_rereads, reread_empty}
-use Rattle.pst_parse_expr.proofs.Stops.{colon_closes, IsNo, Separates, right_bracket_closes}
+use Rattle.pst_parse_operator.proofs.Stops.{colon_closes, IsNo, Separates, right_bracket_closes}
 use Rattle.pst_parse_part.specs.Plain.{int_by, low_by, plain_by, width_by, bit_by}
 use Rattle.pst_parse_expr.specs.Constraints.{outermost_at, is_at}
 use Rattle.pst_reading.proofs.Rereading.{Rereads, Anything, reread_done, narrower, reread_mark, reread_part, reread_last, reread_choice, EndsOption, reread_option}

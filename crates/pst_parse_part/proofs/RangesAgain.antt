@@ -11,9 +11,9 @@ use Rattle.pst_parse_part.proofs.Following.{other_mark, next_list, next_part_in,
 use Rattle.pst_parse_part.proofs.RangesExplain.{ranges_spelled, ranges_counted}
 use Rattle.pst_parse_part.specs.Ranges.{high_by, next_range_by, range_by, ranges_by, range_row}
 use Rattle.pst_parse_expr.proofs.Starts.{starts_expr}
-use Rattle.pst_parse_expr.proofs.Stops.{Separates, comma_closes, dots_close}
+use Rattle.pst_parse_operator.proofs.Stops.{Separates, comma_closes, dots_close}
 use Rattle.pst_parse_expr.specs.Constraints.{outermost_at, is_at, begins_expr}
-use Rattle.pst_parse_expr.specs.Operators.{prefix_of}
+use Rattle.pst_parse_operator.specs.Operators.{prefix_of}
 use Rattle.pst_reading.proofs.Becoming.{Becomes, stays, becomes_both}
 use Rattle.pst_reading.proofs.Marks.{choice_becomes}
 use Rattle.pst_reading.proofs.Rereading.{Rereads, narrower, reread_mark, reread_part, reread_last, reread_choice, EndsOption, reread_list}

@@ -5,8 +5,8 @@ use Rattle.pst_ast.specs.declared.expression.NextRange.{NextRange}
 use Rattle.pst_ast.specs.declared.expression.RangeNode.{RangeNode}
 use Rattle.pst_ast.specs.declared.expression.RangesNode.{roll-RangesNode}
 use Rattle.pst_parse_part.specs.Ranges.{range_row}
-use Rattle.pst_parse_expr.proofs.Turns.{ranges_view}
-use Rattle.pst_parse_expr.specs.Families as theirs
+use Rattle.pst_parse_operator.proofs.Turns.{ranges_view}
+use Rattle.pst_parse_operator.specs.Families as theirs
 use Rattle.std.proofs.Common.{refl, ap, ◌∙◌, ◌≡◌, List, [], ◌∷◌, map}
 use Rattle.std.specs.Global.{Vec, Box}
 

@@ -22,7 +22,7 @@ use Rattle.pst_reading.proofs.Tokens.{mark_is_so, name_is_so}
 use Rattle.pst_reading.proofs.Chains.{becomes_mark, becomes_name}
 use Rattle.pst_reading.proofs.Peeking.{takes, takes_followed, peek_becomes}
 use Rattle.pst_parse_expr.specs.Constraints.{Within}
-use Rattle.pst_parse_expr.proofs.Stops.{IsNo, Separates, right_parenthesis_closes}
+use Rattle.pst_parse_operator.proofs.Stops.{IsNo, Separates, right_parenthesis_closes}
 use Rattle.pst_parse_expr.proofs.Takes.{expr_apart, colon_outside}
 use Rattle.pst_parse_expr.proofs.SharedLaws.{same_text}
 use Rattle.pst_parse_part.specs.Times.{label_colon, label_by, TimesTree, times_close, times_count, times_label, times_inner, times_by}

@@ -9,7 +9,7 @@ use Rattle.pst_reading.specs.Kinds.{is_mark}
 use Rattle.pst_reading.specs.Parser.{next}
 use Rattle.pst_parse_step.specs.ActivityParts.{begins_join, begins_guard}
 use Rattle.pst_parse_expr.specs.Constraints.{is_at}
-use Rattle.pst_parse_expr.proofs.Stops.{IsNo}
+use Rattle.pst_parse_operator.proofs.Stops.{IsNo}
 
 -- behind a part that ends with an open `if` no `else` stands
 abbrev pub StopsWith : WithTree → Option Token → Type 0

@@ -30,7 +30,7 @@ use Rattle.pst_parse_part.specs.Ranges.{ranges_by}
 use Rattle.pst_reading.proofs.Tokens.{mark_is_so}
 use Rattle.pst_reading.proofs.Rereading.{Rereads, Anything, EndsOption, reread_done, reread_mark, reread_name, reread_part, reread_last, reread_choice, reread_option, reread_list}
 use Rattle.pst_parse_expr.specs.Constraints.{Within, is_at}
-use Rattle.pst_parse_expr.proofs.Stops.{Separates, right_parenthesis_closes, right_bracket_closes}
+use Rattle.pst_parse_operator.proofs.Stops.{Separates, right_parenthesis_closes, right_bracket_closes}
 use Rattle.pst_parse_expr.proofs.ConstraintAgain.{StopsSet}
 use Rattle.pst_parse_expr.proofs.SharedLaws.{IsAny}
 use Rattle.pst_parse_step.proofs.ActivityPartEnds.{StopsWith, weight_starts}

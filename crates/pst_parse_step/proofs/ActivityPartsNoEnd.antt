@@ -8,7 +8,7 @@ use Rattle.pst_ast.specs.SharedSpelling.{spell_names}
 use Rattle.pst_ast.specs.ActivityTree.{GuardTree, GuardCondition, GuardWeight, WeightTree, MakeWeight, ArmLabelTree, ArmLabelRanges, ArmLabelDefault, JoinTree, JoinBranch, JoinNothing, JoinSelect, WithTree, WithNothing, WithSet, BindTree, MakeBind, OtherEndsTree, OtherEndsOne, OtherEndsSeveral}
 use Rattle.pst_ast.specs.ActivitySpelling.{spell_with, spell_join, spell_next_end, spell_other_ends, spell_bind, spell_weight, spell_guard, spell_arm_label}
 use Rattle.pst_reading.proofs.Whole.{NoEnd, both_free}
-use Rattle.pst_parse_expr.proofs.NoEnd.{expr_free, ranges_free}
+use Rattle.pst_parse_operator.proofs.NoEnd.{expr_free, ranges_free}
 use Rattle.pst_parse_expr.proofs.ConstraintNoEnd.{set_free}
 use Rattle.pst_parse_part.proofs.NoEnd.{names_free}
 

@@ -14,4 +14,6 @@ pub use entry::{NameMeaning, Scopes, TypeEntry, TypeSort};
 pub use environment::Environment;
 pub use inner::Inner;
 pub use laws::{members_are_tried, name_breaches_have_one_least, names_are_tried, scopes_are_one};
-pub use referent::{Checked, Finding, Meant, Owner, PathPart, PathReferent, Referent, Target, Traversal};
+pub use referent::{
+    Checked, Finding, Meant, Owner, PathPart, PathReferent, Referent, Target, Traversal,
+};

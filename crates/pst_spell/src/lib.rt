@@ -1,7 +1,6 @@
 //! The tokens that a syntax tree spells.
 #![tactic(auto)]
 
-mod spell_activity;
 mod spell_declaration;
 mod spelling;
 

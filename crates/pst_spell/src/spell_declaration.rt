@@ -7,7 +7,6 @@ ghost use Rattle.pst_ast.specs.Marks.{mark, spell_option};
 ghost use Rattle.pst_ast.specs.DeclarationView.{view_action, view_action_part, view_answer, view_claim, view_component, view_component_part, view_enum, view_enum_item, view_enum_value, view_field, view_function, view_item, view_members, view_next_enum_item, view_next_field, view_next_parameter, view_next_target, view_object, view_object_part, view_parameter, view_parameters, view_pool, view_pool_bind, view_reference, view_size, view_target, view_targets};
 ghost use Rattle.pst_ast.specs.DeclarationSpelling.{spell_action, spell_action_part, spell_answer, spell_base, spell_claim, spell_component, spell_component_part, spell_enum, spell_enum_item, spell_enum_value, spell_field, spell_function, spell_item, spell_members, spell_next_enum_item, spell_next_field, spell_next_parameter, spell_next_target, spell_object, spell_object_part, spell_parameter, spell_parameters, spell_pool, spell_pool_bind, spell_reference, spell_size, spell_target, spell_targets};
 
-use crate::spell_activity::add_activity;
 use pst_ast::{
     ActionNode, ActionPart, AnswerNode, BaseNode, ClaimNode, ComponentNode, ComponentPart,
     EnumItem, EnumNode, EnumValue, FieldNode, FunctionNode, Item, MembersNode, NextEnumItem,
@@ -15,6 +14,7 @@ use pst_ast::{
     PoolBindNode, PoolNode, ReferenceNode, SizeNode, TargetNode, TargetsNode,
 };
 use pst_base::{NoMemory, Place};
+use pst_spell_act::spell_activity::add_activity;
 use pst_spell_parts::marks::{
     kind_of_claim_word, kind_of_object_word, kind_of_reference_word, push_mark, push_name,
     push_optional_mark,

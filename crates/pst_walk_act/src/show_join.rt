@@ -1,14 +1,12 @@
 //! The uses in join forms of blocks.
-ghost use Rattle.std.specs.Prelude.{◌≡◌, ◌∷◌, OnOk, map};
+ghost use Rattle.std.specs.Prelude.{◌≡◌, ◌∷◌, OnOk};
 ghost use Rattle.std.specs.List.{fold};
 ghost use Rattle.std.specs.Option.{option_map};
 ghost use Rattle.pst_ast.specs.ActivityView.{view_join};
-ghost use Rattle.pst_ast.specs.SharedView.{view_names};
-ghost use Rattle.pst_scope.specs.Declarations.{names_of};
-ghost use Rattle.pst_scope.specs.Uses.{Branches, Joins, branch_places, branches_in, join_uses, labels_in, option_uses};
+ghost use Rattle.pst_scope.specs.Uses.{Branches, branch_places, branches_in, join_uses, labels_in, option_uses};
 ghost use Rattle.pst_walk_parts.specs.Shown.{view_statements};
 
-use pst_ast::{JoinNode, NamesNode, NextName, StatementNode};
+use pst_ast::{JoinNode, StatementNode};
 use pst_base::NoMemory;
 use pst_scope::Environment;
 use pst_walk_parts::Visitor;
@@ -44,39 +42,11 @@ fn show_join<V: Visitor>(
     ensures { OnOk result (visitor.new ≡ fold V.step visitor.old (join_uses at.now (labels_in (view_statements statements.now)) (branches_in (view_statements statements.now)) (view_join join.now))) }
 {
     match join {
-        JoinNode::Branch { names, .. } => show_joined(visitor, statements, names),
+        JoinNode::Branch { names, .. } => visitor.joins(statements, names),
         JoinNode::Nothing(_) => Ok(()),
         JoinNode::Select { count, .. } => {
             visitor.judges_count(at, statements, count)?;
             show_expr(visitor, at, count)
         }
     }
-}
-
-// Shows the branches that are joined.
-#[tactic(auto, using(crate::proofs::Folds::fold_append))]
-fn show_joined<V: Visitor>(
-    visitor: &mut V,
-    statements: &[StatementNode],
-    names: &NamesNode,
-) -> Result<(), NoMemory>
-    ensures { OnOk result (visitor.new ≡ fold V.step visitor.old (map (Joins (labels_in (view_statements statements.now))) (names_of (view_names names.now)))) }
-{
-    visitor.joins(statements, names.first)?;
-    show_next_joined(visitor, statements, names.rest.as_slice())
-}
-
-// Shows the branches that are joined behind the first.
-#[tactic(auto, using(crate::proofs::Folds::fold_append))]
-fn show_next_joined<V: Visitor>(
-    visitor: &mut V,
-    statements: &[StatementNode],
-    names: &[NextName],
-) -> Result<(), NoMemory>
-    ensures { OnOk result (visitor.new ≡ fold V.step visitor.old (map (Joins (labels_in (view_statements statements.now))) (map (λ next. next.name) names.now))) }
-{
-    for next in names {
-        visitor.joins(statements, next.name)?;
-    }
-    Ok(())
 }

@@ -1,17 +1,19 @@
 //! What a walk shows of the sources.
 ghost use Rattle.std.specs.Prelude.{◌≡◌, ◌∷◌, Some, OnOk, length, map};
+ghost use Rattle.std.specs.List.{fold};
 ghost use Rattle.std.specs.Option.{option_map};
 ghost use Rattle.pst_ast.specs.ActivityView.{view_arm, view_other_ends};
 ghost use Rattle.pst_ast.specs.BodyView.{view_arguments};
 ghost use Rattle.pst_ast.specs.DeclarationView.{view_target};
 ghost use Rattle.pst_ast.specs.ExpressionView.{view_expr, view_next_part, view_part};
-ghost use Rattle.pst_ast.specs.SharedView.{view_next_expr, view_plain, view_type};
+ghost use Rattle.pst_ast.specs.SharedView.{view_names, view_next_expr, view_plain, view_type};
+ghost use Rattle.pst_scope.specs.Declarations.{names_of};
 ghost use Rattle.pst_scope.specs.Uses.{Use, Judges, JoinCount, HasPlain, HasType, Uniques, Branches, Arms, Performs, Ties, Passes, Reads, Repeats, TakesItem, NamesType, NamesBase, Calls, Assigns, Traverses, Ends, Joins, Binds, arguments_of, arm_label, branch_places, branches_in, labels_in, next_expr, other_ends, part_of, plain_part, target_use};
 ghost use Rattle.pst_walk_parts.specs.Shown.{dotted_part, view_role, view_statements, view_wanted};
 
 use pst_ast::{
-    ArgumentsNode, ArmNode, DotName, EndNode, ExprNode, Name, NextExpr, NextPart, OtherEnds,
-    PartNode, PlainNode, StatementNode, TargetNode, TypeName, TypeNode,
+    ArgumentsNode, ArmNode, DotName, EndNode, ExprNode, Name, NamesNode, NextExpr, NextPart,
+    OtherEnds, PartNode, PlainNode, StatementNode, TargetNode, TypeName, TypeNode,
 };
 use pst_base::{NoMemory, Place};
 use pst_scope::{Declaration, Environment, Traversal};
@@ -173,9 +175,9 @@ pub trait Visitor {
     fn ends(&mut self, at: &Environment, handle: Name, reference: Name) -> Result<(), NoMemory>
         ensures { OnOk result (self.new ≡ step self.old (Ends at.now handle reference)) };
 
-    /// A branch that is joined, by its label, of a block with these statements.
-    fn joins(&mut self, statements: &[StatementNode], name: Name) -> Result<(), NoMemory>
-        ensures { OnOk result (self.new ≡ step self.old (Joins (labels_in (view_statements statements.now)) name)) };
+    /// The branches that are joined, by their labels, of a block with these statements.
+    fn joins(&mut self, statements: &[StatementNode], names: &NamesNode) -> Result<(), NoMemory>
+        ensures { OnOk result (self.new ≡ fold step self.old (map (Joins (labels_in (view_statements statements.now))) (names_of (view_names names.now)))) };
 
     /// The pool of a bind of a component.
     fn binds(&mut self, component: Place, pool: Name) -> Result<(), NoMemory>

@@ -1,8 +1,8 @@
-use Rattle.std.proofs.Common.{arith, rules, ◌-◌, ◌+◌, true, false, ◌≡◌, subst, drop, Err}
+use Rattle.std.proofs.Common.{arith, rules, ◌-◌, ◌+◌, true, false, ◌≡◌, ◌∙◌, subst, drop, Err}
 use Rattle.std.specs.Prelude.{map}
 use Rattle.std.specs.Option.{option_map}
 use Rattle.std.proofs.lemmas.List.{map-append}
-use Rattle.std.proofs.lemmas.Result.{err_from_is_err_and}
+use Rattle.std.proofs.lemmas.Result.{IfOk-at_ok, err_from_is_err_and}
 use Rattle.pst_token.specs.declared.kind.Kind.TheVariants as kind
 use Rattle.pst_ast.specs.ExpressionView.{view_expr}
 use Rattle.pst_ast.specs.ActivityView.{view_with, view_join, view_guard, view_arm_label, view_statement, view_core, view_branch, view_arm}
@@ -12,16 +12,18 @@ use Rattle.pst_reading.proofs.Lists.{list_begins, list_turns, list_fails, list_e
 use Rattle.pst_reading.proofs.Reaching.{begin, choose, reads_open_on}
 use Rattle.pst_parse_expr.specs.Constraints.{is_other}
 use Rattle.pst_parse_step.specs.ActivityPartFamilies.{do_family, handle_family, bound_family}
-use Rattle.pst_parse_act.specs.ActivityFamilies.{nested_family, sequence_family, branch_family, select_family, repeated_family, if_family, arm_family, match_family, core_family, empty_family, named_family, plain_family, statement_family, together_family}
-use Rattle.pst_parse_act.proofs.ActivityRules.{arm_colon_fails, arm_given, arm_label_fails, arm_statement_fails, both_else__fails, both_given, both_other_fails, branch_given, branch_guard_fails, branch_statement_fails, handle_given, handle_name_fails, handle_with_fails, label_colon_fails, label_core_fails, label_given, match_core_expr_fails, match_core_first_fails, match_core_given, match_core_left_brace_fails, match_core_left_parenthesis_fails, match_core_match__fails, match_core_rest_fails, match_core_right_brace_fails, match_core_right_parenthesis_fails, only_condition_fails, only_given, only_holds_fails, only_if__fails, only_left_parenthesis_fails, only_right_parenthesis_fails, plain_core_fails, plain_given, repeat_core_given, repeat_core_repeat_fails, repeat_core_repeated_fails, select_core_first_fails, select_core_given, select_core_left_brace_fails, select_core_rest_fails, select_core_right_brace_fails, select_core_select_fails, sequence_core_given, sequence_core_left_brace_fails, sequence_core_right_brace_fails, sequence_core_sequence_fails, sequence_core_statements_fails, together_core_given, together_core_join_fails, together_core_left_brace_fails, together_core_place_fails, together_core_right_brace_fails, together_core_statements_fails, repeat_core_times_fails}
+use Rattle.pst_parse_statement.specs.ActivityFamilies.{nested_family, sequence_family, branch_family, select_family, repeated_family, if_family, arm_family, match_family, core_family, empty_family, named_family, plain_family, statement_family, together_family, arms_family, view_arms}
+use Rattle.pst_parse_statement.proofs.ActivityRules.{arm_colon_fails, arm_given, arm_label_fails, arm_statement_fails, both_else__fails, both_given, both_other_fails, branch_given, branch_guard_fails, branch_statement_fails, handle_given, handle_name_fails, handle_with_fails, label_colon_fails, label_core_fails, label_given, match_core_expr_fails, match_core_first_fails, match_core_given, match_core_left_brace_fails, match_core_left_parenthesis_fails, match_core_match__fails, match_core_rest_fails, match_core_right_brace_fails, match_core_right_parenthesis_fails, only_condition_fails, only_given, only_holds_fails, only_if__fails, only_left_parenthesis_fails, only_right_parenthesis_fails, plain_core_fails, plain_given, repeat_core_given, repeat_core_repeat_fails, repeat_core_repeated_fails, select_core_first_fails, select_core_given, select_core_left_brace_fails, select_core_rest_fails, select_core_right_brace_fails, select_core_select_fails, sequence_core_given, sequence_core_left_brace_fails, sequence_core_right_brace_fails, sequence_core_sequence_fails, sequence_core_statements_fails, together_core_given, together_core_join_fails, together_core_left_brace_fails, together_core_place_fails, together_core_right_brace_fails, together_core_statements_fails, repeat_core_times_fails}
 use Rattle.pst_token.specs.declared.kind.Kind.{Kind}
 use Rattle.pst_ast.specs.declared.activity.TogetherWord.TheVariants as the_together_word
 use Rattle.pst_ast.specs.Limits.{counted, is_over}
 use Rattle.pst_reading.specs.Parser.{Took, run, mark_by}
 use Rattle.pst_reading.specs.Gives.{Expects}
-use Rattle.pst_parse_act.proofs.ActivityLooks.{name_decides, earlier, earlier_fault}
-use Rattle.pst_parse_act.proofs.ActivityNested.{statement_nested, statement_nested_fails}
-use Rattle.pst_parse_act.proofs.ActivityViews.{sequence_view, together_view, select_view, match_view}
+use Rattle.pst_parse_statement.proofs.ActivityLooks.{name_decides, earlier, earlier_fault}
+use Rattle.pst_parse_statement.proofs.ActivityNested.{statement_nested, statement_nested_fails}
+use Rattle.pst_parse_member.proofs.Kept.{part_fault, part_read, token_fault, token_read, first_kept, second_kept}
+use Rattle.pst_parse_act.proofs.ActivityKept.{open_fault, open_read, no_memory_fails}
+use Rattle.pst_parse_statement.proofs.ActivityViews.{sequence_view, together_view, select_view, match_view}
 use Rattle.pst_parse_act.proofs.activity.+activity.Goals as goal
 use Rattle.pst_parse_part.specs.TimesFamilies.{view_times}
 
@@ -197,46 +199,78 @@ if_core-returns-in_err-left_parenthesis t c =
     let p = err_from_is_err_and c.from_residual-in_err-left_parenthesis.result c.from_residual-in_err-left_parenthesis.ensures.1 in
     rw (p.1, p.2) (only_left_parenthesis_fails c.args.tokens.now c.args.at c.args.depth (c.args.depth + 1) (omega arith) c.in_ok-if_.if_ c.in_ok-if_.ensures.reads.0 c.in_ok-if_.ensures.reads.1 c.in_err-left_parenthesis.field-0.0 (omega (arith, c.in_ok-if_.ensures.reads.1)) c.in_err-left_parenthesis.ensures.reads)
 
+pub if_core-returns-in_err-asked : goal.if_core-returns-in_err-asked
+if_core-returns-in_err-asked t c =
+    let p = err_from_is_err_and c.from_residual-in_err-asked.result c.from_residual-in_err-asked.ensures.1 in
+    rw (p.1, p.2) (only_condition_fails c.args.tokens.now c.args.at c.args.depth (c.args.depth + 1) (omega arith) c.in_ok-if_.if_ c.in_ok-if_.ensures.reads.0 c.in_ok-if_.ensures.reads.1 c.in_ok-left_parenthesis.left_parenthesis c.in_ok-left_parenthesis.ensures.reads.0 c.in_ok-left_parenthesis.ensures.reads.1 (omega (arith, c.in_ok-left_parenthesis.ensures.reads.1)) c.in_err-asked.field-0.0 c.in_err-asked.ensures)
+
+pub if_core-returns-in_err-tested : goal.if_core-returns-in_err-tested
+if_core-returns-in_err-tested t c =
+    let p = err_from_is_err_and c.from_residual-in_err-tested.result c.from_residual-in_err-tested.ensures.1 in
+    rw (p.1, p.2) (only_right_parenthesis_fails c.args.tokens.now c.args.at c.args.depth (c.args.depth + 1) (omega arith) c.in_ok-if_.if_ c.in_ok-if_.ensures.reads.0 c.in_ok-if_.ensures.reads.1 c.in_ok-left_parenthesis.left_parenthesis c.in_ok-left_parenthesis.ensures.reads.0 c.in_ok-left_parenthesis.ensures.reads.1 (view_expr c.in_ok-asked.asked) c.in_ok-asked.behind c.in_ok-asked.ensures.after c.in_ok-asked.ensures.inside c.in_ok-asked.ensures.settles c.in_err-tested.field-0.0 (omega (arith, c.in_ok-asked.ensures.inside)) (token_fault (mark_by kind.RightParenthesis (counted c.args.depth 0)) c.args.tokens.now c.in_ok-asked.behind _ _ c.in_err-tested.ensures.err c.expect-closing.ensures.reads))
+
+pub if_core-returns-in_err-kept : goal.if_core-returns-in_err-kept
+if_core-returns-in_err-kept t c =
+    let p = err_from_is_err_and c.from_residual-in_err-kept.result c.from_residual-in_err-kept.ensures.1 in
+    let closing = token_read (mark_by kind.RightParenthesis (counted c.args.depth 0)) c.args.tokens.now c.in_ok-asked.behind _ _ c.in_ok-tested.ensures.ok.1 c.expect-closing.ensures.reads in
+    rw (p.1, p.2) (only_holds_fails c.args.tokens.now c.args.at c.args.depth (c.args.depth + 1) (omega arith) c.in_ok-if_.if_ c.in_ok-if_.ensures.reads.0 c.in_ok-if_.ensures.reads.1 c.in_ok-left_parenthesis.left_parenthesis c.in_ok-left_parenthesis.ensures.reads.0 c.in_ok-left_parenthesis.ensures.reads.1 (view_expr c.in_ok-asked.asked) c.in_ok-asked.behind c.in_ok-asked.ensures.after c.in_ok-asked.ensures.inside c.in_ok-asked.ensures.settles c.in_ok-tested.right_parenthesis closing.0 closing.1 (omega (arith, closing.1)) c.in_err-kept.field-0.0 (open_fault view_statement statement_ends_open (statement_family (c.args.depth + 1)) c.args.tokens.now (c.in_ok-asked.behind + 1) (c.in_ok-asked.behind + 1) _ _ c.in_err-kept.ensures.err c.statement-first.ensures))
+
+pub if_core-returns-in_err-held : goal.if_core-returns-in_err-held
+if_core-returns-in_err-held t c =
+    let p = err_from_is_err_and c.from_residual-in_err-held.result c.from_residual-in_err-held.ensures.1 in
+    rw (p.1, p.2) (no_memory_fails (if_family c.args.depth) c.args.tokens.now c.args.at c.args.at _ _ c.in_err-held.ensures.err c.boxed-heap.ensures.err)
+
+pub if_core-returns-then-not-is : goal.if_core-returns-then-not-is
+if_core-returns-then-not-is t c =
+    let closing = token_read (mark_by kind.RightParenthesis (counted c.args.depth 0)) c.args.tokens.now c.in_ok-asked.behind _ _ c.in_ok-tested.ensures.ok.1 c.expect-closing.ensures.reads in
+    let first = open_read view_statement statement_ends_open (statement_family (c.args.depth + 1)) c.args.tokens.now (c.in_ok-asked.behind + 1) (c.in_ok-asked.behind + 1) _ _ c.in_ok-kept.ensures.ok.1 c.statement-first.ensures in
+    let same = c.in_ok-held.ensures.ok.0 ∙ c.in_ok-kept.ensures.ok.0 ∙ c.in_ok-tested.ensures.ok.0 in
+    let value = IfOk-at_ok _ c.in_ok-held.ensures.ok.1 c.boxed-heap.ensures.ok in
+    record {
+      settles = rw (same, value) (only_given c.args.tokens.now c.args.at c.args.depth (c.args.depth + 1) (omega arith) c.in_ok-if_.if_ c.in_ok-if_.ensures.reads.0 c.in_ok-if_.ensures.reads.1 c.in_ok-left_parenthesis.left_parenthesis c.in_ok-left_parenthesis.ensures.reads.0 c.in_ok-left_parenthesis.ensures.reads.1 (view_expr c.in_ok-asked.asked) c.in_ok-asked.behind c.in_ok-asked.ensures.after c.in_ok-asked.ensures.inside c.in_ok-asked.ensures.settles c.in_ok-tested.right_parenthesis closing.0 closing.1 (view_statement c.in_ok-kept.holds) c.in_ok-kept.after first.after first.inside first.settles (search rules));
+      after = omega (arith, c.in_ok-asked.ensures.after, first.after);
+      inside = first.inside;
+      no_else = λ opens. search rules;
+    }
+
+pub if_core-returns-in_err-front : goal.if_core-returns-in_err-front
+if_core-returns-in_err-front t c =
+    let p = err_from_is_err_and c.from_residual-in_err-front.result c.from_residual-in_err-front.ensures.1 in
+    let closing = token_read (mark_by kind.RightParenthesis (counted c.args.depth 0)) c.args.tokens.now c.in_ok-asked.behind _ _ c.in_ok-tested.ensures.ok.1 c.expect-closing.ensures.reads in
+    let first = open_read view_statement statement_ends_open (statement_family (c.args.depth + 1)) c.args.tokens.now (c.in_ok-asked.behind + 1) (c.in_ok-asked.behind + 1) _ _ c.in_ok-kept.ensures.ok.1 c.statement-first.ensures in
+    rw (p.1, p.2) (both_else__fails c.args.tokens.now c.args.at c.args.depth (c.args.depth + 1) (omega arith) c.in_ok-if_.if_ c.in_ok-if_.ensures.reads.0 c.in_ok-if_.ensures.reads.1 c.in_ok-left_parenthesis.left_parenthesis c.in_ok-left_parenthesis.ensures.reads.0 c.in_ok-left_parenthesis.ensures.reads.1 (view_expr c.in_ok-asked.asked) c.in_ok-asked.behind c.in_ok-asked.ensures.after c.in_ok-asked.ensures.inside c.in_ok-asked.ensures.settles c.in_ok-tested.right_parenthesis closing.0 closing.1 (view_statement c.in_ok-kept.holds) c.in_ok-kept.after first.after first.inside first.settles first.no_else (search rules) c.in_err-front.field-0.0 (omega (arith, first.inside)) (token_fault (mark_by kind.Else (counted c.args.depth 0)) c.args.tokens.now c.in_ok-kept.after _ _ c.in_err-front.ensures.err c.expect-word.ensures.reads))
+
+pub if_core-returns-in_err-head : goal.if_core-returns-in_err-head
+if_core-returns-in_err-head t c =
+    let p = err_from_is_err_and c.from_residual-in_err-head.result c.from_residual-in_err-head.ensures.1 in
+    let closing = token_read (mark_by kind.RightParenthesis (counted c.args.depth 0)) c.args.tokens.now c.in_ok-asked.behind _ _ c.in_ok-tested.ensures.ok.1 c.expect-closing.ensures.reads in
+    let first = open_read view_statement statement_ends_open (statement_family (c.args.depth + 1)) c.args.tokens.now (c.in_ok-asked.behind + 1) (c.in_ok-asked.behind + 1) _ _ c.in_ok-kept.ensures.ok.1 c.statement-first.ensures in
+    let word = token_read (mark_by kind.Else (counted c.args.depth 0)) c.args.tokens.now c.in_ok-kept.after _ _ c.in_ok-front.ensures.ok.1 c.expect-word.ensures.reads in
+    rw (p.1, p.2) (both_other_fails c.args.tokens.now c.args.at c.args.depth (c.args.depth + 1) (omega arith) c.in_ok-if_.if_ c.in_ok-if_.ensures.reads.0 c.in_ok-if_.ensures.reads.1 c.in_ok-left_parenthesis.left_parenthesis c.in_ok-left_parenthesis.ensures.reads.0 c.in_ok-left_parenthesis.ensures.reads.1 (view_expr c.in_ok-asked.asked) c.in_ok-asked.behind c.in_ok-asked.ensures.after c.in_ok-asked.ensures.inside c.in_ok-asked.ensures.settles c.in_ok-tested.right_parenthesis closing.0 closing.1 (view_statement c.in_ok-kept.holds) c.in_ok-kept.after first.after first.inside first.settles first.no_else (search rules) c.in_ok-front.else_ word.0 word.1 (omega (arith, word.1)) c.in_err-head.field-0.0 (open_fault view_statement statement_ends_open (statement_family (c.args.depth + 1)) c.args.tokens.now (c.in_ok-kept.after + 1) (c.in_ok-kept.after + 1) _ _ c.in_err-head.ensures.err c.statement-second.ensures))
+
 pub if_core-returns-in_err-condition : goal.if_core-returns-in_err-condition
 if_core-returns-in_err-condition t c =
     let p = err_from_is_err_and c.from_residual-in_err-condition.result c.from_residual-in_err-condition.ensures.1 in
-    rw (p.1, p.2) (only_condition_fails c.args.tokens.now c.args.at c.args.depth (c.args.depth + 1) (omega arith) c.in_ok-if_.if_ c.in_ok-if_.ensures.reads.0 c.in_ok-if_.ensures.reads.1 c.in_ok-left_parenthesis.left_parenthesis c.in_ok-left_parenthesis.ensures.reads.0 c.in_ok-left_parenthesis.ensures.reads.1 (omega (arith, c.in_ok-left_parenthesis.ensures.reads.1)) c.in_err-condition.field-0.0 c.in_err-condition.ensures)
-
-pub if_core-returns-in_err-right_parenthesis : goal.if_core-returns-in_err-right_parenthesis
-if_core-returns-in_err-right_parenthesis t c =
-    let p = err_from_is_err_and c.from_residual-in_err-right_parenthesis.result c.from_residual-in_err-right_parenthesis.ensures.1 in
-    rw (p.1, p.2) (only_right_parenthesis_fails c.args.tokens.now c.args.at c.args.depth (c.args.depth + 1) (omega arith) c.in_ok-if_.if_ c.in_ok-if_.ensures.reads.0 c.in_ok-if_.ensures.reads.1 c.in_ok-left_parenthesis.left_parenthesis c.in_ok-left_parenthesis.ensures.reads.0 c.in_ok-left_parenthesis.ensures.reads.1 (view_expr c.in_ok-condition.condition) c.in_ok-condition.behind c.in_ok-condition.ensures.after c.in_ok-condition.ensures.inside c.in_ok-condition.ensures.settles c.in_err-right_parenthesis.field-0.0 (omega (arith, c.in_ok-condition.ensures.inside)) c.in_err-right_parenthesis.ensures.reads)
-
-pub if_core-returns-in_err-holds : goal.if_core-returns-in_err-holds
-if_core-returns-in_err-holds t c =
-    let p = err_from_is_err_and c.from_residual-in_err-holds.result c.from_residual-in_err-holds.ensures.1 in
-    rw (p.1, p.2) (only_holds_fails c.args.tokens.now c.args.at c.args.depth (c.args.depth + 1) (omega arith) c.in_ok-if_.if_ c.in_ok-if_.ensures.reads.0 c.in_ok-if_.ensures.reads.1 c.in_ok-left_parenthesis.left_parenthesis c.in_ok-left_parenthesis.ensures.reads.0 c.in_ok-left_parenthesis.ensures.reads.1 (view_expr c.in_ok-condition.condition) c.in_ok-condition.behind c.in_ok-condition.ensures.after c.in_ok-condition.ensures.inside c.in_ok-condition.ensures.settles c.in_ok-right_parenthesis.right_parenthesis c.in_ok-right_parenthesis.ensures.reads.0 c.in_ok-right_parenthesis.ensures.reads.1 (omega (arith, c.in_ok-right_parenthesis.ensures.reads.1)) c.in_err-holds.field-0.0 c.in_err-holds.ensures)
-
-pub if_core-returns-then-not-is : goal.if_core-returns-then-not-is
-if_core-returns-then-not-is t c = record {
-  settles = rw c.in_ok-then.ensures.ok (only_given c.args.tokens.now c.args.at c.args.depth (c.args.depth + 1) (omega arith) c.in_ok-if_.if_ c.in_ok-if_.ensures.reads.0 c.in_ok-if_.ensures.reads.1 c.in_ok-left_parenthesis.left_parenthesis c.in_ok-left_parenthesis.ensures.reads.0 c.in_ok-left_parenthesis.ensures.reads.1 (view_expr c.in_ok-condition.condition) c.in_ok-condition.behind c.in_ok-condition.ensures.after c.in_ok-condition.ensures.inside c.in_ok-condition.ensures.settles c.in_ok-right_parenthesis.right_parenthesis c.in_ok-right_parenthesis.ensures.reads.0 c.in_ok-right_parenthesis.ensures.reads.1 (view_statement c.in_ok-holds.holds) c.in_ok-holds.after c.in_ok-holds.ensures.after c.in_ok-holds.ensures.inside c.in_ok-holds.ensures.settles (search rules));
-  after = omega (arith, c.in_ok-condition.ensures.after, c.in_ok-holds.ensures.after);
-  inside = c.in_ok-holds.ensures.inside;
-  no_else = λ opens. search rules;
-}
-
-pub if_core-returns-in_err-else_ : goal.if_core-returns-in_err-else_
-if_core-returns-in_err-else_ t c =
-    let p = err_from_is_err_and c.from_residual-in_err-else_.result c.from_residual-in_err-else_.ensures.1 in
-    rw (p.1, p.2) (both_else__fails c.args.tokens.now c.args.at c.args.depth (c.args.depth + 1) (omega arith) c.in_ok-if_.if_ c.in_ok-if_.ensures.reads.0 c.in_ok-if_.ensures.reads.1 c.in_ok-left_parenthesis.left_parenthesis c.in_ok-left_parenthesis.ensures.reads.0 c.in_ok-left_parenthesis.ensures.reads.1 (view_expr c.in_ok-condition.condition) c.in_ok-condition.behind c.in_ok-condition.ensures.after c.in_ok-condition.ensures.inside c.in_ok-condition.ensures.settles c.in_ok-right_parenthesis.right_parenthesis c.in_ok-right_parenthesis.ensures.reads.0 c.in_ok-right_parenthesis.ensures.reads.1 (view_statement c.in_ok-holds.holds) c.in_ok-holds.after c.in_ok-holds.ensures.after c.in_ok-holds.ensures.inside c.in_ok-holds.ensures.settles c.in_ok-holds.ensures.no_else (search rules) c.in_err-else_.field-0.0 (omega (arith, c.in_ok-holds.ensures.inside)) c.in_err-else_.ensures.reads)
-
-pub if_core-returns-in_err-other : goal.if_core-returns-in_err-other
-if_core-returns-in_err-other t c =
-    let p = err_from_is_err_and c.from_residual-in_err-other.result c.from_residual-in_err-other.ensures.1 in
-    rw (p.1, p.2) (both_other_fails c.args.tokens.now c.args.at c.args.depth (c.args.depth + 1) (omega arith) c.in_ok-if_.if_ c.in_ok-if_.ensures.reads.0 c.in_ok-if_.ensures.reads.1 c.in_ok-left_parenthesis.left_parenthesis c.in_ok-left_parenthesis.ensures.reads.0 c.in_ok-left_parenthesis.ensures.reads.1 (view_expr c.in_ok-condition.condition) c.in_ok-condition.behind c.in_ok-condition.ensures.after c.in_ok-condition.ensures.inside c.in_ok-condition.ensures.settles c.in_ok-right_parenthesis.right_parenthesis c.in_ok-right_parenthesis.ensures.reads.0 c.in_ok-right_parenthesis.ensures.reads.1 (view_statement c.in_ok-holds.holds) c.in_ok-holds.after c.in_ok-holds.ensures.after c.in_ok-holds.ensures.inside c.in_ok-holds.ensures.settles c.in_ok-holds.ensures.no_else (search rules) c.in_ok-else_.else_ c.in_ok-else_.ensures.reads.0 c.in_ok-else_.ensures.reads.1 (omega (arith, c.in_ok-else_.ensures.reads.1)) c.in_err-other.field-0.0 c.in_err-other.ensures)
+    rw (p.1, p.2) (no_memory_fails (if_family c.args.depth) c.args.tokens.now c.args.at c.args.at _ _ c.in_err-condition.ensures.err c.boxed-tail.ensures.err)
 
 pub if_core-returns : goal.if_core-returns
-if_core-returns t c = record {
-  settles = rw (c.in_ok-then.ensures.ok, c.in_ok-otherwise.ensures.ok) (both_given c.args.tokens.now c.args.at c.args.depth (c.args.depth + 1) (omega arith) c.in_ok-if_.if_ c.in_ok-if_.ensures.reads.0 c.in_ok-if_.ensures.reads.1 c.in_ok-left_parenthesis.left_parenthesis c.in_ok-left_parenthesis.ensures.reads.0 c.in_ok-left_parenthesis.ensures.reads.1 (view_expr c.in_ok-condition.condition) c.in_ok-condition.behind c.in_ok-condition.ensures.after c.in_ok-condition.ensures.inside c.in_ok-condition.ensures.settles c.in_ok-right_parenthesis.right_parenthesis c.in_ok-right_parenthesis.ensures.reads.0 c.in_ok-right_parenthesis.ensures.reads.1 (view_statement c.in_ok-holds.holds) c.in_ok-holds.after c.in_ok-holds.ensures.after c.in_ok-holds.ensures.inside c.in_ok-holds.ensures.settles c.in_ok-holds.ensures.no_else (search rules) c.in_ok-else_.else_ c.in_ok-else_.ensures.reads.0 c.in_ok-else_.ensures.reads.1 (view_statement c.in_ok-other.other) c.in_ok-other.end c.in_ok-other.ensures.after c.in_ok-other.ensures.inside c.in_ok-other.ensures.settles);
-  after = omega (arith, c.in_ok-condition.ensures.after, c.in_ok-holds.ensures.after, c.in_ok-other.ensures.after);
-  inside = c.in_ok-other.ensures.inside;
-  no_else = rw c.in_ok-otherwise.ensures.ok c.in_ok-other.ensures.no_else;
-}
+if_core-returns t c =
+    let closing = token_read (mark_by kind.RightParenthesis (counted c.args.depth 0)) c.args.tokens.now c.in_ok-asked.behind _ _ c.in_ok-tested.ensures.ok.1 c.expect-closing.ensures.reads in
+    let first = open_read view_statement statement_ends_open (statement_family (c.args.depth + 1)) c.args.tokens.now (c.in_ok-asked.behind + 1) (c.in_ok-asked.behind + 1) _ _ c.in_ok-kept.ensures.ok.1 c.statement-first.ensures in
+    let word = token_read (mark_by kind.Else (counted c.args.depth 0)) c.args.tokens.now c.in_ok-kept.after _ _ c.in_ok-front.ensures.ok.1 c.expect-word.ensures.reads in
+    let second = open_read view_statement statement_ends_open (statement_family (c.args.depth + 1)) c.args.tokens.now (c.in_ok-kept.after + 1) (c.in_ok-kept.after + 1) _ _ c.in_ok-head.ensures.ok.1 c.statement-second.ensures in
+    let same = c.in_ok-held.ensures.ok.0 ∙ c.in_ok-kept.ensures.ok.0 ∙ c.in_ok-tested.ensures.ok.0 in
+    let value = IfOk-at_ok _ c.in_ok-held.ensures.ok.1 c.boxed-heap.ensures.ok in
+    let inner = c.in_ok-condition.ensures.ok.0 ∙ c.in_ok-head.ensures.ok.0 ∙ c.in_ok-front.ensures.ok.0 in
+    let condition = first_kept _ _ inner ∙ same in
+    let placed = second_kept _ _ inner in
+    let otherwise = IfOk-at_ok _ c.in_ok-condition.ensures.ok.1 c.boxed-tail.ensures.ok in
+    record {
+      settles = rw (condition, placed, value, otherwise) (both_given c.args.tokens.now c.args.at c.args.depth (c.args.depth + 1) (omega arith) c.in_ok-if_.if_ c.in_ok-if_.ensures.reads.0 c.in_ok-if_.ensures.reads.1 c.in_ok-left_parenthesis.left_parenthesis c.in_ok-left_parenthesis.ensures.reads.0 c.in_ok-left_parenthesis.ensures.reads.1 (view_expr c.in_ok-asked.asked) c.in_ok-asked.behind c.in_ok-asked.ensures.after c.in_ok-asked.ensures.inside c.in_ok-asked.ensures.settles c.in_ok-tested.right_parenthesis closing.0 closing.1 (view_statement c.in_ok-kept.holds) c.in_ok-kept.after first.after first.inside first.settles first.no_else (search rules) c.in_ok-front.else_ word.0 word.1 (view_statement c.in_ok-head.other) c.in_ok-head.end second.after second.inside second.settles);
+      after = omega (arith, c.in_ok-asked.ensures.after, first.after, second.after);
+      inside = second.inside;
+      no_else = rw otherwise second.no_else;
+    }
 
 pub arm-returns-in_err-label : goal.arm-returns-in_err-label
 arm-returns-in_err-label t c =
@@ -294,43 +328,69 @@ match_core-returns-in_err-left_parenthesis t c =
     let p = err_from_is_err_and c.from_residual-in_err-left_parenthesis.result c.from_residual-in_err-left_parenthesis.ensures.1 in
     rw (p.1, p.2) (match_core_left_parenthesis_fails c.args.tokens.now c.args.at c.args.depth c.in_ok-match_.match_ c.in_ok-match_.ensures.reads.0 c.in_ok-match_.ensures.reads.1 c.in_err-left_parenthesis.field-0.0 (omega (arith, c.in_ok-match_.ensures.reads.1)) c.in_err-left_parenthesis.ensures.reads)
 
+pub match_core-returns-in_err-asked : goal.match_core-returns-in_err-asked
+match_core-returns-in_err-asked t c =
+    let p = err_from_is_err_and c.from_residual-in_err-asked.result c.from_residual-in_err-asked.ensures.1 in
+    rw (p.1, p.2) (match_core_expr_fails c.args.tokens.now c.args.at c.args.depth c.in_ok-match_.match_ c.in_ok-match_.ensures.reads.0 c.in_ok-match_.ensures.reads.1 c.in_ok-left_parenthesis.left_parenthesis c.in_ok-left_parenthesis.ensures.reads.0 c.in_ok-left_parenthesis.ensures.reads.1 (omega (arith, c.in_ok-left_parenthesis.ensures.reads.1)) c.in_err-asked.field-0.0 c.in_err-asked.ensures)
+
+pub match_core-returns-in_err-tested : goal.match_core-returns-in_err-tested
+match_core-returns-in_err-tested t c =
+    let p = err_from_is_err_and c.from_residual-in_err-tested.result c.from_residual-in_err-tested.ensures.1 in
+    rw (p.1, p.2) (match_core_right_parenthesis_fails c.args.tokens.now c.args.at c.args.depth c.in_ok-match_.match_ c.in_ok-match_.ensures.reads.0 c.in_ok-match_.ensures.reads.1 c.in_ok-left_parenthesis.left_parenthesis c.in_ok-left_parenthesis.ensures.reads.0 c.in_ok-left_parenthesis.ensures.reads.1 (view_expr c.in_ok-asked.asked) c.in_ok-asked.behind c.in_ok-asked.ensures.after c.in_ok-asked.ensures.inside c.in_ok-asked.ensures.settles c.in_err-tested.field-0.0 (omega (arith, c.in_ok-asked.ensures.inside)) (token_fault (mark_by kind.RightParenthesis (counted c.args.depth 0)) c.args.tokens.now c.in_ok-asked.behind _ _ c.in_err-tested.ensures.err c.expect-closing.ensures.reads))
+
+pub match_core-returns-in_err-matched : goal.match_core-returns-in_err-matched
+match_core-returns-in_err-matched t c =
+    let p = err_from_is_err_and c.from_residual-in_err-matched.result c.from_residual-in_err-matched.ensures.1 in
+    let closing = token_read (mark_by kind.RightParenthesis (counted c.args.depth 0)) c.args.tokens.now c.in_ok-asked.behind _ _ c.in_ok-tested.ensures.ok.1 c.expect-closing.ensures.reads in
+    rw (p.1, p.2) (match_core_left_brace_fails c.args.tokens.now c.args.at c.args.depth c.in_ok-match_.match_ c.in_ok-match_.ensures.reads.0 c.in_ok-match_.ensures.reads.1 c.in_ok-left_parenthesis.left_parenthesis c.in_ok-left_parenthesis.ensures.reads.0 c.in_ok-left_parenthesis.ensures.reads.1 (view_expr c.in_ok-asked.asked) c.in_ok-asked.behind c.in_ok-asked.ensures.after c.in_ok-asked.ensures.inside c.in_ok-asked.ensures.settles c.in_ok-tested.right_parenthesis closing.0 closing.1 c.in_err-matched.field-0.0 (omega (arith, closing.1)) (token_fault (mark_by kind.LeftBrace (counted c.args.depth 0)) c.args.tokens.now (c.in_ok-asked.behind + 1) _ _ c.in_err-matched.ensures.err c.expect-opening.ensures.reads))
+
+pub match_core-returns-in_err-kept : goal.match_core-returns-in_err-kept
+match_core-returns-in_err-kept t c =
+    let p = err_from_is_err_and c.from_residual-in_err-kept.result c.from_residual-in_err-kept.ensures.1 in
+    let closing = token_read (mark_by kind.RightParenthesis (counted c.args.depth 0)) c.args.tokens.now c.in_ok-asked.behind _ _ c.in_ok-tested.ensures.ok.1 c.expect-closing.ensures.reads in
+    let opening = token_read (mark_by kind.LeftBrace (counted c.args.depth 0)) c.args.tokens.now (c.in_ok-asked.behind + 1) _ _ c.in_ok-matched.ensures.ok.1 c.expect-opening.ensures.reads in
+    rw (p.1, p.2) (match_core_first_fails c.args.tokens.now c.args.at c.args.depth c.in_ok-match_.match_ c.in_ok-match_.ensures.reads.0 c.in_ok-match_.ensures.reads.1 c.in_ok-left_parenthesis.left_parenthesis c.in_ok-left_parenthesis.ensures.reads.0 c.in_ok-left_parenthesis.ensures.reads.1 (view_expr c.in_ok-asked.asked) c.in_ok-asked.behind c.in_ok-asked.ensures.after c.in_ok-asked.ensures.inside c.in_ok-asked.ensures.settles c.in_ok-tested.right_parenthesis closing.0 closing.1 c.in_ok-matched.left_brace opening.0 opening.1 (omega (arith, opening.1)) c.in_err-kept.field-0.0 (part_fault view_arm (arm_family c.args.depth) c.args.tokens.now (c.in_ok-asked.behind + 2) (c.in_ok-asked.behind + 2) 1 _ _ c.in_err-kept.ensures.err c.arm-one.ensures))
+
+pub match_core-returns-in_err-held : goal.match_core-returns-in_err-held
+match_core-returns-in_err-held t c =
+    let p = err_from_is_err_and c.from_residual-in_err-held.result c.from_residual-in_err-held.ensures.1 in
+    rw (p.1, p.2) (no_memory_fails (match_family c.args.depth) c.args.tokens.now c.args.at c.args.at _ _ c.in_err-held.ensures.err c.boxed-heap.ensures.err)
+
+pub match_core-returns-in_err-front : goal.match_core-returns-in_err-front
+match_core-returns-in_err-front t c =
+    let p = err_from_is_err_and c.from_residual-in_err-front.result c.from_residual-in_err-front.ensures.1 in
+    let closing = token_read (mark_by kind.RightParenthesis (counted c.args.depth 0)) c.args.tokens.now c.in_ok-asked.behind _ _ c.in_ok-tested.ensures.ok.1 c.expect-closing.ensures.reads in
+    let opening = token_read (mark_by kind.LeftBrace (counted c.args.depth 0)) c.args.tokens.now (c.in_ok-asked.behind + 1) _ _ c.in_ok-matched.ensures.ok.1 c.expect-opening.ensures.reads in
+    let one = part_read view_arm (arm_family c.args.depth) c.args.tokens.now (c.in_ok-asked.behind + 2) (c.in_ok-asked.behind + 2) 1 _ _ c.in_ok-kept.ensures.ok.1 c.arm-one.ensures in
+    rw (p.1, p.2) (match_core_rest_fails c.args.tokens.now c.args.at c.args.depth c.in_ok-match_.match_ c.in_ok-match_.ensures.reads.0 c.in_ok-match_.ensures.reads.1 c.in_ok-left_parenthesis.left_parenthesis c.in_ok-left_parenthesis.ensures.reads.0 c.in_ok-left_parenthesis.ensures.reads.1 (view_expr c.in_ok-asked.asked) c.in_ok-asked.behind c.in_ok-asked.ensures.after c.in_ok-asked.ensures.inside c.in_ok-asked.ensures.settles c.in_ok-tested.right_parenthesis closing.0 closing.1 c.in_ok-matched.left_brace opening.0 opening.1 (view_arm c.in_ok-kept.head) c.in_ok-kept.after one.after one.inside one.settles (omega (arith, one.inside)) c.in_err-front.field-0.0 (part_fault view_arms (arms_family c.args.depth) c.args.tokens.now (c.in_ok-kept.after - 1) c.in_ok-kept.after 0 _ _ c.in_err-front.ensures.err c.arms-others.ensures))
+
 pub match_core-returns-in_err-expr : goal.match_core-returns-in_err-expr
 match_core-returns-in_err-expr t c =
     let p = err_from_is_err_and c.from_residual-in_err-expr.result c.from_residual-in_err-expr.ensures.1 in
-    rw (p.1, p.2) (match_core_expr_fails c.args.tokens.now c.args.at c.args.depth c.in_ok-match_.match_ c.in_ok-match_.ensures.reads.0 c.in_ok-match_.ensures.reads.1 c.in_ok-left_parenthesis.left_parenthesis c.in_ok-left_parenthesis.ensures.reads.0 c.in_ok-left_parenthesis.ensures.reads.1 (omega (arith, c.in_ok-left_parenthesis.ensures.reads.1)) c.in_err-expr.field-0.0 c.in_err-expr.ensures)
-
-pub match_core-returns-in_err-right_parenthesis : goal.match_core-returns-in_err-right_parenthesis
-match_core-returns-in_err-right_parenthesis t c =
-    let p = err_from_is_err_and c.from_residual-in_err-right_parenthesis.result c.from_residual-in_err-right_parenthesis.ensures.1 in
-    rw (p.1, p.2) (match_core_right_parenthesis_fails c.args.tokens.now c.args.at c.args.depth c.in_ok-match_.match_ c.in_ok-match_.ensures.reads.0 c.in_ok-match_.ensures.reads.1 c.in_ok-left_parenthesis.left_parenthesis c.in_ok-left_parenthesis.ensures.reads.0 c.in_ok-left_parenthesis.ensures.reads.1 (view_expr c.in_ok-expr.expr) c.in_ok-expr.behind c.in_ok-expr.ensures.after c.in_ok-expr.ensures.inside c.in_ok-expr.ensures.settles c.in_err-right_parenthesis.field-0.0 (omega (arith, c.in_ok-expr.ensures.inside)) c.in_err-right_parenthesis.ensures.reads)
-
-pub match_core-returns-in_err-left_brace : goal.match_core-returns-in_err-left_brace
-match_core-returns-in_err-left_brace t c =
-    let p = err_from_is_err_and c.from_residual-in_err-left_brace.result c.from_residual-in_err-left_brace.ensures.1 in
-    rw (p.1, p.2) (match_core_left_brace_fails c.args.tokens.now c.args.at c.args.depth c.in_ok-match_.match_ c.in_ok-match_.ensures.reads.0 c.in_ok-match_.ensures.reads.1 c.in_ok-left_parenthesis.left_parenthesis c.in_ok-left_parenthesis.ensures.reads.0 c.in_ok-left_parenthesis.ensures.reads.1 (view_expr c.in_ok-expr.expr) c.in_ok-expr.behind c.in_ok-expr.ensures.after c.in_ok-expr.ensures.inside c.in_ok-expr.ensures.settles c.in_ok-right_parenthesis.right_parenthesis c.in_ok-right_parenthesis.ensures.reads.0 c.in_ok-right_parenthesis.ensures.reads.1 c.in_err-left_brace.field-0.0 (omega (arith, c.in_ok-right_parenthesis.ensures.reads.1)) c.in_err-left_brace.ensures.reads)
-
-pub match_core-returns-in_err-head : goal.match_core-returns-in_err-head
-match_core-returns-in_err-head t c =
-    let p = err_from_is_err_and c.from_residual-in_err-head.result c.from_residual-in_err-head.ensures.1 in
-    rw (p.1, p.2) (match_core_first_fails c.args.tokens.now c.args.at c.args.depth c.in_ok-match_.match_ c.in_ok-match_.ensures.reads.0 c.in_ok-match_.ensures.reads.1 c.in_ok-left_parenthesis.left_parenthesis c.in_ok-left_parenthesis.ensures.reads.0 c.in_ok-left_parenthesis.ensures.reads.1 (view_expr c.in_ok-expr.expr) c.in_ok-expr.behind c.in_ok-expr.ensures.after c.in_ok-expr.ensures.inside c.in_ok-expr.ensures.settles c.in_ok-right_parenthesis.right_parenthesis c.in_ok-right_parenthesis.ensures.reads.0 c.in_ok-right_parenthesis.ensures.reads.1 c.in_ok-left_brace.left_brace c.in_ok-left_brace.ensures.reads.0 c.in_ok-left_brace.ensures.reads.1 (omega (arith, c.in_ok-left_brace.ensures.reads.1)) c.in_err-head.field-0.0 c.in_err-head.ensures)
-
-pub match_core-returns-in_err-rest : goal.match_core-returns-in_err-rest
-match_core-returns-in_err-rest t c =
-    let p = err_from_is_err_and c.from_residual-in_err-rest.result c.from_residual-in_err-rest.ensures.1 in
-    rw (p.1, p.2) (match_core_rest_fails c.args.tokens.now c.args.at c.args.depth c.in_ok-match_.match_ c.in_ok-match_.ensures.reads.0 c.in_ok-match_.ensures.reads.1 c.in_ok-left_parenthesis.left_parenthesis c.in_ok-left_parenthesis.ensures.reads.0 c.in_ok-left_parenthesis.ensures.reads.1 (view_expr c.in_ok-expr.expr) c.in_ok-expr.behind c.in_ok-expr.ensures.after c.in_ok-expr.ensures.inside c.in_ok-expr.ensures.settles c.in_ok-right_parenthesis.right_parenthesis c.in_ok-right_parenthesis.ensures.reads.0 c.in_ok-right_parenthesis.ensures.reads.1 c.in_ok-left_brace.left_brace c.in_ok-left_brace.ensures.reads.0 c.in_ok-left_brace.ensures.reads.1 (view_arm c.in_ok-head.head) c.in_ok-head.after c.in_ok-head.ensures.after c.in_ok-head.ensures.inside c.in_ok-head.ensures.settles (omega (arith, c.in_ok-head.ensures.inside)) c.in_err-rest.field-0.0 c.in_err-rest.ensures)
-
-pub match_core-returns-in_err-right_brace : goal.match_core-returns-in_err-right_brace
-match_core-returns-in_err-right_brace t c =
-    let p = err_from_is_err_and c.from_residual-in_err-right_brace.result c.from_residual-in_err-right_brace.ensures.1 in
-    rw (p.1, p.2) (match_core_right_brace_fails c.args.tokens.now c.args.at c.args.depth c.in_ok-match_.match_ c.in_ok-match_.ensures.reads.0 c.in_ok-match_.ensures.reads.1 c.in_ok-left_parenthesis.left_parenthesis c.in_ok-left_parenthesis.ensures.reads.0 c.in_ok-left_parenthesis.ensures.reads.1 (view_expr c.in_ok-expr.expr) c.in_ok-expr.behind c.in_ok-expr.ensures.after c.in_ok-expr.ensures.inside c.in_ok-expr.ensures.settles c.in_ok-right_parenthesis.right_parenthesis c.in_ok-right_parenthesis.ensures.reads.0 c.in_ok-right_parenthesis.ensures.reads.1 c.in_ok-left_brace.left_brace c.in_ok-left_brace.ensures.reads.0 c.in_ok-left_brace.ensures.reads.1 (view_arm c.in_ok-head.head) c.in_ok-head.after c.in_ok-head.ensures.after c.in_ok-head.ensures.inside c.in_ok-head.ensures.settles (map view_arm c.in_ok-rest.rest.items) c.in_ok-rest.end c.in_ok-rest.ensures.after c.in_ok-rest.ensures.inside c.in_ok-rest.ensures.settles c.in_err-right_brace.field-0.0 (omega (arith, c.in_ok-rest.ensures.inside)) c.in_err-right_brace.ensures.reads)
+    let closing = token_read (mark_by kind.RightParenthesis (counted c.args.depth 0)) c.args.tokens.now c.in_ok-asked.behind _ _ c.in_ok-tested.ensures.ok.1 c.expect-closing.ensures.reads in
+    let opening = token_read (mark_by kind.LeftBrace (counted c.args.depth 0)) c.args.tokens.now (c.in_ok-asked.behind + 1) _ _ c.in_ok-matched.ensures.ok.1 c.expect-opening.ensures.reads in
+    let one = part_read view_arm (arm_family c.args.depth) c.args.tokens.now (c.in_ok-asked.behind + 2) (c.in_ok-asked.behind + 2) 1 _ _ c.in_ok-kept.ensures.ok.1 c.arm-one.ensures in
+    let others = part_read view_arms (arms_family c.args.depth) c.args.tokens.now (c.in_ok-kept.after - 1) c.in_ok-kept.after 0 _ _ c.in_ok-front.ensures.ok.1 c.arms-others.ensures in
+    rw (p.1, p.2) (match_core_right_brace_fails c.args.tokens.now c.args.at c.args.depth c.in_ok-match_.match_ c.in_ok-match_.ensures.reads.0 c.in_ok-match_.ensures.reads.1 c.in_ok-left_parenthesis.left_parenthesis c.in_ok-left_parenthesis.ensures.reads.0 c.in_ok-left_parenthesis.ensures.reads.1 (view_expr c.in_ok-asked.asked) c.in_ok-asked.behind c.in_ok-asked.ensures.after c.in_ok-asked.ensures.inside c.in_ok-asked.ensures.settles c.in_ok-tested.right_parenthesis closing.0 closing.1 c.in_ok-matched.left_brace opening.0 opening.1 (view_arm c.in_ok-kept.head) c.in_ok-kept.after one.after one.inside one.settles (map view_arm c.in_ok-front.listed.items) c.in_ok-front.end others.after others.inside others.settles c.in_err-expr.field-0.0 (omega (arith, others.inside)) (token_fault (mark_by kind.RightBrace (counted c.args.depth 0)) c.args.tokens.now c.in_ok-front.end _ _ c.in_err-expr.ensures.err c.expect-last.ensures.reads))
 
 pub match_core-returns : goal.match_core-returns
-match_core-returns t c = record {
-  settles = rw (match_view, c.in_ok-first.ensures.ok) (match_core_given c.args.tokens.now c.args.at c.args.depth c.in_ok-match_.match_ c.in_ok-match_.ensures.reads.0 c.in_ok-match_.ensures.reads.1 c.in_ok-left_parenthesis.left_parenthesis c.in_ok-left_parenthesis.ensures.reads.0 c.in_ok-left_parenthesis.ensures.reads.1 (view_expr c.in_ok-expr.expr) c.in_ok-expr.behind c.in_ok-expr.ensures.after c.in_ok-expr.ensures.inside c.in_ok-expr.ensures.settles c.in_ok-right_parenthesis.right_parenthesis c.in_ok-right_parenthesis.ensures.reads.0 c.in_ok-right_parenthesis.ensures.reads.1 c.in_ok-left_brace.left_brace c.in_ok-left_brace.ensures.reads.0 c.in_ok-left_brace.ensures.reads.1 (view_arm c.in_ok-head.head) c.in_ok-head.after c.in_ok-head.ensures.after c.in_ok-head.ensures.inside c.in_ok-head.ensures.settles (map view_arm c.in_ok-rest.rest.items) c.in_ok-rest.end c.in_ok-rest.ensures.after c.in_ok-rest.ensures.inside c.in_ok-rest.ensures.settles c.in_ok-right_brace.right_brace c.in_ok-right_brace.ensures.reads.0 c.in_ok-right_brace.ensures.reads.1);
-  after = omega (arith, c.in_ok-expr.ensures.after, c.in_ok-head.ensures.after, c.in_ok-rest.ensures.after);
-  inside = c.in_ok-right_brace.ensures.reads.1;
-  no_else = λ opens. absurd cc;
-}
+match_core-returns t c =
+    let closing = token_read (mark_by kind.RightParenthesis (counted c.args.depth 0)) c.args.tokens.now c.in_ok-asked.behind _ _ c.in_ok-tested.ensures.ok.1 c.expect-closing.ensures.reads in
+    let opening = token_read (mark_by kind.LeftBrace (counted c.args.depth 0)) c.args.tokens.now (c.in_ok-asked.behind + 1) _ _ c.in_ok-matched.ensures.ok.1 c.expect-opening.ensures.reads in
+    let one = part_read view_arm (arm_family c.args.depth) c.args.tokens.now (c.in_ok-asked.behind + 2) (c.in_ok-asked.behind + 2) 1 _ _ c.in_ok-kept.ensures.ok.1 c.arm-one.ensures in
+    let others = part_read view_arms (arms_family c.args.depth) c.args.tokens.now (c.in_ok-kept.after - 1) c.in_ok-kept.after 0 _ _ c.in_ok-front.ensures.ok.1 c.arms-others.ensures in
+    let last = token_read (mark_by kind.RightBrace (counted c.args.depth 0)) c.args.tokens.now c.in_ok-front.end _ _ c.in_ok-expr.ensures.ok.1 c.expect-last.ensures.reads in
+    let inner = first_kept _ _ c.in_ok-expr.ensures.ok.0 ∙ c.in_ok-front.ensures.ok.0 in
+    let expr = first_kept _ _ inner ∙ c.in_ok-held.ensures.ok.0 ∙ c.in_ok-kept.ensures.ok.0 ∙ c.in_ok-matched.ensures.ok.0 ∙ c.in_ok-tested.ensures.ok.0 in
+    let first = second_kept _ _ inner in
+    let rest = second_kept _ _ c.in_ok-expr.ensures.ok.0 in
+    let value = IfOk-at_ok _ c.in_ok-held.ensures.ok.1 c.boxed-heap.ensures.ok in
+    record {
+      settles = rw (match_view, expr, first, rest, value) (match_core_given c.args.tokens.now c.args.at c.args.depth c.in_ok-match_.match_ c.in_ok-match_.ensures.reads.0 c.in_ok-match_.ensures.reads.1 c.in_ok-left_parenthesis.left_parenthesis c.in_ok-left_parenthesis.ensures.reads.0 c.in_ok-left_parenthesis.ensures.reads.1 (view_expr c.in_ok-asked.asked) c.in_ok-asked.behind c.in_ok-asked.ensures.after c.in_ok-asked.ensures.inside c.in_ok-asked.ensures.settles c.in_ok-tested.right_parenthesis closing.0 closing.1 c.in_ok-matched.left_brace opening.0 opening.1 (view_arm c.in_ok-kept.head) c.in_ok-kept.after one.after one.inside one.settles (map view_arm c.in_ok-front.listed.items) c.in_ok-front.end others.after others.inside others.settles c.in_ok-expr.right_brace last.0 last.1);
+      after = omega (arith, c.in_ok-asked.ensures.after, one.after, others.after);
+      inside = last.1;
+      no_else = λ opens. absurd cc;
+    }
 
 pub unlabeled-returns-then-is : goal.unlabeled-returns-then-is
 unlabeled-returns-then-is t c = reads_open_on (core_family c.args.depth) c.args.tokens.now c.args.at c.args.at view_core core_ends_open (do_family c.args.depth) c.do_core.result c.do_core.ensures (choose (core_family c.args.depth) c.args.tokens.now c.args.at c.args.at kind.Do _ _ c.args.at true (search rules) (begin (core_family c.args.depth) c.args.tokens.now c.args.at c.args.at))

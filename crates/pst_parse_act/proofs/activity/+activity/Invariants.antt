@@ -4,7 +4,7 @@ use Rattle.pst_token.specs.declared.kind.Kind.TheVariants as kind
 use Rattle.pst_ast.specs.ActivityView.{view_statement, view_branch, view_arm}
 use Rattle.pst_reading.proofs.Lists.{ListLoop}
 use Rattle.pst_parse_expr.specs.Constraints.{is_other}
-use Rattle.pst_parse_act.specs.ActivityFamilies.{nested_family, branch_family, arm_family}
+use Rattle.pst_parse_statement.specs.ActivityFamilies.{nested_family, branch_family, arm_family}
 use Rattle.pst_parse_act.proofs.activity.+activity.Given as goal
 
 abbrev pub invariant-branches-all : goal.invariant-branches-all

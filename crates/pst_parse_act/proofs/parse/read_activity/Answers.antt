@@ -2,7 +2,7 @@ use Rattle.std.proofs.Common.{arith, ◌-◌}
 use Rattle.std.specs.Prelude.{map}
 use Rattle.std.proofs.lemmas.Result.{err_from_is_err_and}
 use Rattle.pst_ast.specs.ActivityView.{view_statement}
-use Rattle.pst_parse_act.proofs.ActivityRules.{whole_activity_fails, whole_given, whole_left_brace_fails, whole_right_brace_fails, whole_statements_fails}
+use Rattle.pst_parse_statement.proofs.ActivityRules.{whole_activity_fails, whole_given, whole_left_brace_fails, whole_right_brace_fails, whole_statements_fails}
 use Rattle.pst_parse_act.proofs.parse.read_activity.Goals as goal
 
 pub returns-in_err-activity : goal.returns-in_err-activity

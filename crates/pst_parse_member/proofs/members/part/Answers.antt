@@ -2,7 +2,7 @@ use Rattle.pst_ast.specs.Limits.{counted}
 use Rattle.pst_parse_member.proofs.Views.{part_seen}
 use Rattle.pst_parse_member.proofs.members.part.Goals as goal
 use Rattle.pst_parse_member.specs.Families.{part_family, array_size_family}
-use Rattle.pst_parse_expr.specs.Families.{view_index_option}
+use Rattle.pst_parse_operator.specs.Families.{view_index_option}
 use Rattle.pst_reading.proofs.Reaching.{begin, step, name_step, ends, fails}
 use Rattle.std.proofs.Common.{arith, ◌+◌}
 use Rattle.std.proofs.lemmas.Result.{err_from_is_err_and}

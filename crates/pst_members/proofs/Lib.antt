@@ -1,0 +1,4 @@
+mod Scopes
+mod Linking
+mod Walking
+mod Tabled

@@ -1,7 +1,0 @@
-use Rattle.std.proofs.Common.{◌≡◌, drop}
-use Rattle.std.specs.List.{list_any}
-use Rattle.pst_scope.specs.NameRules
-use Rattle.pst_names.proofs.declared.has_root.Given as goal
-
-abbrev pub invariant-loop-declaration : goal.invariant-loop-declaration
-invariant-loop-declaration l = list_any (NameRules.is_root_component l.names) (drop l.declaration-index l.declaration-items) ≡ list_any (NameRules.is_root_component l.names) l.index

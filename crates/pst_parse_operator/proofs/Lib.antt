@@ -1,0 +1,14 @@
+pub mod Tokens
+pub mod Levels
+pub mod Stops
+pub mod Again
+pub mod Rows
+pub mod Parts
+pub mod PartsAgain
+pub mod ExprAgain
+pub mod Deciding
+pub mod NoEnd
+pub mod Loops
+pub mod Rules
+pub mod Turns
+pub mod Operations

@@ -1,0 +1,9 @@
+pub mod ActivityRows
+pub mod ActivityExplains
+pub mod ActivityEnds
+pub mod ActivityAgain
+pub mod ActivityNoEnd
+pub mod ActivityViews
+pub mod ActivityLooks
+pub mod ActivityNested
+pub mod ActivityRules

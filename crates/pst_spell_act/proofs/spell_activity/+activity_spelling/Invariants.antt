@@ -1,0 +1,14 @@
+use Rattle.std.proofs.Common.{◌≡◌, ◌++◌, drop, map}
+use Rattle.std.specs.List.{flat_map}
+use Rattle.pst_ast.specs.ActivityView.{view_statement, view_branch, view_arm}
+use Rattle.pst_ast.specs.ActivitySpelling.{spell_statement, spell_branch, spell_arm}
+use Rattle.pst_spell_act.proofs.spell_activity.+activity_spelling.Given as goal
+
+abbrev pub invariant-add_statements-loop-statement : goal.invariant-add_statements-loop-statement
+invariant-add_statements-loop-statement l = l.tokens.items ++ flat_map spell_statement (map view_statement (drop l.statement-index l.statements)) ≡ l.initial.tokens.items ++ flat_map spell_statement (map view_statement l.statements)
+
+abbrev pub invariant-add_branches-loop-branch : goal.invariant-add_branches-loop-branch
+invariant-add_branches-loop-branch l = l.tokens.items ++ flat_map spell_branch (map view_branch (drop l.branch-index l.branches)) ≡ l.initial.tokens.items ++ flat_map spell_branch (map view_branch l.branches)
+
+abbrev pub invariant-add_arms-loop-arm : goal.invariant-add_arms-loop-arm
+invariant-add_arms-loop-arm l = l.tokens.items ++ flat_map spell_arm (map view_arm (drop l.arm-index l.arms)) ≡ l.initial.tokens.items ++ flat_map spell_arm (map view_arm l.arms)

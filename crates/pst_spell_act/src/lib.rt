@@ -1,0 +1,4 @@
+//! The tokens that activities spell.
+#![tactic(auto)]
+
+pub mod spell_activity;

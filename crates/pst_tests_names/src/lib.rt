@@ -1,0 +1,15 @@
+//! Tests of judging the names of sources.
+#![tactic(auto)]
+
+#[cfg(test)]
+mod annotated;
+#[cfg(test)]
+mod meanings;
+#[cfg(test)]
+mod rows;
+#[cfg(test)]
+mod rules;
+#[cfg(test)]
+mod sources;
+#[cfg(test)]
+mod texts;

@@ -1,0 +1,4 @@
+mod Arena
+mod Halves
+mod Kept
+mod Parting
