@@ -3,3 +3,4 @@ mod SourcesTried
 mod RulesTried
 mod WidthTried
 mod MoreTried
+mod RightTried

@@ -39,7 +39,7 @@ inside = environment (Some (on 1 11)) (OfAction action)
 abbrev NoLater : Place → ℕ → Type 0
 NoLater p r = IsNoLater (on 1 37) 9 p r
 
-abbrev none_of : {A : Type 0} (x : A) → Contains [] x → ⊥
+abbrev pub none_of : {A : Type 0} (x : A) → Contains [] x → ⊥
 none_of x c = omega (arith, c.1)
 
 -- ---- uses
@@ -79,7 +79,7 @@ not_longer test (x ∷ xs) = omega (arith, kept_short (test x) x (filter test xs
 filter_short : {A : Type 0} (test : A → Bool) (xs : List A) (n : ℕ) → length xs ≤ n → length (filter test xs) ≤ n
 filter_short test xs n h = omega (arith, h, not_longer test xs)
 
-longer : {A : Type 0} (xs front more : List A) (x : A) → xs ≡ front ++ x ∷ more → length front < length xs
+pub longer : {A : Type 0} (xs front more : List A) (x : A) → xs ≡ front ++ x ∷ more → length front < length xs
 longer xs front more x e = omega (arith, ap length e, length-append front (x ∷ more))
 
 without_base : (d : Declaration) → Contains ds d → base_of ds d ≡ None

@@ -10,3 +10,4 @@ pub mod Laws
 pub mod Tried
 pub mod TriedRules
 pub mod TriedMore
+pub mod TriedRight

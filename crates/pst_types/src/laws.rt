@@ -3,6 +3,7 @@ ghost use Rattle.pst_types.specs.Laws.{TypeBreachesHaveOneLeast, ConstantsAreOne
 ghost use Rattle.pst_types.specs.Tried.{SourcesAreTried};
 ghost use Rattle.pst_types.specs.TriedRules.{RulesAreTried};
 ghost use Rattle.pst_types.specs.TriedMore.{MoreAreTried};
+ghost use Rattle.pst_types.specs.TriedRight.{RightIsTried};
 
 /// Of the breaches of the rules of types at most one is the least.
 pub fn type_breaches_have_one_least()
@@ -31,4 +32,9 @@ pub fn rules_are_tried()
 /// The same with counts, binds and derived actions.
 pub fn more_are_tried()
     ensures { MoreAreTried }
+{}
+
+/// Uses that break no rule, among them values at their limits.
+pub fn right_is_tried()
+    ensures { RightIsTried }
 {}
