@@ -1,2 +1,3 @@
 mod KeyTests
 mod Beside
+mod Rounds

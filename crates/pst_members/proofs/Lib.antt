@@ -2,3 +2,4 @@ mod Scopes
 mod Linking
 mod Walking
 mod Tabled
+mod Rounds

@@ -1,3 +1,4 @@
 pub mod Keys
 pub mod Links
 pub mod Kept
+pub mod Rounds

@@ -8,4 +8,5 @@ mod same;
 mod tables;
 
 pub use linked::Linked;
+pub use same::is_same_action;
 pub use tables::{Table, Tables};

@@ -1,5 +1,5 @@
 //! Tables of the members of actions with their bases'.
-ghost use Rattle.std.specs.Prelude.{◌≡◌, List, IfOk, IfSome, OnOk, OnErr, Option, Some, if◌then◌else◌};
+ghost use Rattle.std.specs.Prelude.{◌≡◌, ◌+◌, ◌<◌, length, suc, List, IfOk, IfSome, OnOk, OnErr, Option, Some, if◌then◌else◌};
 ghost use Rattle.std.specs.HashMap.{get};
 ghost use Rattle.pst_base.specs.declared.table.NameId.{NameId};
 ghost use Rattle.pst_scope.specs.Lookups;
@@ -7,6 +7,8 @@ ghost use Rattle.pst_scope.specs.declared.declaration.Declaration.{Declaration};
 ghost use Rattle.pst_members.specs.Keys;
 ghost use Rattle.pst_members.specs.Keys.{same_key};
 ghost use Rattle.pst_members.specs.Kept.{AreLinked, AreTables, IsStart, finds};
+ghost use Rattle.pst_members.specs.Rounds.{IsCut, IsRound, before};
+ghost use Rattle.pst_versions.specs.Found.{Keeps};
 
 use crate::Linked;
 use crate::key::{ScopeKey, scope_key};
@@ -53,6 +55,27 @@ fn keep_table(kept: &mut HashMap<ScopeKey, Table>, table: Table) -> Result<(), N
 {
     kept.insert(scope_key(Scope::Part(table.action.name.place)), table)?;
     Ok(())
+}
+
+// A version that finds the members of the last of a round, and of fewer of its bases than there are
+// actions.
+fn put_round(
+    versions: &mut Versions,
+    declarations: &[Declaration],
+    linked: &Linked,
+    round: &[Declaration],
+) -> Result<u32, NoMemory>
+    requires linked { AreLinked declarations.now linked.now }
+    requires round { IsRound declarations.now round.now }
+    ensures kept { Keeps versions.old versions.new }
+    ensures cut { IfOk result (λ version. IsCut declarations.now versions.new version (length round.now) (before round.now 0)) }
+{
+    let mut version = versions.empty();
+    for at in 0..round.len() {
+        let scope = Scope::Part(round[at].name.place);
+        version = put_members(versions, declarations, linked, scope, version)?;
+    }
+    Ok(version)
 }
 
 impl Tables {
@@ -159,5 +182,56 @@ impl Tables {
                 bases: start.bases,
             },
         )
+    }
+
+    // Keeps the table of an action of a round, whose members are put over those of its base.
+    fn keep_next(
+        &mut self,
+        declarations: &[Declaration],
+        linked: &Linked,
+        round: &[Declaration],
+        at: usize,
+        version: u32,
+    ) -> Result<u32, NoMemory>
+        requires linked { AreLinked declarations.now linked.now }
+        requires tables { AreTables declarations.now self.old }
+        requires round { IsRound declarations.now round.now }
+        requires within { at < length round.now }
+        requires cut { IsCut declarations.now self.old.versions version (length round.now + at) (before round.now at) }
+        ensures tables { AreTables declarations.now self.new }
+        ensures cut { IfOk result (λ added. IsCut declarations.now self.new.versions added (length round.now + suc at) (before round.now (suc at))) }
+    {
+        let action = round[at];
+        let scope = Scope::Part(action.name.place);
+        let added = put_members(&mut self.versions, declarations, linked, scope, version)?;
+        keep_table(
+            &mut self.kept,
+            Table {
+                action,
+                version: added,
+                bases: round.len() - 1,
+            },
+        )?;
+        Ok(added)
+    }
+
+    /// Keeps the tables of actions of which each is the base of the next, and the last that of the
+    /// first.
+    pub fn keep_round(
+        &mut self,
+        declarations: &[Declaration],
+        linked: &Linked,
+        round: &[Declaration],
+    ) -> Result<(), NoMemory>
+        requires linked { AreLinked declarations.now linked.now }
+        requires tables { AreTables declarations.now self.old }
+        requires round { IsRound declarations.now round.now }
+        ensures { AreTables declarations.now self.new }
+    {
+        let mut version = put_round(&mut self.versions, declarations, linked, round)?;
+        for at in 0..round.len() {
+            version = self.keep_next(declarations, linked, round, at, version)?;
+        }
+        Ok(())
     }
 }
