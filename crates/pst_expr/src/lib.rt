@@ -16,5 +16,6 @@ mod tree;
 pub use environment::Env;
 pub use evaluation::eval;
 pub use laws::{domains_list_values, values_are_in_range, worked_values};
+pub use operators::{binary, decided_by_left, unary};
 pub use ranges::{Domain, Span};
 pub use tree::{BinaryOp, Expr, UnaryOp};

@@ -25,8 +25,9 @@ pub fn levels_of(alloc: Global, edges: &[Vec<u32>]) -> Result<Vec<u32>, AllocErr
     Ok(levels)
 }
 
-// The vertices, each behind all to which it leads, but for those that lead back to it.
-fn in_order_of_end(alloc: Global, edges: &[Vec<u32>]) -> Result<Vec<u32>, AllocError> {
+/// The vertices of a graph, each behind all to which it leads, but for those that lead back to it.
+/// No contract says so: who uses the order looks.
+pub fn in_order_of_end(alloc: Global, edges: &[Vec<u32>]) -> Result<Vec<u32>, AllocError> {
     let mut seen = vec![in alloc; false; edges.len()]?;
     let mut order = Vec::new(alloc);
     let mut stack = Vec::new(alloc);

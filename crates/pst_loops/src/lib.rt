@@ -1,4 +1,4 @@
-//! The first declaration on a loop of bases or of instances.
+//! The first declaration on a loop of bases or of instances, and orders of vertices.
 #![tactic(auto)]
 
 mod apart;
@@ -9,3 +9,4 @@ mod numbers;
 mod search;
 
 pub use least::first_on_loop;
+pub use levels::in_order_of_end;

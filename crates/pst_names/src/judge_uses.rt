@@ -4,7 +4,6 @@ ghost use Rattle.pst_scope.specs.Scopes.{component_meant, type_meant};
 ghost use Rattle.pst_names.specs.Judged.{judged};
 
 use crate::judge::Judge;
-use crate::judge_paths::{part_of, parts_of, plain_parts};
 use pst_ast::{
     ArgumentsNode, ArmNode, DotName, EndNode, ExprNode, Name, NamesNode, NextExpr, NextPart,
     OtherEnds, PartNode, PlainNode, StatementNode, TargetNode, TypeName, TypeNode,
@@ -16,6 +15,7 @@ use pst_name_rules::{
     item_by, item_finding, type_finding,
 };
 use pst_scope::{Declaration, Environment, PathPart, Traversal};
+use pst_walk_parts::path_parts::{part_of, parts_of, plain_parts};
 use pst_walk_parts::{Role, Visitor, Wanted};
 
 impl<'a> Judge<'a> {

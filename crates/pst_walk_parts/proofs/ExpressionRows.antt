@@ -29,7 +29,7 @@ parts_row : (at : Environment) {n : _} (k : Row_of-NextPart n) → next_part_use
 parts_row at end_of-NextPart = refl
 parts_row at (more_of-NextPart head tail) = ap (λ (us : List Use). in_part at head ++ us) (parts_row at tail)
 
-names_row : {n : _} (k : Row_of-NextPart n) → parts_of (view_next_part_row k) ≡ map as_part (items-the_row-NextPart n k)
+pub names_row : {n : _} (k : Row_of-NextPart n) → parts_of (view_next_part_row k) ≡ map as_part (items-the_row-NextPart n k)
 names_row end_of-NextPart = refl
 names_row (more_of-NextPart (NextPart' dot part) tail) = ap (λ (ps : List PathPart). part_of (view_part part) ∷ ps) (names_row tail)
 

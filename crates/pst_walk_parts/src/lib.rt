@@ -2,6 +2,7 @@
 //! another.
 #![tactic(auto)]
 
+pub mod path_parts;
 pub mod show_constraint;
 pub mod show_expression;
 pub mod show_shared;

@@ -1,6 +1,6 @@
 use Rattle.std.proofs.Common.{◌≡◌, ◌++◌, drop, map}
 use Rattle.pst_scope.specs.Uses.{plain_part}
-use Rattle.pst_names.proofs.judge_paths.plain_parts.Given as goal
+use Rattle.pst_walk_parts.proofs.path_parts.plain_parts.Given as goal
 
 abbrev pub invariant-loop-next : goal.invariant-loop-next
 invariant-loop-next l = l.parts.items ++ map (λ d. plain_part d.name) (drop l.next-index l.rest) ≡ map (λ d. plain_part d.name) l.rest

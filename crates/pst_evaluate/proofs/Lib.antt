@@ -1,0 +1,5 @@
+mod Rows
+mod Growing
+mod Numbered
+mod Settling
+mod Others
