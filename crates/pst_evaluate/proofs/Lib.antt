@@ -3,3 +3,4 @@ mod Growing
 mod Numbered
 mod Settling
 mod Others
+mod ConstantsFound

@@ -4,3 +4,4 @@ pub mod Listed
 pub mod Named
 pub mod Settled
 pub mod Kept
+pub mod Laws

@@ -7,6 +7,7 @@ mod expression;
 mod item;
 mod items;
 mod knowledge;
+mod laws;
 mod listing;
 mod named;
 mod named_items;
@@ -17,3 +18,4 @@ mod sources;
 
 pub use constant::constant_value;
 pub use items::{ItemValues, item_values};
+pub use laws::constants_are_found;
