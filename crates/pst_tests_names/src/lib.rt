@@ -4,6 +4,8 @@
 #[cfg(test)]
 mod annotations;
 #[cfg(test)]
+mod items;
+#[cfg(test)]
 mod meanings;
 #[cfg(test)]
 mod rows;

@@ -87,8 +87,17 @@ fn unit_of(alloc: Global, file: u32, text: &str, names: &mut Names) -> Result<Un
     }
 }
 
-/// What judging the names of some files answers.
-pub fn judged(alloc: Global, files: &[String]) -> Result<Scopes, RuleEnd> {
+/// The trees of some files, and the names in them.
+#[derive(Drop)]
+pub struct Sources {
+    /// The names.
+    pub names: Names,
+    /// The trees.
+    pub units: Vec<Unit>,
+}
+
+/// Reads some files.
+pub fn read_units(alloc: Global, files: &[String]) -> Result<Sources, RuleEnd> {
     let mut names = Names::new(alloc);
     let mut units = Vec::new(alloc);
     let mut file: u32 = 0;
@@ -99,5 +108,11 @@ pub fn judged(alloc: Global, files: &[String]) -> Result<Scopes, RuleEnd> {
         }
         file = file.wrapping_add(1);
     }
-    resolve(alloc, units.as_slice(), &names)
+    Ok(Sources { names, units })
+}
+
+/// What judging the names of some files answers.
+pub fn judged(alloc: Global, files: &[String]) -> Result<Scopes, RuleEnd> {
+    let sources = read_units(alloc, files)?;
+    resolve(alloc, sources.units.as_slice(), &sources.names)
 }
