@@ -54,7 +54,7 @@ module _ (units : List UnitTree) (names : List (List ℕ)) (known : Place → Op
   unfolding are_items
   value_if true e is = record {
     items = each_is (expr_uses at expr) start e;
-    value = record { known = known; items = λ p w k. (are p w).0 k; value = is }
+    value = record { known = known; items = λ p w k. (are p w).0 k; value = is };
   }
   value_if false e is = absurd (none_is_some v is)
 

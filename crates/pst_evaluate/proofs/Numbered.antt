@@ -42,7 +42,7 @@ numbered_if x items from m p true e later is = record {
   item = x;
   counted = omega (arith, some_is from m is);
   at = refl;
-  found = ap (found_in p x items) e
+  found = ap (found_in p x items) e;
 }
 numbered_if x items from m p false e later is =
     let rest = later is in
@@ -51,7 +51,7 @@ numbered_if x items from m p false e later is =
       item = rest.item;
       counted = omega (arith, rest.counted);
       at = rest.at;
-      found = ap (found_in p x items) e ∙ rest.found
+      found = ap (found_in p x items) e ∙ rest.found;
     }
 
 pub numbered_from : (items : List ListedItem) (from m : ℕ) (p : Place) → number_from from (map place_of items) p ≡ Some m → IsNumbered items from m p
@@ -74,7 +74,7 @@ number_if x items from p j true e later is = record {
   item = x;
   counted = ap (λ (c : Bool). if c then Some from else number_from (suc from) (map place_of items) p) e ∙ ap Some (omega arith);
   at = refl;
-  viewed = some_is (view_listed x) j is
+  viewed = some_is (view_listed x) j is;
 }
 number_if x items from p j false e later is =
     let rest = later is in
@@ -83,7 +83,7 @@ number_if x items from p j false e later is =
       item = rest.item;
       counted = ap (λ (c : Bool). if c then Some from else number_from (suc from) (map place_of items) p) e ∙ (rest.counted ∙ ap Some (omega arith));
       at = rest.at;
-      viewed = rest.viewed
+      viewed = rest.viewed;
     }
 
 pub has_number : (items : List ListedItem) (from : ℕ) (p : Place) (j : DeclaredItem) → find (λ (j : DeclaredItem). same_place j.name.place p) (view_each items) ≡ Some j → HasNumber items from p j

@@ -58,7 +58,7 @@ module _ (s : ItemSources) (listed : AreListed s) where
       record {
         item = numbered.item;
         numbered = subst (λ (m : ℕ). slice_get s.items.now m ≡ Some numbered.item) (omega (arith, numbered.counted)) numbered.at;
-        declared = subst (λ (all : List DeclaredItem). find (λ (j : DeclaredItem). same_place j.name.place p) all ≡ Some (view_listed numbered.item)) listed.items numbered.found
+        declared = subst (λ (all : List DeclaredItem). find (λ (j : DeclaredItem). same_place j.name.place p) all ≡ Some (view_listed numbered.item)) listed.items numbered.found;
       }
 
   module _ (known : Place → Option ℤ) (sound : (p : Place) (w : ℤ) → known p ≡ Some w → Item p w) where
@@ -89,14 +89,14 @@ module _ (s : ItemSources) (listed : AreListed s) where
     at_number p v None e is = absurd (none_is_some v is)
     at_number p v (Some n) e is = ⊎_elim
         (λ same.
-          let there = at_place n p e in
-          let kept : Some w ≡ Some v = sym (get_or-set_same values at (Some w) None within) ∙ (ap (λ (m : ℕ). get_or (set values at (Some w)) m None) (sym same) ∙ is) in
-          subst (λ (z : ℤ). Item p z) (some_is w v kept)
-          (gives (λ q. known_by s.places.now values q) derived p (view_listed there.item) w there.declared (value there.item (subst (λ (m : ℕ). slice_get s.items.now m ≡ Some there.item) same there.numbered))))
+        let there = at_place n p e in
+        let kept : Some w ≡ Some v = sym (get_or-set_same values at (Some w) None within) ∙ (ap (λ (m : ℕ). get_or (set values at (Some w)) m None) (sym same) ∙ is) in
+        subst (λ (z : ℤ). Item p z) (some_is w v kept)
+        (gives (λ q. known_by s.places.now values q) derived p (view_listed there.item) w there.declared (value there.item (subst (λ (m : ℕ). slice_get s.items.now m ≡ Some there.item) same there.numbered))))
         (λ other.
-          derived p v
-          (ap (λ (o : Option ℕ). option_and_then (λ (m : ℕ). slice_index_or values m None) o) e
-          ∙ (sym (get_or-set_other values at n (Some w) None other) ∙ is)))
+        derived p v
+        (ap (λ (o : Option ℕ). option_and_then (λ (m : ℕ). slice_index_or values m None) o) e
+        ∙ (sym (get_or-set_other values at n (Some w) None other) ∙ is)))
         (same_or n at)
 
     pub keeps : AreDerived s (set values at (Some w))
@@ -131,7 +131,7 @@ module _ (s : ItemSources) (listed : AreListed s) where
     complete p v (Given _ i e other w at given items value) =
         let here : value_by s.index.now s.names.now other (environment i.component Nobody) e ≡ Some w = subst (λ (ds : List Declaration). value_by ds s.names.now other (environment i.component Nobody) e ≡ Some w) (sym listed.declared) value in
         let grown : value_by s.index.now s.names.now known (environment i.component Nobody) e ≡ Some w =
-            from_grow _ _ w (by_grows s.index.now s.names.now other known (environment i.component Nobody) e (λ q. to_grow (other q) (known q) (λ x is. complete q x (items q x is)))) here in
+        from_grow _ _ w (by_grows s.index.now s.names.now other known (environment i.component Nobody) e (λ q. to_grow (other q) (known q) (λ x is. complete q x (items q x is)))) here in
         kept p i w at (subst (λ (x : Option ExprTree). item_value_by s.index.now s.names.now known i.component i.before x ≡ Some w) (sym given) grown) (Given p i e other w at given items value)
 
     pub are_item_values : AreItemValues units s.names.now known

@@ -31,11 +31,7 @@ fn value_of_path(
 
 /// The value of an expression.
 #[cycle(evaluation)]
-pub fn value_of(
-    known: &Knowledge,
-    at: &Environment,
-    expr: &ExprNode,
-) -> Result<Evaluated, NoMemory>
+pub fn value_of(known: &Knowledge, at: &Environment, expr: &ExprNode) -> Result<Evaluated, NoMemory>
     ensures { IfOk result (λ r. value_in r ≡ value_under (path_known known.now at.now) (view_expr expr.now)) }
 {
     match expr {
@@ -67,7 +63,9 @@ fn value_of_unary(
 {
     match unary {
         UnaryNode::Prefix {
-            operator, operand, ..
+            operator,
+            operand,
+            ..
         } => {
             let value = value_of_unary(known, at, operand)?;
             Ok(evaluated_unary(unary_op(*operator), value))

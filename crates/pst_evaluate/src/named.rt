@@ -76,12 +76,6 @@ pub fn item_of_path(
             second,
             third,
             ..
-        } => Ok(item_by(
-            index,
-            at.component,
-            Some(*first),
-            *second,
-            *third,
-        )),
+        } => Ok(item_by(index, at.component, Some(*first), *second, *third)),
     }
 }

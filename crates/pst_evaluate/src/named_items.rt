@@ -230,12 +230,7 @@ impl<'a> Visitor for NamedItems<'a> {
         self.other()
     }
 
-    fn ends(
-        &mut self,
-        _at: &Environment,
-        _handle: Name,
-        _reference: Name,
-    ) -> Result<(), NoMemory> {
+    fn ends(&mut self, _at: &Environment, _handle: Name, _reference: Name) -> Result<(), NoMemory> {
         self.other()
     }
 

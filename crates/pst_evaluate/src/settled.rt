@@ -123,11 +123,7 @@ pub fn settle_each(
 }
 
 // Whether an item has a value by those that are kept, and it isn't kept.
-fn is_open(
-    sources: &ItemSources,
-    values: &[Option<i64>],
-    at: usize,
-) -> Result<bool, NoMemory>
+fn is_open(sources: &ItemSources, values: &[Option<i64>], at: usize) -> Result<bool, NoMemory>
     requires { at < length sources.now.items.now }
     ensures { IfOk result (λ yes. IsFalse yes → IsSettled sources.now values.now at) }
 {

@@ -14,7 +14,10 @@ const ITEMS: [(&str, Option<i64>); 56] = [
     ("enum e { a, b, @c }", Some(2)),
     ("enum e { a = 5, @b }", Some(6)),
     ("enum e { a = -3, b, @c }", Some(-1)),
-    ("enum e { a = 9223372036854775806, @b }", Some(9223372036854775807)),
+    (
+        "enum e { a = 9223372036854775806, @b }",
+        Some(9223372036854775807),
+    ),
     ("enum e { a = 9223372036854775807, @b }", None),
     ("enum e { a = 9223372036854775807, b, @c }", None),
     ("enum e { a = 1 / 0, @b }", None),
@@ -45,7 +48,10 @@ const ITEMS: [(&str, Option<i64>); 56] = [
     ("enum e { @a = 5 && 7 }", Some(1)),
     ("enum e { @a = true + true }", Some(2)),
     ("enum e { @a = 9223372036854775807 + 1 }", None),
-    ("enum e { @a = -9223372036854775807 - 1 }", Some(-9223372036854775808)),
+    (
+        "enum e { @a = -9223372036854775807 - 1 }",
+        Some(-9223372036854775808),
+    ),
     ("enum e { @a = -9223372036854775807 - 2 }", None),
     // what the left operand decides
     ("enum e { @a = 0 && 1 / 0 }", Some(0)),
@@ -66,9 +72,18 @@ const ITEMS: [(&str, Option<i64>); 56] = [
     ("enum e { @a = 0 && f::b } enum f { b = a }", Some(0)),
     ("enum e { a = 0 && f::b } enum f { @b = a + 4 }", Some(4)),
     ("enum e { a = b, b = c, c = d, @x = a, d = 2 }", Some(2)),
-    ("component pss_top { enum e { @a = b } } enum f { b = 3 }", Some(3)),
-    ("component C { enum e { k = 8 } } component pss_top { enum f { @a = C::e::k } }", Some(8)),
-    ("enum e { k = 1 } enum f { k = 2 } component pss_top { enum g { @a = k } }", None),
+    (
+        "component pss_top { enum e { @a = b } } enum f { b = 3 }",
+        Some(3),
+    ),
+    (
+        "component C { enum e { k = 8 } } component pss_top { enum f { @a = C::e::k } }",
+        Some(8),
+    ),
+    (
+        "enum e { k = 1 } enum f { k = 2 } component pss_top { enum g { @a = k } }",
+        None,
+    ),
     ("enum e { @a = nothing || 1 }", None),
 ];
 
@@ -85,7 +100,8 @@ fn marked_value(alloc: Global, text: &str) -> Result<Option<i64>, NoMemory> {
     let Ok(marked) = read_marked(alloc, text) else {
         return Err(NoMemory);
     };
-    let (Some(place), Ok(sources)) = (marked.place, read_units(alloc, marked.files.as_slice())) else {
+    let (Some(place), Ok(sources)) = (marked.place, read_units(alloc, marked.files.as_slice()))
+    else {
         return Err(NoMemory);
     };
     value_at(alloc, &sources, place)
