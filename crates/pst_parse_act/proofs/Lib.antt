@@ -1,2 +1,1 @@
 pub mod ActivityAnswering
-pub mod ActivityKept

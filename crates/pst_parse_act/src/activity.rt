@@ -11,11 +11,16 @@ use pst_ast::{ArmNode, BranchNode, CoreNode, LabelNode, StatementNode, SyntaxFau
 use pst_parse_expr::shared::outermost;
 use pst_parse_member::keeping::both;
 use pst_parse_part::times::{Times, read_times};
+use pst_parse_statement::keeping::{
+    alternative, arms_closed, branches_closed, closed, conditional, else_behind, first_arm,
+    first_branch, guarded, joined, joined_closed, labeled, more_arms, more_branches,
+    more_statements, other_arms, other_branches, repeated,
+};
 use pst_parse_statement::words::{empty, maybe_sequence_word, word_kind};
 use pst_parse_step::labels::{arm_label, maybe_guard};
 use pst_parse_step::parts::maybe_join;
 use pst_parse_step::traversal::{bound_core, do_core, handle_core, with_part};
-use pst_reading::{boxed, expect, expect_name, is, is_name, push};
+use pst_reading::{expect, expect_name, is, is_name};
 use pst_token::{Kind, Token};
 use std::alloc::Global;
 
@@ -33,8 +38,9 @@ fn sequence_core(
 {
     let (sequence, behind) = maybe_sequence_word(tokens, at, depth)?;
     let left_brace = expect(tokens, behind, Kind::LeftBrace, depth, 0)?;
-    let (statements, after) = statements(alloc, tokens, behind + 1, depth)?;
-    let right_brace = expect(tokens, after, Kind::RightBrace, depth, 0)?;
+    let (listed, after) = statements(alloc, tokens, behind + 1, depth)?;
+    let closing = expect(tokens, after, Kind::RightBrace, depth, 0);
+    let (statements, right_brace) = closed(listed, closing)?;
     let core = CoreNode::Sequence {
         sequence,
         left_brace,
@@ -59,10 +65,13 @@ fn together_core(
 {
     let kind = word_kind(word);
     let place = expect(tokens, at, kind, depth, 0)?;
-    let (join, behind) = maybe_join(alloc, tokens, at + 1, depth)?;
-    let left_brace = expect(tokens, behind, Kind::LeftBrace, depth, 0)?;
-    let (statements, after) = statements(alloc, tokens, behind + 1, depth)?;
-    let right_brace = expect(tokens, after, Kind::RightBrace, depth, 0)?;
+    let (form, behind) = maybe_join(alloc, tokens, at + 1, depth)?;
+    let opening = expect(tokens, behind, Kind::LeftBrace, depth, 0);
+    let (front, left_brace) = both(form, opening)?;
+    let block = statements(alloc, tokens, behind + 1, depth);
+    let (kept, (listed, after)) = joined(front, block)?;
+    let closing = expect(tokens, after, Kind::RightBrace, depth, 0);
+    let ((join, statements), right_brace) = joined_closed((kept, listed), closing)?;
     let core = CoreNode::Together {
         word,
         place,
@@ -87,8 +96,9 @@ fn branch(
     requires behind { 1 ≤ at }
     ensures { Reads view_branch (branch_family depth) tokens.now (at - 1) at 1 result }
 {
-    let (guard, behind) = maybe_guard(alloc, tokens, at, depth)?;
-    let (statement, after) = statement(alloc, tokens, behind, depth + 1)?;
+    let (asked, behind) = maybe_guard(alloc, tokens, at, depth)?;
+    let chosen = statement(alloc, tokens, behind, depth + 1);
+    let (guard, (statement, after)) = guarded(asked, chosen)?;
     Ok((BranchNode { guard, statement }, after))
 }
 
@@ -108,8 +118,9 @@ fn branches(
     let mut all = Vec::new(alloc);
     let mut place = at;
     'all: while !is(tokens, place, Kind::RightBrace) {
-        let (branch, after) = branch(alloc, tokens, place, depth)?;
-        push(&mut all, branch)?;
+        let next = branch(alloc, tokens, place, depth);
+        let (grown, after) = more_branches(all, next)?;
+        all = grown;
         place = after;
     }
     Ok((all, place))
@@ -129,10 +140,12 @@ fn select_core(
 {
     let select = expect(tokens, at, Kind::Select, depth, 0)?;
     let left_brace = expect(tokens, at + 1, Kind::LeftBrace, depth, 0)?;
-    let (head, behind) = branch(alloc, tokens, at + 2, depth)?;
-    let first = boxed(alloc, head)?;
-    let (rest, after) = branches(alloc, tokens, behind, depth)?;
-    let right_brace = expect(tokens, after, Kind::RightBrace, depth, 0)?;
+    let one = branch(alloc, tokens, at + 2, depth);
+    let (head, behind) = first_branch(alloc, one)?;
+    let others = branches(alloc, tokens, behind, depth);
+    let (kept, (listed, after)) = other_branches(head, others)?;
+    let closing = expect(tokens, after, Kind::RightBrace, depth, 0);
+    let ((first, rest), right_brace) = branches_closed((kept, listed), closing)?;
     let core = CoreNode::Select {
         select,
         left_brace,
@@ -156,9 +169,9 @@ fn repeat_core(
     ensures { ReadsOpen view_core core_ends_open (repeated_family depth) tokens.now at at result }
 {
     let repeat = expect(tokens, at, Kind::Repeat, depth, 0)?;
-    let (times, behind) = read_times(alloc, tokens, at + 1, depth)?;
-    let (repeated, after) = statement(alloc, tokens, behind, depth + 1)?;
-    let statement = boxed(alloc, repeated)?;
+    let (counted, behind) = read_times(alloc, tokens, at + 1, depth)?;
+    let turn = statement(alloc, tokens, behind, depth + 1);
+    let (times, (statement, after)) = repeated(alloc, counted, turn)?;
     let Times {
         left_parenthesis,
         index,
@@ -194,9 +207,7 @@ fn if_core(
     let closing = expect(tokens, behind, Kind::RightParenthesis, depth, 0);
     let (tested, right_parenthesis) = both(asked, closing)?;
     let first = statement(alloc, tokens, behind + 1, depth + 1);
-    let (kept, (holds, after)) = both(tested, first)?;
-    let heap = boxed(alloc, holds);
-    let (held, done) = both(kept, heap)?;
+    let (held, (done, after)) = conditional(alloc, tested, first)?;
     if !is(tokens, after, Kind::Else) {
         let only = CoreNode::If {
             if_,
@@ -208,11 +219,9 @@ fn if_core(
         return Ok((only, after));
     }
     let word = expect(tokens, after, Kind::Else, depth, 0);
-    let (front, else_) = both((held, done), word)?;
+    let (front, else_) = else_behind((held, done), word)?;
     let second = statement(alloc, tokens, after + 1, depth + 1);
-    let (head, (other, end)) = both(front, second)?;
-    let tail = boxed(alloc, other);
-    let ((condition, then), otherwise) = both(head, tail)?;
+    let ((condition, then), (otherwise, end)) = alternative(alloc, front, second)?;
     let whole = CoreNode::IfElse {
         if_,
         left_parenthesis,
@@ -237,9 +246,11 @@ fn arm(
     requires nesting { depth ≤ 64 }
     ensures { Reads view_arm (arm_family depth) tokens.now at at 1 result }
 {
-    let (label, behind) = arm_label(alloc, tokens, at, depth)?;
-    let colon = expect(tokens, behind, Kind::Colon, depth, 0)?;
-    let (statement, after) = statement(alloc, tokens, behind + 1, depth + 1)?;
+    let (read, behind) = arm_label(alloc, tokens, at, depth)?;
+    let mark = expect(tokens, behind, Kind::Colon, depth, 0);
+    let (kept, colon) = both(read, mark)?;
+    let chosen = statement(alloc, tokens, behind + 1, depth + 1);
+    let (label, (statement, after)) = labeled(kept, chosen)?;
     let arm = ArmNode {
         label,
         colon,
@@ -264,8 +275,9 @@ fn arms(
     let mut all = Vec::new(alloc);
     let mut place = at;
     'all: while !is(tokens, place, Kind::RightBrace) {
-        let (arm, after) = arm(alloc, tokens, place, depth)?;
-        push(&mut all, arm)?;
+        let next = arm(alloc, tokens, place, depth);
+        let (grown, after) = more_arms(all, next)?;
+        all = grown;
         place = after;
     }
     Ok((all, place))
@@ -291,13 +303,11 @@ fn match_core(
     let opening = expect(tokens, behind + 1, Kind::LeftBrace, depth, 0);
     let (matched, left_brace) = both(tested, opening)?;
     let one = arm(alloc, tokens, behind + 2, depth);
-    let (kept, (head, after)) = both(matched, one)?;
-    let heap = boxed(alloc, head);
-    let (held, arm) = both(kept, heap)?;
+    let (held, (arm, after)) = first_arm(alloc, matched, one)?;
     let others = arms(alloc, tokens, after, depth);
-    let (front, (listed, end)) = both((held, arm), others)?;
+    let (front, (listed, end)) = other_arms((held, arm), others)?;
     let last = expect(tokens, end, Kind::RightBrace, depth, 0);
-    let (((expr, first), rest), right_brace) = both((front, listed), last)?;
+    let (((expr, first), rest), right_brace) = arms_closed((front, listed), last)?;
     let core = CoreNode::Match {
         match_,
         left_parenthesis,
@@ -435,8 +445,9 @@ pub fn statements(
     let mut all = Vec::new(alloc);
     let mut place = at;
     'all: while !is(tokens, place, Kind::RightBrace) {
-        let (statement, after) = statement(alloc, tokens, place, depth + 1)?;
-        push(&mut all, statement)?;
+        let next = statement(alloc, tokens, place, depth + 1);
+        let (grown, after) = more_statements(all, next)?;
+        all = grown;
         place = after;
     }
     Ok((all, place))

@@ -8,6 +8,7 @@ ghost use Rattle.pst_parse_statement.specs.ActivityFamilies.{activity_family};
 
 use crate::activity::statements;
 use pst_ast::{ActivityNode, SyntaxFault};
+use pst_parse_statement::keeping::closed;
 use pst_reading::expect;
 use pst_token::{Kind, Token};
 use std::alloc::Global;
@@ -25,8 +26,9 @@ pub fn read_activity(
 {
     let activity = expect(tokens, at, Kind::Activity, depth, 0)?;
     let left_brace = expect(tokens, at + 1, Kind::LeftBrace, depth, 0)?;
-    let (statements, after) = statements(alloc, tokens, at + 2, depth)?;
-    let right_brace = expect(tokens, after, Kind::RightBrace, depth, 0)?;
+    let (listed, after) = statements(alloc, tokens, at + 2, depth)?;
+    let closing = expect(tokens, after, Kind::RightBrace, depth, 0);
+    let (statements, right_brace) = closed(listed, closing)?;
     let node = ActivityNode {
         activity,
         left_brace,

@@ -1,23 +1,24 @@
--- What statements give, from what their parts give.
-use Rattle.std.proofs.Common.{◌≡◌, ℕ, suc, ◌+◌, ◌-◌, ◌≤◌, true, false, List, length, Option, arith, drop, Err}
+-- What statements give, from what their parts give. Each module has a rule: what is left of its parser behind each part, and so what it gives where a part fails.
+use Rattle.std.proofs.Common.{◌≡◌, ℕ, suc, ◌+◌, ◌-◌, ◌≤◌, true, false, List, length, Option, arith, drop, Err, Ok}
 use Rattle.pst_base.specs.declared.position.Place.{Place}
 use Rattle.pst_token.specs.declared.kind.Kind.TheVariants as kind
 use Rattle.pst_token.specs.declared.token.Token.{Token}
 use Rattle.pst_ast.specs.declared.leaf.Name.{Name}
 use Rattle.pst_ast.specs.declared.activity.TogetherWord.{TogetherWord}
 use Rattle.pst_ast.specs.Marks.{together_word_kind}
-use Rattle.pst_ast.specs.Limits.{counted, is_over}
+use Rattle.pst_ast.specs.Limits.{counted}
 use Rattle.pst_ast.specs.ExpressionTree.{ExprTree}
 use Rattle.pst_ast.specs.ActivityTree.{MakeActivity, StatementTree, StatementLabeled, StatementPlain, CoreTree, CoreHandle, CoreSequence, CoreTogether, CoreSelect, CoreRepeat, CoreIf, CoreIfElse, CoreMatch, BranchTree, MakeBranch, ArmTree, MakeArm, GuardTree, ArmLabelTree, JoinTree, WithTree}
 use Rattle.pst_ast.specs.ActivityProper.{statement_ends_open}
 use Rattle.pst_reading.specs.Kinds.{is_mark, next_is}
-use Rattle.pst_reading.specs.Parser.{Done, followed_by, next, mark_by, name_by, Took, run}
-use Rattle.pst_parse_statement.specs.Activities.{statement_row, branch_row, arm_row, statement_at}
+use Rattle.pst_reading.specs.Parser.{Done, ◌>>=◌, next, mark_by, name_by, Took}
+use Rattle.pst_reading.specs.Reads.{Read, ReadOpen}
+use Rattle.pst_parse_statement.specs.Activities.{statement_row, branch_row, arm_row, statement_at, maybe_else_by, else_by, labeled_by, traversed_by}
 use Rattle.pst_ast.specs.declared.fault.SyntaxFault.{SyntaxFault}
 use Rattle.pst_reading.specs.Gives.{SettlesFrom, FailsFrom, Expects}
 use Rattle.pst_reading.proofs.Reaching.{Reaches, begin, step, mark_step, name_step, choose, ends, fails, mark_fails, name_fails}
 use Rattle.pst_reading.proofs.Optional.{row_settles, row_fails}
-use Rattle.pst_parse_expr.specs.Constraints.{outermost_at}
+use Rattle.pst_parse_expr.specs.Constraints.{outermost_at, constraint_at}
 use Rattle.pst_parse_expr.specs.ConstraintFamilies.{outermost_family}
 use Rattle.pst_parse_step.specs.ActivityPartFamilies.{arm_label_family, with_family, maybe_join_family, maybe_guard_family}
 use Rattle.pst_parse_statement.specs.ActivityFamilies.{sequence_family, branch_family, select_family, repeated_family, if_family, arm_family, match_family, core_family, named_family, plain_family, statement_family, together_family, activity_family, maybe_sequence_word_family, statements_family, branches_family, arms_family, statement_row_family, branch_row_family, arm_row_family}
@@ -26,206 +27,386 @@ use Rattle.pst_parse_statement.proofs.ActivityLooks.{no_else_behind, else_behind
 use Rattle.pst_parse_part.specs.TimesFamilies.{times_family}
 use Rattle.pst_parse_part.specs.Times.{TimesTree, times_by}
 
+-- ["sequence"] "{" { stmt } "}"
 module _ (tokens : List Token) (at d : ℕ) where
-  pub sequence_core_sequence_fails : at ≤ length tokens → (e : SyntaxFault) → FailsFrom (maybe_sequence_word_family d) tokens (at) (at) e → FailsFrom (sequence_family d) tokens at at e
-  sequence_core_sequence_fails le e h = fails (sequence_family d) tokens at at (maybe_sequence_word_family d) _ (at) (at) e (omega arith) h (begin (sequence_family d) tokens at at)
+  pub sequence_word_fails : (e : SyntaxFault) → FailsFrom (maybe_sequence_word_family d) tokens at at e → FailsFrom (sequence_family d) tokens at at e
+  sequence_word_fails e h = fails (sequence_family d) tokens at at (maybe_sequence_word_family d) _ at at e (omega arith) h (begin (sequence_family d) tokens at at)
+
+  module _ {X : Type 0} {view : X → Option Place} {x : X × ℕ} (word : Read view (maybe_sequence_word_family d) tokens at at 0 x) where
+    sequence_word_read : Reaches (sequence_family d) tokens at at (λ m n. mark_by kind.LeftBrace (counted d 0) >>= (λ l. statement_row_family d m n >>= (λ s. mark_by kind.RightBrace (counted d 0) >>= (λ r. Done (CoreSequence (view x.0) l s r))))) x.1
+    sequence_word_read = step (sequence_family d) tokens at at (maybe_sequence_word_family d) _ at at x.1 (view x.0) (omega arith) (omega (arith, word.after)) word.settles (begin (sequence_family d) tokens at at)
+
+    pub sequence_brace_fails : (e : SyntaxFault) → Expects (mark_by kind.LeftBrace (counted d 0)) tokens x.1 (Err e) → FailsFrom (sequence_family d) tokens at at e
+    sequence_brace_fails e h = mark_fails (sequence_family d) tokens at at kind.LeftBrace _ _ x.1 e word.inside h sequence_word_read
+
+    module _ (left : Place) (opened : Expects (mark_by kind.LeftBrace (counted d 0)) tokens x.1 (Ok left)) where
+      sequence_brace_read : Reaches (sequence_family d) tokens at at (λ m n. statement_row_family d m n >>= (λ s. mark_by kind.RightBrace (counted d 0) >>= (λ r. Done (CoreSequence (view x.0) left s r)))) (x.1 + 1)
+      sequence_brace_read = mark_step (sequence_family d) tokens at at kind.LeftBrace _ _ x.1 (x.1 + 1) left (omega arith) opened.0 sequence_word_read
+
+      pub sequence_statements_fail : (e : SyntaxFault) → FailsFrom (statements_family d) tokens (x.1 + 1 - 1) (x.1 + 1) e → FailsFrom (sequence_family d) tokens at at e
+      sequence_statements_fail e h = fails (sequence_family d) tokens at at (statement_row_family d) _ (x.1 + 1 - 1) (x.1 + 1) e (omega (arith, word.after)) (row_fails tokens (x.1 + 1 - 1) (x.1 + 1) statement_row (statements_family d) e h) sequence_brace_read
 
-  pub sequence_core_left_brace_fails : (sequence : Option Place) → (behind : ℕ) → (sequence_more : at + 0 ≤ behind) → (sequence_inside : behind ≤ length tokens) → (sequence_settles : SettlesFrom (maybe_sequence_word_family d) tokens (at) (at) (Took sequence (drop behind tokens))) → (e : SyntaxFault) → behind ≤ length tokens → Expects (mark_by kind.LeftBrace (counted d 0)) tokens (behind) (Err e) → FailsFrom (sequence_family d) tokens at at e
-  sequence_core_left_brace_fails sequence behind sequence_more sequence_inside sequence_settles e le h = mark_fails (sequence_family d) tokens at at kind.LeftBrace _ _ (behind) e le h (step (sequence_family d) tokens at at (maybe_sequence_word_family d) _ (at) (at) behind sequence (omega arith) (omega arith) sequence_settles (begin (sequence_family d) tokens at at))
+      module _ {Y : Type 0} {view_list : Y → List StatementTree} {y : Y × ℕ} (listed : Read view_list (statements_family d) tokens (x.1 + 1 - 1) (x.1 + 1) 0 y) where
+        sequence_statements_read : Reaches (sequence_family d) tokens at at (λ m n. mark_by kind.RightBrace (counted d 0) >>= (λ r. Done (CoreSequence (view x.0) left (statement_row (view_list y.0)) r))) y.1
+        sequence_statements_read =
+            step (sequence_family d) tokens at at (statement_row_family d) _ (x.1 + 1 - 1) (x.1 + 1) y.1 (statement_row (view_list y.0))
+            (omega (arith, word.after)) (omega (arith, listed.after))
+            (row_settles tokens (x.1 + 1 - 1) (x.1 + 1) statement_row (statements_family d) (view_list y.0) y.1 listed.settles) sequence_brace_read
+
+        pub sequence_end_fails : (e : SyntaxFault) → Expects (mark_by kind.RightBrace (counted d 0)) tokens y.1 (Err e) → FailsFrom (sequence_family d) tokens at at e
+        sequence_end_fails e h = mark_fails (sequence_family d) tokens at at kind.RightBrace _ _ y.1 e listed.inside h sequence_statements_read
+
+        pub sequence_given : (right : Place) → Expects (mark_by kind.RightBrace (counted d 0)) tokens y.1 (Ok right) → SettlesFrom (sequence_family d) tokens at at (Took (CoreSequence (view x.0) left (statement_row (view_list y.0)) right) (drop (y.1 + 1) tokens))
+        sequence_given right h = ends (sequence_family d) tokens at at _ (y.1 + 1) (mark_step (sequence_family d) tokens at at kind.RightBrace _ _ y.1 (y.1 + 1) right (omega arith) h.0 sequence_statements_read)
+
+-- ("parallel"|"schedule") [ join ] "{" { stmt } "}"
+module _ (tokens : List Token) (at d : ℕ) (word : TogetherWord) where
+  pub together_word_fails : (e : SyntaxFault) → at ≤ length tokens → Expects (mark_by (together_word_kind word) (counted d 0)) tokens at (Err e) → FailsFrom (together_family word d) tokens at at e
+  together_word_fails e le h = mark_fails (together_family word d) tokens at at (together_word_kind word) _ _ at e le h (begin (together_family word d) tokens at at)
+
+  module _ (place : Place) (found : Expects (mark_by (together_word_kind word) (counted d 0)) tokens at (Ok place)) where
+    together_word_read : Reaches (together_family word d) tokens at at (λ m n. maybe_join_family d m n >>= (λ j. mark_by kind.LeftBrace (counted d 0) >>= (λ l. statement_row_family d m n >>= (λ s. mark_by kind.RightBrace (counted d 0) >>= (λ r. Done (CoreTogether word place j l s r)))))) (at + 1)
+    together_word_read = mark_step (together_family word d) tokens at at (together_word_kind word) _ _ at (at + 1) place (omega arith) found.0 (begin (together_family word d) tokens at at)
+
+    pub together_join_fails : (e : SyntaxFault) → FailsFrom (maybe_join_family d) tokens (at + 1) (at + 1) e → FailsFrom (together_family word d) tokens at at e
+    together_join_fails e h = fails (together_family word d) tokens at at (maybe_join_family d) _ (at + 1) (at + 1) e (omega arith) h together_word_read
+
+    module _ {X : Type 0} {view : X → Option JoinTree} {x : X × ℕ} (joined : Read view (maybe_join_family d) tokens (at + 1) (at + 1) 0 x) where
+      together_join_read : Reaches (together_family word d) tokens at at (λ m n. mark_by kind.LeftBrace (counted d 0) >>= (λ l. statement_row_family d m n >>= (λ s. mark_by kind.RightBrace (counted d 0) >>= (λ r. Done (CoreTogether word place (view x.0) l s r))))) x.1
+      together_join_read = step (together_family word d) tokens at at (maybe_join_family d) _ (at + 1) (at + 1) x.1 (view x.0) (omega arith) (omega (arith, joined.after)) joined.settles together_word_read
+
+      pub together_brace_fails : (e : SyntaxFault) → Expects (mark_by kind.LeftBrace (counted d 0)) tokens x.1 (Err e) → FailsFrom (together_family word d) tokens at at e
+      together_brace_fails e h = mark_fails (together_family word d) tokens at at kind.LeftBrace _ _ x.1 e joined.inside h together_join_read
 
-  pub sequence_core_statements_fails : (sequence : Option Place) → (behind : ℕ) → (sequence_more : at + 0 ≤ behind) → (sequence_inside : behind ≤ length tokens) → (sequence_settles : SettlesFrom (maybe_sequence_word_family d) tokens (at) (at) (Took sequence (drop behind tokens))) → (left_brace : Place) → (left_brace_taken : run is_over (mark_by kind.LeftBrace (counted d 0)) (drop (behind) tokens) ≡ Took left_brace (drop (behind + 1) tokens)) → (left_brace_inside : behind + 1 ≤ length tokens) → behind + 1 ≤ length tokens → (e : SyntaxFault) → FailsFrom (statements_family d) tokens (behind + 1 - 1) (behind + 1) e → FailsFrom (sequence_family d) tokens at at e
-  sequence_core_statements_fails sequence behind sequence_more sequence_inside sequence_settles left_brace left_brace_taken left_brace_inside le e h = fails (sequence_family d) tokens at at (statement_row_family d) _ (behind + 1 - 1) (behind + 1) e (omega arith) (row_fails tokens (behind + 1 - 1) (behind + 1) statement_row (statements_family d) e h) (mark_step (sequence_family d) tokens at at kind.LeftBrace _ _ (behind) (behind + 1) left_brace (omega arith) left_brace_taken (step (sequence_family d) tokens at at (maybe_sequence_word_family d) _ (at) (at) behind sequence (omega arith) (omega arith) sequence_settles (begin (sequence_family d) tokens at at)))
+      module _ (left : Place) (opened : Expects (mark_by kind.LeftBrace (counted d 0)) tokens x.1 (Ok left)) where
+        together_brace_read : Reaches (together_family word d) tokens at at (λ m n. statement_row_family d m n >>= (λ s. mark_by kind.RightBrace (counted d 0) >>= (λ r. Done (CoreTogether word place (view x.0) left s r)))) (x.1 + 1)
+        together_brace_read = mark_step (together_family word d) tokens at at kind.LeftBrace _ _ x.1 (x.1 + 1) left (omega arith) opened.0 together_join_read
+
+        pub together_statements_fail : (e : SyntaxFault) → FailsFrom (statements_family d) tokens (x.1 + 1 - 1) (x.1 + 1) e → FailsFrom (together_family word d) tokens at at e
+        together_statements_fail e h = fails (together_family word d) tokens at at (statement_row_family d) _ (x.1 + 1 - 1) (x.1 + 1) e (omega (arith, joined.after)) (row_fails tokens (x.1 + 1 - 1) (x.1 + 1) statement_row (statements_family d) e h) together_brace_read
+
+        module _ {Y : Type 0} {view_list : Y → List StatementTree} {y : Y × ℕ} (listed : Read view_list (statements_family d) tokens (x.1 + 1 - 1) (x.1 + 1) 0 y) where
+          together_statements_read : Reaches (together_family word d) tokens at at (λ m n. mark_by kind.RightBrace (counted d 0) >>= (λ r. Done (CoreTogether word place (view x.0) left (statement_row (view_list y.0)) r))) y.1
+          together_statements_read =
+              step (together_family word d) tokens at at (statement_row_family d) _ (x.1 + 1 - 1) (x.1 + 1) y.1 (statement_row (view_list y.0))
+              (omega (arith, joined.after)) (omega (arith, listed.after))
+              (row_settles tokens (x.1 + 1 - 1) (x.1 + 1) statement_row (statements_family d) (view_list y.0) y.1 listed.settles) together_brace_read
+
+          pub together_end_fails : (e : SyntaxFault) → Expects (mark_by kind.RightBrace (counted d 0)) tokens y.1 (Err e) → FailsFrom (together_family word d) tokens at at e
+          together_end_fails e h = mark_fails (together_family word d) tokens at at kind.RightBrace _ _ y.1 e listed.inside h together_statements_read
+
+          pub together_given : (right : Place) → Expects (mark_by kind.RightBrace (counted d 0)) tokens y.1 (Ok right) → SettlesFrom (together_family word d) tokens at at (Took (CoreTogether word place (view x.0) left (statement_row (view_list y.0)) right) (drop (y.1 + 1) tokens))
+          together_given right h = ends (together_family word d) tokens at at _ (y.1 + 1) (mark_step (together_family word d) tokens at at kind.RightBrace _ _ y.1 (y.1 + 1) right (omega arith) h.0 together_statements_read)
+
+-- branch = [ guard ":" ] stmt; inner is the depth of its statement
+module _ (tokens : List Token) (at d : ℕ) (started : 1 ≤ at) (inner : ℕ) (deeper : inner ≡ suc d) where
+  pub branch_guard_fails : (e : SyntaxFault) → FailsFrom (maybe_guard_family d) tokens at at e → FailsFrom (branch_family d) tokens (at - 1) at e
+  branch_guard_fails e h = fails (branch_family d) tokens (at - 1) at (maybe_guard_family d) _ at at e (omega arith) h (begin (branch_family d) tokens (at - 1) at)
+
+  module _ {X : Type 0} {view : X → Option GuardTree} {x : X × ℕ} (guard : Read view (maybe_guard_family d) tokens at at 0 x) where
+    branch_guard_read : Reaches (branch_family d) tokens (at - 1) at (λ m n. statement_at m d >>= (λ s. Done (MakeBranch (view x.0) s))) x.1
+    branch_guard_read = step (branch_family d) tokens (at - 1) at (maybe_guard_family d) _ at at x.1 (view x.0) (omega arith) (omega (arith, guard.after)) guard.settles (begin (branch_family d) tokens (at - 1) at)
+
+    pub branch_statement_fails : (e : SyntaxFault) → FailsFrom (statement_family inner) tokens x.1 x.1 e → FailsFrom (branch_family d) tokens (at - 1) at e
+    branch_statement_fails e h = fails (branch_family d) tokens (at - 1) at (λ m n. statement_at m d) _ (at - 1) x.1 e (omega arith) (statement_nested_fails tokens (at - 1) x.1 inner d deeper e (omega (arith, started, guard.after)) guard.inside h) branch_guard_read
+
+    pub branch_given : {Y : Type 0} {view_statement : Y → StatementTree} {y : Y × ℕ} → ReadOpen view_statement statement_ends_open (statement_family inner) tokens x.1 x.1 y → SettlesFrom (branch_family d) tokens (at - 1) at (Took (MakeBranch (view x.0) (view_statement y.0)) (drop y.1 tokens))
+    branch_given {Y} {view_statement} {y} s =
+        ends (branch_family d) tokens (at - 1) at _ y.1
+        (step (branch_family d) tokens (at - 1) at (λ m n. statement_at m d) _ (at - 1) x.1 y.1 (view_statement y.0) (omega arith)
+        (omega (arith, s.after))
+        (statement_nested tokens (at - 1) x.1 inner d deeper _ (omega (arith, started, guard.after)) guard.inside s.settles) branch_guard_read)
+
+-- "select" "{" branch { branch } "}"
+module _ (tokens : List Token) (at d : ℕ) where
+  pub select_word_fails : (e : SyntaxFault) → at ≤ length tokens → Expects (mark_by kind.Select (counted d 0)) tokens at (Err e) → FailsFrom (select_family d) tokens at at e
+  select_word_fails e le h = mark_fails (select_family d) tokens at at kind.Select _ _ at e le h (begin (select_family d) tokens at at)
+
+  module _ (word : Place) (found : Expects (mark_by kind.Select (counted d 0)) tokens at (Ok word)) where
+    select_word_read : Reaches (select_family d) tokens at at (λ m n. mark_by kind.LeftBrace (counted d 0) >>= (λ l. branch_family d m n >>= (λ b. branch_row_family d m n >>= (λ bs. mark_by kind.RightBrace (counted d 0) >>= (λ r. Done (CoreSelect word l b bs r)))))) (at + 1)
+    select_word_read = mark_step (select_family d) tokens at at kind.Select _ _ at (at + 1) word (omega arith) found.0 (begin (select_family d) tokens at at)
 
-  pub sequence_core_right_brace_fails : (sequence : Option Place) → (behind : ℕ) → (sequence_more : at + 0 ≤ behind) → (sequence_inside : behind ≤ length tokens) → (sequence_settles : SettlesFrom (maybe_sequence_word_family d) tokens (at) (at) (Took sequence (drop behind tokens))) → (left_brace : Place) → (left_brace_taken : run is_over (mark_by kind.LeftBrace (counted d 0)) (drop (behind) tokens) ≡ Took left_brace (drop (behind + 1) tokens)) → (left_brace_inside : behind + 1 ≤ length tokens) → (statements : List StatementTree) → (after : ℕ) → (statements_more : behind + 1 + 0 ≤ after) → (statements_inside : after ≤ length tokens) → (statements_settles : SettlesFrom (statements_family d) tokens (behind + 1 - 1) (behind + 1) (Took statements (drop after tokens))) → (e : SyntaxFault) → after ≤ length tokens → Expects (mark_by kind.RightBrace (counted d 0)) tokens (after) (Err e) → FailsFrom (sequence_family d) tokens at at e
-  sequence_core_right_brace_fails sequence behind sequence_more sequence_inside sequence_settles left_brace left_brace_taken left_brace_inside statements after statements_more statements_inside statements_settles e le h = mark_fails (sequence_family d) tokens at at kind.RightBrace _ _ (after) e le h (step (sequence_family d) tokens at at (statement_row_family d) _ (behind + 1 - 1) (behind + 1) after (statement_row statements) (omega arith) (omega arith) (row_settles tokens (behind + 1 - 1) (behind + 1) statement_row (statements_family d) statements after statements_settles) (mark_step (sequence_family d) tokens at at kind.LeftBrace _ _ (behind) (behind + 1) left_brace (omega arith) left_brace_taken (step (sequence_family d) tokens at at (maybe_sequence_word_family d) _ (at) (at) behind sequence (omega arith) (omega arith) sequence_settles (begin (sequence_family d) tokens at at))))
+    pub select_brace_fails : (e : SyntaxFault) → Expects (mark_by kind.LeftBrace (counted d 0)) tokens (at + 1) (Err e) → FailsFrom (select_family d) tokens at at e
+    select_brace_fails e h = mark_fails (select_family d) tokens at at kind.LeftBrace _ _ (at + 1) e found.1 h select_word_read
+
+    module _ (left : Place) (opened : Expects (mark_by kind.LeftBrace (counted d 0)) tokens (at + 1) (Ok left)) where
+      select_brace_read : Reaches (select_family d) tokens at at (λ m n. branch_family d m n >>= (λ b. branch_row_family d m n >>= (λ bs. mark_by kind.RightBrace (counted d 0) >>= (λ r. Done (CoreSelect word left b bs r))))) (at + 2)
+      select_brace_read = mark_step (select_family d) tokens at at kind.LeftBrace _ _ (at + 1) (at + 2) left (omega arith) opened.0 select_word_read
 
-  pub sequence_core_given : (sequence : Option Place) → (behind : ℕ) → (sequence_more : at + 0 ≤ behind) → (sequence_inside : behind ≤ length tokens) → (sequence_settles : SettlesFrom (maybe_sequence_word_family d) tokens (at) (at) (Took sequence (drop behind tokens))) → (left_brace : Place) → (left_brace_taken : run is_over (mark_by kind.LeftBrace (counted d 0)) (drop (behind) tokens) ≡ Took left_brace (drop (behind + 1) tokens)) → (left_brace_inside : behind + 1 ≤ length tokens) → (statements : List StatementTree) → (after : ℕ) → (statements_more : behind + 1 + 0 ≤ after) → (statements_inside : after ≤ length tokens) → (statements_settles : SettlesFrom (statements_family d) tokens (behind + 1 - 1) (behind + 1) (Took statements (drop after tokens))) → (right_brace : Place) → (right_brace_taken : run is_over (mark_by kind.RightBrace (counted d 0)) (drop (after) tokens) ≡ Took right_brace (drop (after + 1) tokens)) → (right_brace_inside : after + 1 ≤ length tokens) → SettlesFrom (sequence_family d) tokens at at (Took (CoreSequence sequence left_brace (statement_row statements) right_brace) (drop (after + 1) tokens))
-  sequence_core_given sequence behind sequence_more sequence_inside sequence_settles left_brace left_brace_taken left_brace_inside statements after statements_more statements_inside statements_settles right_brace right_brace_taken right_brace_inside = ends (sequence_family d) tokens at at _ (after + 1) (mark_step (sequence_family d) tokens at at kind.RightBrace _ _ (after) (after + 1) right_brace (omega arith) right_brace_taken (step (sequence_family d) tokens at at (statement_row_family d) _ (behind + 1 - 1) (behind + 1) after (statement_row statements) (omega arith) (omega arith) (row_settles tokens (behind + 1 - 1) (behind + 1) statement_row (statements_family d) statements after statements_settles) (mark_step (sequence_family d) tokens at at kind.LeftBrace _ _ (behind) (behind + 1) left_brace (omega arith) left_brace_taken (step (sequence_family d) tokens at at (maybe_sequence_word_family d) _ (at) (at) behind sequence (omega arith) (omega arith) sequence_settles (begin (sequence_family d) tokens at at)))))
+      pub select_first_fails : (e : SyntaxFault) → FailsFrom (branch_family d) tokens (at + 2 - 1) (at + 2) e → FailsFrom (select_family d) tokens at at e
+      select_first_fails e h = fails (select_family d) tokens at at (branch_family d) _ (at + 2 - 1) (at + 2) e (omega arith) h select_brace_read
+
+      module _ {X : Type 0} {view : X → BranchTree} {x : X × ℕ} (first : Read view (branch_family d) tokens (at + 2 - 1) (at + 2) 1 x) where
+        select_first_read : Reaches (select_family d) tokens at at (λ m n. branch_row_family d m n >>= (λ bs. mark_by kind.RightBrace (counted d 0) >>= (λ r. Done (CoreSelect word left (view x.0) bs r)))) x.1
+        select_first_read = step (select_family d) tokens at at (branch_family d) _ (at + 2 - 1) (at + 2) x.1 (view x.0) (omega arith) (omega (arith, first.after)) first.settles select_brace_read
 
-  pub together_core_place_fails : (word : TogetherWord) → (e : SyntaxFault) → at ≤ length tokens → Expects (mark_by (together_word_kind word) (counted d 0)) tokens (at) (Err e) → FailsFrom (together_family word d) tokens at at e
-  together_core_place_fails word e le h = mark_fails (together_family word d) tokens at at (together_word_kind word) _ _ (at) e le h (begin (together_family word d) tokens at at)
-
-  pub together_core_join_fails : (word : TogetherWord) → (place : Place) → (place_taken : run is_over (mark_by (together_word_kind word) (counted d 0)) (drop (at) tokens) ≡ Took place (drop (at + 1) tokens)) → (place_inside : at + 1 ≤ length tokens) → at + 1 ≤ length tokens → (e : SyntaxFault) → FailsFrom (maybe_join_family d) tokens (at + 1) (at + 1) e → FailsFrom (together_family word d) tokens at at e
-  together_core_join_fails word place place_taken place_inside le e h = fails (together_family word d) tokens at at (maybe_join_family d) _ (at + 1) (at + 1) e (omega arith) h (mark_step (together_family word d) tokens at at (together_word_kind word) _ _ (at) (at + 1) place (omega arith) place_taken (begin (together_family word d) tokens at at))
-
-  pub together_core_left_brace_fails : (word : TogetherWord) → (place : Place) → (place_taken : run is_over (mark_by (together_word_kind word) (counted d 0)) (drop (at) tokens) ≡ Took place (drop (at + 1) tokens)) → (place_inside : at + 1 ≤ length tokens) → (join : Option JoinTree) → (behind : ℕ) → (join_more : at + 1 + 0 ≤ behind) → (join_inside : behind ≤ length tokens) → (join_settles : SettlesFrom (maybe_join_family d) tokens (at + 1) (at + 1) (Took join (drop behind tokens))) → (e : SyntaxFault) → behind ≤ length tokens → Expects (mark_by kind.LeftBrace (counted d 0)) tokens (behind) (Err e) → FailsFrom (together_family word d) tokens at at e
-  together_core_left_brace_fails word place place_taken place_inside join behind join_more join_inside join_settles e le h = mark_fails (together_family word d) tokens at at kind.LeftBrace _ _ (behind) e le h (step (together_family word d) tokens at at (maybe_join_family d) _ (at + 1) (at + 1) behind join (omega arith) (omega arith) join_settles (mark_step (together_family word d) tokens at at (together_word_kind word) _ _ (at) (at + 1) place (omega arith) place_taken (begin (together_family word d) tokens at at)))
-
-  pub together_core_statements_fails : (word : TogetherWord) → (place : Place) → (place_taken : run is_over (mark_by (together_word_kind word) (counted d 0)) (drop (at) tokens) ≡ Took place (drop (at + 1) tokens)) → (place_inside : at + 1 ≤ length tokens) → (join : Option JoinTree) → (behind : ℕ) → (join_more : at + 1 + 0 ≤ behind) → (join_inside : behind ≤ length tokens) → (join_settles : SettlesFrom (maybe_join_family d) tokens (at + 1) (at + 1) (Took join (drop behind tokens))) → (left_brace : Place) → (left_brace_taken : run is_over (mark_by kind.LeftBrace (counted d 0)) (drop (behind) tokens) ≡ Took left_brace (drop (behind + 1) tokens)) → (left_brace_inside : behind + 1 ≤ length tokens) → behind + 1 ≤ length tokens → (e : SyntaxFault) → FailsFrom (statements_family d) tokens (behind + 1 - 1) (behind + 1) e → FailsFrom (together_family word d) tokens at at e
-  together_core_statements_fails word place place_taken place_inside join behind join_more join_inside join_settles left_brace left_brace_taken left_brace_inside le e h = fails (together_family word d) tokens at at (statement_row_family d) _ (behind + 1 - 1) (behind + 1) e (omega arith) (row_fails tokens (behind + 1 - 1) (behind + 1) statement_row (statements_family d) e h) (mark_step (together_family word d) tokens at at kind.LeftBrace _ _ (behind) (behind + 1) left_brace (omega arith) left_brace_taken (step (together_family word d) tokens at at (maybe_join_family d) _ (at + 1) (at + 1) behind join (omega arith) (omega arith) join_settles (mark_step (together_family word d) tokens at at (together_word_kind word) _ _ (at) (at + 1) place (omega arith) place_taken (begin (together_family word d) tokens at at))))
-
-  pub together_core_right_brace_fails : (word : TogetherWord) → (place : Place) → (place_taken : run is_over (mark_by (together_word_kind word) (counted d 0)) (drop (at) tokens) ≡ Took place (drop (at + 1) tokens)) → (place_inside : at + 1 ≤ length tokens) → (join : Option JoinTree) → (behind : ℕ) → (join_more : at + 1 + 0 ≤ behind) → (join_inside : behind ≤ length tokens) → (join_settles : SettlesFrom (maybe_join_family d) tokens (at + 1) (at + 1) (Took join (drop behind tokens))) → (left_brace : Place) → (left_brace_taken : run is_over (mark_by kind.LeftBrace (counted d 0)) (drop (behind) tokens) ≡ Took left_brace (drop (behind + 1) tokens)) → (left_brace_inside : behind + 1 ≤ length tokens) → (statements : List StatementTree) → (after : ℕ) → (statements_more : behind + 1 + 0 ≤ after) → (statements_inside : after ≤ length tokens) → (statements_settles : SettlesFrom (statements_family d) tokens (behind + 1 - 1) (behind + 1) (Took statements (drop after tokens))) → (e : SyntaxFault) → after ≤ length tokens → Expects (mark_by kind.RightBrace (counted d 0)) tokens (after) (Err e) → FailsFrom (together_family word d) tokens at at e
-  together_core_right_brace_fails word place place_taken place_inside join behind join_more join_inside join_settles left_brace left_brace_taken left_brace_inside statements after statements_more statements_inside statements_settles e le h = mark_fails (together_family word d) tokens at at kind.RightBrace _ _ (after) e le h (step (together_family word d) tokens at at (statement_row_family d) _ (behind + 1 - 1) (behind + 1) after (statement_row statements) (omega arith) (omega arith) (row_settles tokens (behind + 1 - 1) (behind + 1) statement_row (statements_family d) statements after statements_settles) (mark_step (together_family word d) tokens at at kind.LeftBrace _ _ (behind) (behind + 1) left_brace (omega arith) left_brace_taken (step (together_family word d) tokens at at (maybe_join_family d) _ (at + 1) (at + 1) behind join (omega arith) (omega arith) join_settles (mark_step (together_family word d) tokens at at (together_word_kind word) _ _ (at) (at + 1) place (omega arith) place_taken (begin (together_family word d) tokens at at)))))
-
-  pub together_core_given : (word : TogetherWord) → (place : Place) → (place_taken : run is_over (mark_by (together_word_kind word) (counted d 0)) (drop (at) tokens) ≡ Took place (drop (at + 1) tokens)) → (place_inside : at + 1 ≤ length tokens) → (join : Option JoinTree) → (behind : ℕ) → (join_more : at + 1 + 0 ≤ behind) → (join_inside : behind ≤ length tokens) → (join_settles : SettlesFrom (maybe_join_family d) tokens (at + 1) (at + 1) (Took join (drop behind tokens))) → (left_brace : Place) → (left_brace_taken : run is_over (mark_by kind.LeftBrace (counted d 0)) (drop (behind) tokens) ≡ Took left_brace (drop (behind + 1) tokens)) → (left_brace_inside : behind + 1 ≤ length tokens) → (statements : List StatementTree) → (after : ℕ) → (statements_more : behind + 1 + 0 ≤ after) → (statements_inside : after ≤ length tokens) → (statements_settles : SettlesFrom (statements_family d) tokens (behind + 1 - 1) (behind + 1) (Took statements (drop after tokens))) → (right_brace : Place) → (right_brace_taken : run is_over (mark_by kind.RightBrace (counted d 0)) (drop (after) tokens) ≡ Took right_brace (drop (after + 1) tokens)) → (right_brace_inside : after + 1 ≤ length tokens) → SettlesFrom (together_family word d) tokens at at (Took (CoreTogether word place join left_brace (statement_row statements) right_brace) (drop (after + 1) tokens))
-  together_core_given word place place_taken place_inside join behind join_more join_inside join_settles left_brace left_brace_taken left_brace_inside statements after statements_more statements_inside statements_settles right_brace right_brace_taken right_brace_inside = ends (together_family word d) tokens at at _ (after + 1) (mark_step (together_family word d) tokens at at kind.RightBrace _ _ (after) (after + 1) right_brace (omega arith) right_brace_taken (step (together_family word d) tokens at at (statement_row_family d) _ (behind + 1 - 1) (behind + 1) after (statement_row statements) (omega arith) (omega arith) (row_settles tokens (behind + 1 - 1) (behind + 1) statement_row (statements_family d) statements after statements_settles) (mark_step (together_family word d) tokens at at kind.LeftBrace _ _ (behind) (behind + 1) left_brace (omega arith) left_brace_taken (step (together_family word d) tokens at at (maybe_join_family d) _ (at + 1) (at + 1) behind join (omega arith) (omega arith) join_settles (mark_step (together_family word d) tokens at at (together_word_kind word) _ _ (at) (at + 1) place (omega arith) place_taken (begin (together_family word d) tokens at at))))))
-
-  pub branch_guard_fails : (started : 1 ≤ at) → (inner : ℕ) → (deeper : inner ≡ suc d) → at ≤ length tokens → (e : SyntaxFault) → FailsFrom (maybe_guard_family d) tokens (at) (at) e → FailsFrom (branch_family d) tokens (at - 1) at e
-  branch_guard_fails started inner deeper le e h = fails (branch_family d) tokens (at - 1) at (maybe_guard_family d) _ (at) (at) e (omega arith) h (begin (branch_family d) tokens (at - 1) at)
-
-  pub branch_statement_fails : (started : 1 ≤ at) → (inner : ℕ) → (deeper : inner ≡ suc d) → (guard : Option GuardTree) → (behind : ℕ) → (guard_more : at + 0 ≤ behind) → (guard_inside : behind ≤ length tokens) → (guard_settles : SettlesFrom (maybe_guard_family d) tokens (at) (at) (Took guard (drop behind tokens))) → behind ≤ length tokens → (e : SyntaxFault) → FailsFrom (statement_family inner) tokens (behind) (behind) e → FailsFrom (branch_family d) tokens (at - 1) at e
-  branch_statement_fails started inner deeper guard behind guard_more guard_inside guard_settles le e h = fails (branch_family d) tokens (at - 1) at (λ m n. statement_at m d) _ (at - 1) (behind) e (omega arith) (statement_nested_fails tokens (at - 1) (behind) inner d deeper e (omega arith) (omega arith) h) (step (branch_family d) tokens (at - 1) at (maybe_guard_family d) _ (at) (at) behind guard (omega arith) (omega arith) guard_settles (begin (branch_family d) tokens (at - 1) at))
-
-  pub branch_given : (started : 1 ≤ at) → (inner : ℕ) → (deeper : inner ≡ suc d) → (guard : Option GuardTree) → (behind : ℕ) → (guard_more : at + 0 ≤ behind) → (guard_inside : behind ≤ length tokens) → (guard_settles : SettlesFrom (maybe_guard_family d) tokens (at) (at) (Took guard (drop behind tokens))) → (statement : StatementTree) → (after : ℕ) → (statement_more : behind + 1 ≤ after) → (statement_inside : after ≤ length tokens) → (statement_settles : SettlesFrom (statement_family inner) tokens (behind) (behind) (Took statement (drop after tokens))) → SettlesFrom (branch_family d) tokens (at - 1) at (Took (MakeBranch guard statement) (drop (after) tokens))
-  branch_given started inner deeper guard behind guard_more guard_inside guard_settles statement after statement_more statement_inside statement_settles = ends (branch_family d) tokens (at - 1) at _ (after) (step (branch_family d) tokens (at - 1) at (λ m n. statement_at m d) _ (at - 1) (behind) after statement (omega arith) (omega arith) (statement_nested tokens (at - 1) (behind) inner d deeper _ (omega arith) (omega arith) statement_settles) (step (branch_family d) tokens (at - 1) at (maybe_guard_family d) _ (at) (at) behind guard (omega arith) (omega arith) guard_settles (begin (branch_family d) tokens (at - 1) at)))
-
-  pub select_core_select_fails : (e : SyntaxFault) → at ≤ length tokens → Expects (mark_by kind.Select (counted d 0)) tokens (at) (Err e) → FailsFrom (select_family d) tokens at at e
-  select_core_select_fails e le h = mark_fails (select_family d) tokens at at kind.Select _ _ (at) e le h (begin (select_family d) tokens at at)
-
-  pub select_core_left_brace_fails : (select : Place) → (select_taken : run is_over (mark_by kind.Select (counted d 0)) (drop (at) tokens) ≡ Took select (drop (at + 1) tokens)) → (select_inside : at + 1 ≤ length tokens) → (e : SyntaxFault) → at + 1 ≤ length tokens → Expects (mark_by kind.LeftBrace (counted d 0)) tokens (at + 1) (Err e) → FailsFrom (select_family d) tokens at at e
-  select_core_left_brace_fails select select_taken select_inside e le h = mark_fails (select_family d) tokens at at kind.LeftBrace _ _ (at + 1) e le h (mark_step (select_family d) tokens at at kind.Select _ _ (at) (at + 1) select (omega arith) select_taken (begin (select_family d) tokens at at))
-
-  pub select_core_first_fails : (select : Place) → (select_taken : run is_over (mark_by kind.Select (counted d 0)) (drop (at) tokens) ≡ Took select (drop (at + 1) tokens)) → (select_inside : at + 1 ≤ length tokens) → (left_brace : Place) → (left_brace_taken : run is_over (mark_by kind.LeftBrace (counted d 0)) (drop (at + 1) tokens) ≡ Took left_brace (drop (at + 1 + 1) tokens)) → (left_brace_inside : at + 1 + 1 ≤ length tokens) → at + 2 ≤ length tokens → (e : SyntaxFault) → FailsFrom (branch_family d) tokens (at + 2 - 1) (at + 2) e → FailsFrom (select_family d) tokens at at e
-  select_core_first_fails select select_taken select_inside left_brace left_brace_taken left_brace_inside le e h = fails (select_family d) tokens at at (branch_family d) _ (at + 2 - 1) (at + 2) e (omega arith) h (mark_step (select_family d) tokens at at kind.LeftBrace _ _ (at + 1) (at + 2) left_brace (omega arith) left_brace_taken (mark_step (select_family d) tokens at at kind.Select _ _ (at) (at + 1) select (omega arith) select_taken (begin (select_family d) tokens at at)))
-
-  pub select_core_rest_fails : (select : Place) → (select_taken : run is_over (mark_by kind.Select (counted d 0)) (drop (at) tokens) ≡ Took select (drop (at + 1) tokens)) → (select_inside : at + 1 ≤ length tokens) → (left_brace : Place) → (left_brace_taken : run is_over (mark_by kind.LeftBrace (counted d 0)) (drop (at + 1) tokens) ≡ Took left_brace (drop (at + 1 + 1) tokens)) → (left_brace_inside : at + 1 + 1 ≤ length tokens) → (first : BranchTree) → (behind : ℕ) → (first_more : at + 2 + 1 ≤ behind) → (first_inside : behind ≤ length tokens) → (first_settles : SettlesFrom (branch_family d) tokens (at + 2 - 1) (at + 2) (Took first (drop behind tokens))) → behind ≤ length tokens → (e : SyntaxFault) → FailsFrom (branches_family d) tokens (behind - 1) (behind) e → FailsFrom (select_family d) tokens at at e
-  select_core_rest_fails select select_taken select_inside left_brace left_brace_taken left_brace_inside first behind first_more first_inside first_settles le e h = fails (select_family d) tokens at at (branch_row_family d) _ (behind - 1) (behind) e (omega arith) (row_fails tokens (behind - 1) (behind) branch_row (branches_family d) e h) (step (select_family d) tokens at at (branch_family d) _ (at + 2 - 1) (at + 2) behind first (omega arith) (omega arith) first_settles (mark_step (select_family d) tokens at at kind.LeftBrace _ _ (at + 1) (at + 2) left_brace (omega arith) left_brace_taken (mark_step (select_family d) tokens at at kind.Select _ _ (at) (at + 1) select (omega arith) select_taken (begin (select_family d) tokens at at))))
-
-  pub select_core_right_brace_fails : (select : Place) → (select_taken : run is_over (mark_by kind.Select (counted d 0)) (drop (at) tokens) ≡ Took select (drop (at + 1) tokens)) → (select_inside : at + 1 ≤ length tokens) → (left_brace : Place) → (left_brace_taken : run is_over (mark_by kind.LeftBrace (counted d 0)) (drop (at + 1) tokens) ≡ Took left_brace (drop (at + 1 + 1) tokens)) → (left_brace_inside : at + 1 + 1 ≤ length tokens) → (first : BranchTree) → (behind : ℕ) → (first_more : at + 2 + 1 ≤ behind) → (first_inside : behind ≤ length tokens) → (first_settles : SettlesFrom (branch_family d) tokens (at + 2 - 1) (at + 2) (Took first (drop behind tokens))) → (rest : List BranchTree) → (after : ℕ) → (rest_more : behind + 0 ≤ after) → (rest_inside : after ≤ length tokens) → (rest_settles : SettlesFrom (branches_family d) tokens (behind - 1) (behind) (Took rest (drop after tokens))) → (e : SyntaxFault) → after ≤ length tokens → Expects (mark_by kind.RightBrace (counted d 0)) tokens (after) (Err e) → FailsFrom (select_family d) tokens at at e
-  select_core_right_brace_fails select select_taken select_inside left_brace left_brace_taken left_brace_inside first behind first_more first_inside first_settles rest after rest_more rest_inside rest_settles e le h = mark_fails (select_family d) tokens at at kind.RightBrace _ _ (after) e le h (step (select_family d) tokens at at (branch_row_family d) _ (behind - 1) (behind) after (branch_row rest) (omega arith) (omega arith) (row_settles tokens (behind - 1) (behind) branch_row (branches_family d) rest after rest_settles) (step (select_family d) tokens at at (branch_family d) _ (at + 2 - 1) (at + 2) behind first (omega arith) (omega arith) first_settles (mark_step (select_family d) tokens at at kind.LeftBrace _ _ (at + 1) (at + 2) left_brace (omega arith) left_brace_taken (mark_step (select_family d) tokens at at kind.Select _ _ (at) (at + 1) select (omega arith) select_taken (begin (select_family d) tokens at at)))))
-
-  pub select_core_given : (select : Place) → (select_taken : run is_over (mark_by kind.Select (counted d 0)) (drop (at) tokens) ≡ Took select (drop (at + 1) tokens)) → (select_inside : at + 1 ≤ length tokens) → (left_brace : Place) → (left_brace_taken : run is_over (mark_by kind.LeftBrace (counted d 0)) (drop (at + 1) tokens) ≡ Took left_brace (drop (at + 1 + 1) tokens)) → (left_brace_inside : at + 1 + 1 ≤ length tokens) → (first : BranchTree) → (behind : ℕ) → (first_more : at + 2 + 1 ≤ behind) → (first_inside : behind ≤ length tokens) → (first_settles : SettlesFrom (branch_family d) tokens (at + 2 - 1) (at + 2) (Took first (drop behind tokens))) → (rest : List BranchTree) → (after : ℕ) → (rest_more : behind + 0 ≤ after) → (rest_inside : after ≤ length tokens) → (rest_settles : SettlesFrom (branches_family d) tokens (behind - 1) (behind) (Took rest (drop after tokens))) → (right_brace : Place) → (right_brace_taken : run is_over (mark_by kind.RightBrace (counted d 0)) (drop (after) tokens) ≡ Took right_brace (drop (after + 1) tokens)) → (right_brace_inside : after + 1 ≤ length tokens) → SettlesFrom (select_family d) tokens at at (Took (CoreSelect select left_brace first (branch_row rest) right_brace) (drop (after + 1) tokens))
-  select_core_given select select_taken select_inside left_brace left_brace_taken left_brace_inside first behind first_more first_inside first_settles rest after rest_more rest_inside rest_settles right_brace right_brace_taken right_brace_inside = ends (select_family d) tokens at at _ (after + 1) (mark_step (select_family d) tokens at at kind.RightBrace _ _ (after) (after + 1) right_brace (omega arith) right_brace_taken (step (select_family d) tokens at at (branch_row_family d) _ (behind - 1) (behind) after (branch_row rest) (omega arith) (omega arith) (row_settles tokens (behind - 1) (behind) branch_row (branches_family d) rest after rest_settles) (step (select_family d) tokens at at (branch_family d) _ (at + 2 - 1) (at + 2) behind first (omega arith) (omega arith) first_settles (mark_step (select_family d) tokens at at kind.LeftBrace _ _ (at + 1) (at + 2) left_brace (omega arith) left_brace_taken (mark_step (select_family d) tokens at at kind.Select _ _ (at) (at + 1) select (omega arith) select_taken (begin (select_family d) tokens at at))))))
-
-  pub repeat_core_repeat_fails : (inner : ℕ) → (deeper : inner ≡ suc d) → (e : SyntaxFault) → at ≤ length tokens → Expects (mark_by kind.Repeat (counted d 0)) tokens (at) (Err e) → FailsFrom (repeated_family d) tokens at at e
-  repeat_core_repeat_fails inner deeper e le h = mark_fails (repeated_family d) tokens at at kind.Repeat _ _ (at) e le h (begin (repeated_family d) tokens at at)
-
-  module _ (inner : ℕ) (deeper : inner ≡ suc d) (repeat : Place) (taken : run is_over (mark_by kind.Repeat (counted d 0)) (drop at tokens) ≡ Took repeat (drop (at + 1) tokens)) where
-    repeat_read : Reaches (repeated_family d) tokens at at (λ m n. followed_by (times_by (outermost_at (suc m)) d) (λ t. followed_by (statement_at m d) (λ s. Done (CoreRepeat repeat t.0 t.1 t.2 t.3 s)))) (at + 1)
-    repeat_read = mark_step (repeated_family d) tokens at at kind.Repeat _ _ at (at + 1) repeat (omega arith) taken (begin (repeated_family d) tokens at at)
-
-    pub repeat_core_times_fails : (e : SyntaxFault) → FailsFrom (times_family d) tokens (at + 1) (at + 1) e → FailsFrom (repeated_family d) tokens at at e
-    repeat_core_times_fails e h = fails (repeated_family d) tokens at at (times_family d) _ (at + 1) (at + 1) e (omega arith) h repeat_read
-
-    module _ (times : TimesTree) (behind : ℕ) (more : at + 1 + 1 ≤ behind) (inside : behind ≤ length tokens) (given : SettlesFrom (times_family d) tokens (at + 1) (at + 1) (Took times (drop behind tokens))) where
-      times_read : Reaches (repeated_family d) tokens at at (λ m n. followed_by (statement_at m d) (λ s. Done (CoreRepeat repeat times.0 times.1 times.2 times.3 s))) behind
-      times_read = step (repeated_family d) tokens at at (times_family d) _ (at + 1) (at + 1) behind times (omega arith) (omega (arith, more)) given repeat_read
-
-      pub repeat_core_repeated_fails : (e : SyntaxFault) → FailsFrom (statement_family inner) tokens behind behind e → FailsFrom (repeated_family d) tokens at at e
-      repeat_core_repeated_fails e h = fails (repeated_family d) tokens at at (λ m n. statement_at m d) _ at behind e (omega arith) (statement_nested_fails tokens at behind inner d deeper e (omega (arith, more)) inside h) times_read
-
-      pub repeat_core_given : (s : StatementTree) (after : ℕ) → behind + 1 ≤ after → SettlesFrom (statement_family inner) tokens behind behind (Took s (drop after tokens)) → SettlesFrom (repeated_family d) tokens at at (Took (CoreRepeat repeat times.0 times.1 times.2 times.3 s) (drop after tokens))
-      repeat_core_given s after le h = ends (repeated_family d) tokens at at _ after (step (repeated_family d) tokens at at (λ m n. statement_at m d) _ at behind after s (omega arith) (omega (arith, le)) (statement_nested tokens at behind inner d deeper _ (omega (arith, more)) inside h) times_read)
-
-  pub only_if__fails : (inner : ℕ) → (deeper : inner ≡ suc d) → (e : SyntaxFault) → at ≤ length tokens → Expects (mark_by kind.If (counted d 0)) tokens (at) (Err e) → FailsFrom (if_family d) tokens at at e
-  only_if__fails inner deeper e le h = mark_fails (if_family d) tokens at at kind.If _ _ (at) e le h (begin (if_family d) tokens at at)
-
-  pub only_left_parenthesis_fails : (inner : ℕ) → (deeper : inner ≡ suc d) → (if_ : Place) → (if__taken : run is_over (mark_by kind.If (counted d 0)) (drop (at) tokens) ≡ Took if_ (drop (at + 1) tokens)) → (if__inside : at + 1 ≤ length tokens) → (e : SyntaxFault) → at + 1 ≤ length tokens → Expects (mark_by kind.LeftParenthesis (counted d 0)) tokens (at + 1) (Err e) → FailsFrom (if_family d) tokens at at e
-  only_left_parenthesis_fails inner deeper if_ if__taken if__inside e le h = mark_fails (if_family d) tokens at at kind.LeftParenthesis _ _ (at + 1) e le h (mark_step (if_family d) tokens at at kind.If _ _ (at) (at + 1) if_ (omega arith) if__taken (begin (if_family d) tokens at at))
-
-  pub only_condition_fails : (inner : ℕ) → (deeper : inner ≡ suc d) → (if_ : Place) → (if__taken : run is_over (mark_by kind.If (counted d 0)) (drop (at) tokens) ≡ Took if_ (drop (at + 1) tokens)) → (if__inside : at + 1 ≤ length tokens) → (left_parenthesis : Place) → (left_parenthesis_taken : run is_over (mark_by kind.LeftParenthesis (counted d 0)) (drop (at + 1) tokens) ≡ Took left_parenthesis (drop (at + 1 + 1) tokens)) → (left_parenthesis_inside : at + 1 + 1 ≤ length tokens) → at + 2 ≤ length tokens → (e : SyntaxFault) → FailsFrom (outermost_family d) tokens (at + 2) (at + 2) e → FailsFrom (if_family d) tokens at at e
-  only_condition_fails inner deeper if_ if__taken if__inside left_parenthesis left_parenthesis_taken left_parenthesis_inside le e h = fails (if_family d) tokens at at (outermost_family d) _ (at + 2) (at + 2) e (omega arith) h (mark_step (if_family d) tokens at at kind.LeftParenthesis _ _ (at + 1) (at + 2) left_parenthesis (omega arith) left_parenthesis_taken (mark_step (if_family d) tokens at at kind.If _ _ (at) (at + 1) if_ (omega arith) if__taken (begin (if_family d) tokens at at)))
-
-  pub only_right_parenthesis_fails : (inner : ℕ) → (deeper : inner ≡ suc d) → (if_ : Place) → (if__taken : run is_over (mark_by kind.If (counted d 0)) (drop (at) tokens) ≡ Took if_ (drop (at + 1) tokens)) → (if__inside : at + 1 ≤ length tokens) → (left_parenthesis : Place) → (left_parenthesis_taken : run is_over (mark_by kind.LeftParenthesis (counted d 0)) (drop (at + 1) tokens) ≡ Took left_parenthesis (drop (at + 1 + 1) tokens)) → (left_parenthesis_inside : at + 1 + 1 ≤ length tokens) → (condition : ExprTree) → (behind : ℕ) → (condition_more : at + 2 + 1 ≤ behind) → (condition_inside : behind ≤ length tokens) → (condition_settles : SettlesFrom (outermost_family d) tokens (at + 2) (at + 2) (Took condition (drop behind tokens))) → (e : SyntaxFault) → behind ≤ length tokens → Expects (mark_by kind.RightParenthesis (counted d 0)) tokens (behind) (Err e) → FailsFrom (if_family d) tokens at at e
-  only_right_parenthesis_fails inner deeper if_ if__taken if__inside left_parenthesis left_parenthesis_taken left_parenthesis_inside condition behind condition_more condition_inside condition_settles e le h = mark_fails (if_family d) tokens at at kind.RightParenthesis _ _ (behind) e le h (step (if_family d) tokens at at (outermost_family d) _ (at + 2) (at + 2) behind condition (omega arith) (omega arith) condition_settles (mark_step (if_family d) tokens at at kind.LeftParenthesis _ _ (at + 1) (at + 2) left_parenthesis (omega arith) left_parenthesis_taken (mark_step (if_family d) tokens at at kind.If _ _ (at) (at + 1) if_ (omega arith) if__taken (begin (if_family d) tokens at at))))
-
-  pub only_holds_fails : (inner : ℕ) → (deeper : inner ≡ suc d) → (if_ : Place) → (if__taken : run is_over (mark_by kind.If (counted d 0)) (drop (at) tokens) ≡ Took if_ (drop (at + 1) tokens)) → (if__inside : at + 1 ≤ length tokens) → (left_parenthesis : Place) → (left_parenthesis_taken : run is_over (mark_by kind.LeftParenthesis (counted d 0)) (drop (at + 1) tokens) ≡ Took left_parenthesis (drop (at + 1 + 1) tokens)) → (left_parenthesis_inside : at + 1 + 1 ≤ length tokens) → (condition : ExprTree) → (behind : ℕ) → (condition_more : at + 2 + 1 ≤ behind) → (condition_inside : behind ≤ length tokens) → (condition_settles : SettlesFrom (outermost_family d) tokens (at + 2) (at + 2) (Took condition (drop behind tokens))) → (right_parenthesis : Place) → (right_parenthesis_taken : run is_over (mark_by kind.RightParenthesis (counted d 0)) (drop (behind) tokens) ≡ Took right_parenthesis (drop (behind + 1) tokens)) → (right_parenthesis_inside : behind + 1 ≤ length tokens) → behind + 1 ≤ length tokens → (e : SyntaxFault) → FailsFrom (statement_family inner) tokens (behind + 1) (behind + 1) e → FailsFrom (if_family d) tokens at at e
-  only_holds_fails inner deeper if_ if__taken if__inside left_parenthesis left_parenthesis_taken left_parenthesis_inside condition behind condition_more condition_inside condition_settles right_parenthesis right_parenthesis_taken right_parenthesis_inside le e h = fails (if_family d) tokens at at (λ m n. statement_at m d) _ at (behind + 1) e (omega arith) (statement_nested_fails tokens at (behind + 1) inner d deeper e (omega arith) (omega arith) h) (mark_step (if_family d) tokens at at kind.RightParenthesis _ _ (behind) (behind + 1) right_parenthesis (omega arith) right_parenthesis_taken (step (if_family d) tokens at at (outermost_family d) _ (at + 2) (at + 2) behind condition (omega arith) (omega arith) condition_settles (mark_step (if_family d) tokens at at kind.LeftParenthesis _ _ (at + 1) (at + 2) left_parenthesis (omega arith) left_parenthesis_taken (mark_step (if_family d) tokens at at kind.If _ _ (at) (at + 1) if_ (omega arith) if__taken (begin (if_family d) tokens at at)))))
-
-  pub only_given : (inner : ℕ) → (deeper : inner ≡ suc d) → (if_ : Place) → (if__taken : run is_over (mark_by kind.If (counted d 0)) (drop (at) tokens) ≡ Took if_ (drop (at + 1) tokens)) → (if__inside : at + 1 ≤ length tokens) → (left_parenthesis : Place) → (left_parenthesis_taken : run is_over (mark_by kind.LeftParenthesis (counted d 0)) (drop (at + 1) tokens) ≡ Took left_parenthesis (drop (at + 1 + 1) tokens)) → (left_parenthesis_inside : at + 1 + 1 ≤ length tokens) → (condition : ExprTree) → (behind : ℕ) → (condition_more : at + 2 + 1 ≤ behind) → (condition_inside : behind ≤ length tokens) → (condition_settles : SettlesFrom (outermost_family d) tokens (at + 2) (at + 2) (Took condition (drop behind tokens))) → (right_parenthesis : Place) → (right_parenthesis_taken : run is_over (mark_by kind.RightParenthesis (counted d 0)) (drop (behind) tokens) ≡ Took right_parenthesis (drop (behind + 1) tokens)) → (right_parenthesis_inside : behind + 1 ≤ length tokens) → (holds : StatementTree) → (after : ℕ) → (holds_more : behind + 1 + 1 ≤ after) → (holds_inside : after ≤ length tokens) → (holds_settles : SettlesFrom (statement_family inner) tokens (behind + 1) (behind + 1) (Took holds (drop after tokens))) → (absent : next_is (is_mark kind.Else) (next (drop (after) tokens)) ≡ false) → SettlesFrom (if_family d) tokens at at (Took (CoreIf if_ left_parenthesis condition right_parenthesis holds) (drop (after) tokens))
-  only_given inner deeper if_ if__taken if__inside left_parenthesis left_parenthesis_taken left_parenthesis_inside condition behind condition_more condition_inside condition_settles right_parenthesis right_parenthesis_taken right_parenthesis_inside holds after holds_more holds_inside holds_settles absent = ends (if_family d) tokens at at _ (after) (no_else_behind (if_family d) tokens at at d if_ left_parenthesis condition right_parenthesis holds (after) absent (step (if_family d) tokens at at (λ m n. statement_at m d) _ at (behind + 1) after holds (omega arith) (omega arith) (statement_nested tokens at (behind + 1) inner d deeper _ (omega arith) (omega arith) holds_settles) (mark_step (if_family d) tokens at at kind.RightParenthesis _ _ (behind) (behind + 1) right_parenthesis (omega arith) right_parenthesis_taken (step (if_family d) tokens at at (outermost_family d) _ (at + 2) (at + 2) behind condition (omega arith) (omega arith) condition_settles (mark_step (if_family d) tokens at at kind.LeftParenthesis _ _ (at + 1) (at + 2) left_parenthesis (omega arith) left_parenthesis_taken (mark_step (if_family d) tokens at at kind.If _ _ (at) (at + 1) if_ (omega arith) if__taken (begin (if_family d) tokens at at)))))))
-
-  pub both_if__fails : (inner : ℕ) → (deeper : inner ≡ suc d) → (e : SyntaxFault) → at ≤ length tokens → Expects (mark_by kind.If (counted d 0)) tokens (at) (Err e) → FailsFrom (if_family d) tokens at at e
-  both_if__fails inner deeper e le h = mark_fails (if_family d) tokens at at kind.If _ _ (at) e le h (begin (if_family d) tokens at at)
-
-  pub both_left_parenthesis_fails : (inner : ℕ) → (deeper : inner ≡ suc d) → (if_ : Place) → (if__taken : run is_over (mark_by kind.If (counted d 0)) (drop (at) tokens) ≡ Took if_ (drop (at + 1) tokens)) → (if__inside : at + 1 ≤ length tokens) → (e : SyntaxFault) → at + 1 ≤ length tokens → Expects (mark_by kind.LeftParenthesis (counted d 0)) tokens (at + 1) (Err e) → FailsFrom (if_family d) tokens at at e
-  both_left_parenthesis_fails inner deeper if_ if__taken if__inside e le h = mark_fails (if_family d) tokens at at kind.LeftParenthesis _ _ (at + 1) e le h (mark_step (if_family d) tokens at at kind.If _ _ (at) (at + 1) if_ (omega arith) if__taken (begin (if_family d) tokens at at))
-
-  pub both_condition_fails : (inner : ℕ) → (deeper : inner ≡ suc d) → (if_ : Place) → (if__taken : run is_over (mark_by kind.If (counted d 0)) (drop (at) tokens) ≡ Took if_ (drop (at + 1) tokens)) → (if__inside : at + 1 ≤ length tokens) → (left_parenthesis : Place) → (left_parenthesis_taken : run is_over (mark_by kind.LeftParenthesis (counted d 0)) (drop (at + 1) tokens) ≡ Took left_parenthesis (drop (at + 1 + 1) tokens)) → (left_parenthesis_inside : at + 1 + 1 ≤ length tokens) → at + 2 ≤ length tokens → (e : SyntaxFault) → FailsFrom (outermost_family d) tokens (at + 2) (at + 2) e → FailsFrom (if_family d) tokens at at e
-  both_condition_fails inner deeper if_ if__taken if__inside left_parenthesis left_parenthesis_taken left_parenthesis_inside le e h = fails (if_family d) tokens at at (outermost_family d) _ (at + 2) (at + 2) e (omega arith) h (mark_step (if_family d) tokens at at kind.LeftParenthesis _ _ (at + 1) (at + 2) left_parenthesis (omega arith) left_parenthesis_taken (mark_step (if_family d) tokens at at kind.If _ _ (at) (at + 1) if_ (omega arith) if__taken (begin (if_family d) tokens at at)))
-
-  pub both_right_parenthesis_fails : (inner : ℕ) → (deeper : inner ≡ suc d) → (if_ : Place) → (if__taken : run is_over (mark_by kind.If (counted d 0)) (drop (at) tokens) ≡ Took if_ (drop (at + 1) tokens)) → (if__inside : at + 1 ≤ length tokens) → (left_parenthesis : Place) → (left_parenthesis_taken : run is_over (mark_by kind.LeftParenthesis (counted d 0)) (drop (at + 1) tokens) ≡ Took left_parenthesis (drop (at + 1 + 1) tokens)) → (left_parenthesis_inside : at + 1 + 1 ≤ length tokens) → (condition : ExprTree) → (behind : ℕ) → (condition_more : at + 2 + 1 ≤ behind) → (condition_inside : behind ≤ length tokens) → (condition_settles : SettlesFrom (outermost_family d) tokens (at + 2) (at + 2) (Took condition (drop behind tokens))) → (e : SyntaxFault) → behind ≤ length tokens → Expects (mark_by kind.RightParenthesis (counted d 0)) tokens (behind) (Err e) → FailsFrom (if_family d) tokens at at e
-  both_right_parenthesis_fails inner deeper if_ if__taken if__inside left_parenthesis left_parenthesis_taken left_parenthesis_inside condition behind condition_more condition_inside condition_settles e le h = mark_fails (if_family d) tokens at at kind.RightParenthesis _ _ (behind) e le h (step (if_family d) tokens at at (outermost_family d) _ (at + 2) (at + 2) behind condition (omega arith) (omega arith) condition_settles (mark_step (if_family d) tokens at at kind.LeftParenthesis _ _ (at + 1) (at + 2) left_parenthesis (omega arith) left_parenthesis_taken (mark_step (if_family d) tokens at at kind.If _ _ (at) (at + 1) if_ (omega arith) if__taken (begin (if_family d) tokens at at))))
-
-  pub both_holds_fails : (inner : ℕ) → (deeper : inner ≡ suc d) → (if_ : Place) → (if__taken : run is_over (mark_by kind.If (counted d 0)) (drop (at) tokens) ≡ Took if_ (drop (at + 1) tokens)) → (if__inside : at + 1 ≤ length tokens) → (left_parenthesis : Place) → (left_parenthesis_taken : run is_over (mark_by kind.LeftParenthesis (counted d 0)) (drop (at + 1) tokens) ≡ Took left_parenthesis (drop (at + 1 + 1) tokens)) → (left_parenthesis_inside : at + 1 + 1 ≤ length tokens) → (condition : ExprTree) → (behind : ℕ) → (condition_more : at + 2 + 1 ≤ behind) → (condition_inside : behind ≤ length tokens) → (condition_settles : SettlesFrom (outermost_family d) tokens (at + 2) (at + 2) (Took condition (drop behind tokens))) → (right_parenthesis : Place) → (right_parenthesis_taken : run is_over (mark_by kind.RightParenthesis (counted d 0)) (drop (behind) tokens) ≡ Took right_parenthesis (drop (behind + 1) tokens)) → (right_parenthesis_inside : behind + 1 ≤ length tokens) → behind + 1 ≤ length tokens → (e : SyntaxFault) → FailsFrom (statement_family inner) tokens (behind + 1) (behind + 1) e → FailsFrom (if_family d) tokens at at e
-  both_holds_fails inner deeper if_ if__taken if__inside left_parenthesis left_parenthesis_taken left_parenthesis_inside condition behind condition_more condition_inside condition_settles right_parenthesis right_parenthesis_taken right_parenthesis_inside le e h = fails (if_family d) tokens at at (λ m n. statement_at m d) _ at (behind + 1) e (omega arith) (statement_nested_fails tokens at (behind + 1) inner d deeper e (omega arith) (omega arith) h) (mark_step (if_family d) tokens at at kind.RightParenthesis _ _ (behind) (behind + 1) right_parenthesis (omega arith) right_parenthesis_taken (step (if_family d) tokens at at (outermost_family d) _ (at + 2) (at + 2) behind condition (omega arith) (omega arith) condition_settles (mark_step (if_family d) tokens at at kind.LeftParenthesis _ _ (at + 1) (at + 2) left_parenthesis (omega arith) left_parenthesis_taken (mark_step (if_family d) tokens at at kind.If _ _ (at) (at + 1) if_ (omega arith) if__taken (begin (if_family d) tokens at at)))))
-
-  pub both_else__fails : (inner : ℕ) → (deeper : inner ≡ suc d) → (if_ : Place) → (if__taken : run is_over (mark_by kind.If (counted d 0)) (drop (at) tokens) ≡ Took if_ (drop (at + 1) tokens)) → (if__inside : at + 1 ≤ length tokens) → (left_parenthesis : Place) → (left_parenthesis_taken : run is_over (mark_by kind.LeftParenthesis (counted d 0)) (drop (at + 1) tokens) ≡ Took left_parenthesis (drop (at + 1 + 1) tokens)) → (left_parenthesis_inside : at + 1 + 1 ≤ length tokens) → (condition : ExprTree) → (behind : ℕ) → (condition_more : at + 2 + 1 ≤ behind) → (condition_inside : behind ≤ length tokens) → (condition_settles : SettlesFrom (outermost_family d) tokens (at + 2) (at + 2) (Took condition (drop behind tokens))) → (right_parenthesis : Place) → (right_parenthesis_taken : run is_over (mark_by kind.RightParenthesis (counted d 0)) (drop (behind) tokens) ≡ Took right_parenthesis (drop (behind + 1) tokens)) → (right_parenthesis_inside : behind + 1 ≤ length tokens) → (holds : StatementTree) → (after : ℕ) → (holds_more : behind + 1 + 1 ≤ after) → (holds_inside : after ≤ length tokens) → (holds_settles : SettlesFrom (statement_family inner) tokens (behind + 1) (behind + 1) (Took holds (drop after tokens))) → (none_behind : statement_ends_open holds ≡ true → next_is (is_mark kind.Else) (next (drop (after) tokens)) ≡ false) → (present : next_is (is_mark kind.Else) (next (drop (after) tokens)) ≡ true) → (e : SyntaxFault) → after ≤ length tokens → Expects (mark_by kind.Else (counted d 0)) tokens (after) (Err e) → FailsFrom (if_family d) tokens at at e
-  both_else__fails inner deeper if_ if__taken if__inside left_parenthesis left_parenthesis_taken left_parenthesis_inside condition behind condition_more condition_inside condition_settles right_parenthesis right_parenthesis_taken right_parenthesis_inside holds after holds_more holds_inside holds_settles none_behind present e le h = mark_fails (if_family d) tokens at at kind.Else _ _ (after) e le h (else_behind (if_family d) tokens at at d if_ left_parenthesis condition right_parenthesis holds (after) none_behind present (step (if_family d) tokens at at (λ m n. statement_at m d) _ at (behind + 1) after holds (omega arith) (omega arith) (statement_nested tokens at (behind + 1) inner d deeper _ (omega arith) (omega arith) holds_settles) (mark_step (if_family d) tokens at at kind.RightParenthesis _ _ (behind) (behind + 1) right_parenthesis (omega arith) right_parenthesis_taken (step (if_family d) tokens at at (outermost_family d) _ (at + 2) (at + 2) behind condition (omega arith) (omega arith) condition_settles (mark_step (if_family d) tokens at at kind.LeftParenthesis _ _ (at + 1) (at + 2) left_parenthesis (omega arith) left_parenthesis_taken (mark_step (if_family d) tokens at at kind.If _ _ (at) (at + 1) if_ (omega arith) if__taken (begin (if_family d) tokens at at)))))))
-
-  pub both_other_fails : (inner : ℕ) → (deeper : inner ≡ suc d) → (if_ : Place) → (if__taken : run is_over (mark_by kind.If (counted d 0)) (drop (at) tokens) ≡ Took if_ (drop (at + 1) tokens)) → (if__inside : at + 1 ≤ length tokens) → (left_parenthesis : Place) → (left_parenthesis_taken : run is_over (mark_by kind.LeftParenthesis (counted d 0)) (drop (at + 1) tokens) ≡ Took left_parenthesis (drop (at + 1 + 1) tokens)) → (left_parenthesis_inside : at + 1 + 1 ≤ length tokens) → (condition : ExprTree) → (behind : ℕ) → (condition_more : at + 2 + 1 ≤ behind) → (condition_inside : behind ≤ length tokens) → (condition_settles : SettlesFrom (outermost_family d) tokens (at + 2) (at + 2) (Took condition (drop behind tokens))) → (right_parenthesis : Place) → (right_parenthesis_taken : run is_over (mark_by kind.RightParenthesis (counted d 0)) (drop (behind) tokens) ≡ Took right_parenthesis (drop (behind + 1) tokens)) → (right_parenthesis_inside : behind + 1 ≤ length tokens) → (holds : StatementTree) → (after : ℕ) → (holds_more : behind + 1 + 1 ≤ after) → (holds_inside : after ≤ length tokens) → (holds_settles : SettlesFrom (statement_family inner) tokens (behind + 1) (behind + 1) (Took holds (drop after tokens))) → (none_behind : statement_ends_open holds ≡ true → next_is (is_mark kind.Else) (next (drop (after) tokens)) ≡ false) → (present : next_is (is_mark kind.Else) (next (drop (after) tokens)) ≡ true) → (else_ : Place) → (else__taken : run is_over (mark_by kind.Else (counted d 0)) (drop (after) tokens) ≡ Took else_ (drop (after + 1) tokens)) → (else__inside : after + 1 ≤ length tokens) → after + 1 ≤ length tokens → (e : SyntaxFault) → FailsFrom (statement_family inner) tokens (after + 1) (after + 1) e → FailsFrom (if_family d) tokens at at e
-  both_other_fails inner deeper if_ if__taken if__inside left_parenthesis left_parenthesis_taken left_parenthesis_inside condition behind condition_more condition_inside condition_settles right_parenthesis right_parenthesis_taken right_parenthesis_inside holds after holds_more holds_inside holds_settles none_behind present else_ else__taken else__inside le e h = fails (if_family d) tokens at at (λ m n. statement_at m d) _ at (after + 1) e (omega arith) (statement_nested_fails tokens at (after + 1) inner d deeper e (omega arith) (omega arith) h) (mark_step (if_family d) tokens at at kind.Else _ _ (after) (after + 1) else_ (omega arith) else__taken (else_behind (if_family d) tokens at at d if_ left_parenthesis condition right_parenthesis holds (after) none_behind present (step (if_family d) tokens at at (λ m n. statement_at m d) _ at (behind + 1) after holds (omega arith) (omega arith) (statement_nested tokens at (behind + 1) inner d deeper _ (omega arith) (omega arith) holds_settles) (mark_step (if_family d) tokens at at kind.RightParenthesis _ _ (behind) (behind + 1) right_parenthesis (omega arith) right_parenthesis_taken (step (if_family d) tokens at at (outermost_family d) _ (at + 2) (at + 2) behind condition (omega arith) (omega arith) condition_settles (mark_step (if_family d) tokens at at kind.LeftParenthesis _ _ (at + 1) (at + 2) left_parenthesis (omega arith) left_parenthesis_taken (mark_step (if_family d) tokens at at kind.If _ _ (at) (at + 1) if_ (omega arith) if__taken (begin (if_family d) tokens at at))))))))
-
-  pub both_given : (inner : ℕ) → (deeper : inner ≡ suc d) → (if_ : Place) → (if__taken : run is_over (mark_by kind.If (counted d 0)) (drop (at) tokens) ≡ Took if_ (drop (at + 1) tokens)) → (if__inside : at + 1 ≤ length tokens) → (left_parenthesis : Place) → (left_parenthesis_taken : run is_over (mark_by kind.LeftParenthesis (counted d 0)) (drop (at + 1) tokens) ≡ Took left_parenthesis (drop (at + 1 + 1) tokens)) → (left_parenthesis_inside : at + 1 + 1 ≤ length tokens) → (condition : ExprTree) → (behind : ℕ) → (condition_more : at + 2 + 1 ≤ behind) → (condition_inside : behind ≤ length tokens) → (condition_settles : SettlesFrom (outermost_family d) tokens (at + 2) (at + 2) (Took condition (drop behind tokens))) → (right_parenthesis : Place) → (right_parenthesis_taken : run is_over (mark_by kind.RightParenthesis (counted d 0)) (drop (behind) tokens) ≡ Took right_parenthesis (drop (behind + 1) tokens)) → (right_parenthesis_inside : behind + 1 ≤ length tokens) → (holds : StatementTree) → (after : ℕ) → (holds_more : behind + 1 + 1 ≤ after) → (holds_inside : after ≤ length tokens) → (holds_settles : SettlesFrom (statement_family inner) tokens (behind + 1) (behind + 1) (Took holds (drop after tokens))) → (none_behind : statement_ends_open holds ≡ true → next_is (is_mark kind.Else) (next (drop (after) tokens)) ≡ false) → (present : next_is (is_mark kind.Else) (next (drop (after) tokens)) ≡ true) → (else_ : Place) → (else__taken : run is_over (mark_by kind.Else (counted d 0)) (drop (after) tokens) ≡ Took else_ (drop (after + 1) tokens)) → (else__inside : after + 1 ≤ length tokens) → (other : StatementTree) → (end : ℕ) → (other_more : after + 1 + 1 ≤ end) → (other_inside : end ≤ length tokens) → (other_settles : SettlesFrom (statement_family inner) tokens (after + 1) (after + 1) (Took other (drop end tokens))) → SettlesFrom (if_family d) tokens at at (Took (CoreIfElse if_ left_parenthesis condition right_parenthesis holds else_ other) (drop (end) tokens))
-  both_given inner deeper if_ if__taken if__inside left_parenthesis left_parenthesis_taken left_parenthesis_inside condition behind condition_more condition_inside condition_settles right_parenthesis right_parenthesis_taken right_parenthesis_inside holds after holds_more holds_inside holds_settles none_behind present else_ else__taken else__inside other end other_more other_inside other_settles = ends (if_family d) tokens at at _ (end) (step (if_family d) tokens at at (λ m n. statement_at m d) _ at (after + 1) end other (omega arith) (omega arith) (statement_nested tokens at (after + 1) inner d deeper _ (omega arith) (omega arith) other_settles) (mark_step (if_family d) tokens at at kind.Else _ _ (after) (after + 1) else_ (omega arith) else__taken (else_behind (if_family d) tokens at at d if_ left_parenthesis condition right_parenthesis holds (after) none_behind present (step (if_family d) tokens at at (λ m n. statement_at m d) _ at (behind + 1) after holds (omega arith) (omega arith) (statement_nested tokens at (behind + 1) inner d deeper _ (omega arith) (omega arith) holds_settles) (mark_step (if_family d) tokens at at kind.RightParenthesis _ _ (behind) (behind + 1) right_parenthesis (omega arith) right_parenthesis_taken (step (if_family d) tokens at at (outermost_family d) _ (at + 2) (at + 2) behind condition (omega arith) (omega arith) condition_settles (mark_step (if_family d) tokens at at kind.LeftParenthesis _ _ (at + 1) (at + 2) left_parenthesis (omega arith) left_parenthesis_taken (mark_step (if_family d) tokens at at kind.If _ _ (at) (at + 1) if_ (omega arith) if__taken (begin (if_family d) tokens at at)))))))))
-
-  pub arm_label_fails : (inner : ℕ) → (deeper : inner ≡ suc d) → at ≤ length tokens → (e : SyntaxFault) → FailsFrom (arm_label_family d) tokens (at) (at) e → FailsFrom (arm_family d) tokens at at e
-  arm_label_fails inner deeper le e h = fails (arm_family d) tokens at at (arm_label_family d) _ (at) (at) e (omega arith) h (begin (arm_family d) tokens at at)
-
-  pub arm_colon_fails : (inner : ℕ) → (deeper : inner ≡ suc d) → (label : ArmLabelTree) → (behind : ℕ) → (label_more : at + 1 ≤ behind) → (label_inside : behind ≤ length tokens) → (label_settles : SettlesFrom (arm_label_family d) tokens (at) (at) (Took label (drop behind tokens))) → (e : SyntaxFault) → behind ≤ length tokens → Expects (mark_by kind.Colon (counted d 0)) tokens (behind) (Err e) → FailsFrom (arm_family d) tokens at at e
-  arm_colon_fails inner deeper label behind label_more label_inside label_settles e le h = mark_fails (arm_family d) tokens at at kind.Colon _ _ (behind) e le h (step (arm_family d) tokens at at (arm_label_family d) _ (at) (at) behind label (omega arith) (omega arith) label_settles (begin (arm_family d) tokens at at))
-
-  pub arm_statement_fails : (inner : ℕ) → (deeper : inner ≡ suc d) → (label : ArmLabelTree) → (behind : ℕ) → (label_more : at + 1 ≤ behind) → (label_inside : behind ≤ length tokens) → (label_settles : SettlesFrom (arm_label_family d) tokens (at) (at) (Took label (drop behind tokens))) → (colon : Place) → (colon_taken : run is_over (mark_by kind.Colon (counted d 0)) (drop (behind) tokens) ≡ Took colon (drop (behind + 1) tokens)) → (colon_inside : behind + 1 ≤ length tokens) → behind + 1 ≤ length tokens → (e : SyntaxFault) → FailsFrom (statement_family inner) tokens (behind + 1) (behind + 1) e → FailsFrom (arm_family d) tokens at at e
-  arm_statement_fails inner deeper label behind label_more label_inside label_settles colon colon_taken colon_inside le e h = fails (arm_family d) tokens at at (λ m n. statement_at m d) _ at (behind + 1) e (omega arith) (statement_nested_fails tokens at (behind + 1) inner d deeper e (omega arith) (omega arith) h) (mark_step (arm_family d) tokens at at kind.Colon _ _ (behind) (behind + 1) colon (omega arith) colon_taken (step (arm_family d) tokens at at (arm_label_family d) _ (at) (at) behind label (omega arith) (omega arith) label_settles (begin (arm_family d) tokens at at)))
-
-  pub arm_given : (inner : ℕ) → (deeper : inner ≡ suc d) → (label : ArmLabelTree) → (behind : ℕ) → (label_more : at + 1 ≤ behind) → (label_inside : behind ≤ length tokens) → (label_settles : SettlesFrom (arm_label_family d) tokens (at) (at) (Took label (drop behind tokens))) → (colon : Place) → (colon_taken : run is_over (mark_by kind.Colon (counted d 0)) (drop (behind) tokens) ≡ Took colon (drop (behind + 1) tokens)) → (colon_inside : behind + 1 ≤ length tokens) → (statement : StatementTree) → (after : ℕ) → (statement_more : behind + 1 + 1 ≤ after) → (statement_inside : after ≤ length tokens) → (statement_settles : SettlesFrom (statement_family inner) tokens (behind + 1) (behind + 1) (Took statement (drop after tokens))) → SettlesFrom (arm_family d) tokens at at (Took (MakeArm label colon statement) (drop (after) tokens))
-  arm_given inner deeper label behind label_more label_inside label_settles colon colon_taken colon_inside statement after statement_more statement_inside statement_settles = ends (arm_family d) tokens at at _ (after) (step (arm_family d) tokens at at (λ m n. statement_at m d) _ at (behind + 1) after statement (omega arith) (omega arith) (statement_nested tokens at (behind + 1) inner d deeper _ (omega arith) (omega arith) statement_settles) (mark_step (arm_family d) tokens at at kind.Colon _ _ (behind) (behind + 1) colon (omega arith) colon_taken (step (arm_family d) tokens at at (arm_label_family d) _ (at) (at) behind label (omega arith) (omega arith) label_settles (begin (arm_family d) tokens at at))))
-
-  pub match_core_match__fails : (e : SyntaxFault) → at ≤ length tokens → Expects (mark_by kind.Match (counted d 0)) tokens (at) (Err e) → FailsFrom (match_family d) tokens at at e
-  match_core_match__fails e le h = mark_fails (match_family d) tokens at at kind.Match _ _ (at) e le h (begin (match_family d) tokens at at)
-
-  pub match_core_left_parenthesis_fails : (match_ : Place) → (match__taken : run is_over (mark_by kind.Match (counted d 0)) (drop (at) tokens) ≡ Took match_ (drop (at + 1) tokens)) → (match__inside : at + 1 ≤ length tokens) → (e : SyntaxFault) → at + 1 ≤ length tokens → Expects (mark_by kind.LeftParenthesis (counted d 0)) tokens (at + 1) (Err e) → FailsFrom (match_family d) tokens at at e
-  match_core_left_parenthesis_fails match_ match__taken match__inside e le h = mark_fails (match_family d) tokens at at kind.LeftParenthesis _ _ (at + 1) e le h (mark_step (match_family d) tokens at at kind.Match _ _ (at) (at + 1) match_ (omega arith) match__taken (begin (match_family d) tokens at at))
-
-  pub match_core_expr_fails : (match_ : Place) → (match__taken : run is_over (mark_by kind.Match (counted d 0)) (drop (at) tokens) ≡ Took match_ (drop (at + 1) tokens)) → (match__inside : at + 1 ≤ length tokens) → (left_parenthesis : Place) → (left_parenthesis_taken : run is_over (mark_by kind.LeftParenthesis (counted d 0)) (drop (at + 1) tokens) ≡ Took left_parenthesis (drop (at + 1 + 1) tokens)) → (left_parenthesis_inside : at + 1 + 1 ≤ length tokens) → at + 2 ≤ length tokens → (e : SyntaxFault) → FailsFrom (outermost_family d) tokens (at + 2) (at + 2) e → FailsFrom (match_family d) tokens at at e
-  match_core_expr_fails match_ match__taken match__inside left_parenthesis left_parenthesis_taken left_parenthesis_inside le e h = fails (match_family d) tokens at at (outermost_family d) _ (at + 2) (at + 2) e (omega arith) h (mark_step (match_family d) tokens at at kind.LeftParenthesis _ _ (at + 1) (at + 2) left_parenthesis (omega arith) left_parenthesis_taken (mark_step (match_family d) tokens at at kind.Match _ _ (at) (at + 1) match_ (omega arith) match__taken (begin (match_family d) tokens at at)))
-
-  pub match_core_right_parenthesis_fails : (match_ : Place) → (match__taken : run is_over (mark_by kind.Match (counted d 0)) (drop (at) tokens) ≡ Took match_ (drop (at + 1) tokens)) → (match__inside : at + 1 ≤ length tokens) → (left_parenthesis : Place) → (left_parenthesis_taken : run is_over (mark_by kind.LeftParenthesis (counted d 0)) (drop (at + 1) tokens) ≡ Took left_parenthesis (drop (at + 1 + 1) tokens)) → (left_parenthesis_inside : at + 1 + 1 ≤ length tokens) → (expr : ExprTree) → (behind : ℕ) → (expr_more : at + 2 + 1 ≤ behind) → (expr_inside : behind ≤ length tokens) → (expr_settles : SettlesFrom (outermost_family d) tokens (at + 2) (at + 2) (Took expr (drop behind tokens))) → (e : SyntaxFault) → behind ≤ length tokens → Expects (mark_by kind.RightParenthesis (counted d 0)) tokens (behind) (Err e) → FailsFrom (match_family d) tokens at at e
-  match_core_right_parenthesis_fails match_ match__taken match__inside left_parenthesis left_parenthesis_taken left_parenthesis_inside expr behind expr_more expr_inside expr_settles e le h = mark_fails (match_family d) tokens at at kind.RightParenthesis _ _ (behind) e le h (step (match_family d) tokens at at (outermost_family d) _ (at + 2) (at + 2) behind expr (omega arith) (omega arith) expr_settles (mark_step (match_family d) tokens at at kind.LeftParenthesis _ _ (at + 1) (at + 2) left_parenthesis (omega arith) left_parenthesis_taken (mark_step (match_family d) tokens at at kind.Match _ _ (at) (at + 1) match_ (omega arith) match__taken (begin (match_family d) tokens at at))))
-
-  pub match_core_left_brace_fails : (match_ : Place) → (match__taken : run is_over (mark_by kind.Match (counted d 0)) (drop (at) tokens) ≡ Took match_ (drop (at + 1) tokens)) → (match__inside : at + 1 ≤ length tokens) → (left_parenthesis : Place) → (left_parenthesis_taken : run is_over (mark_by kind.LeftParenthesis (counted d 0)) (drop (at + 1) tokens) ≡ Took left_parenthesis (drop (at + 1 + 1) tokens)) → (left_parenthesis_inside : at + 1 + 1 ≤ length tokens) → (expr : ExprTree) → (behind : ℕ) → (expr_more : at + 2 + 1 ≤ behind) → (expr_inside : behind ≤ length tokens) → (expr_settles : SettlesFrom (outermost_family d) tokens (at + 2) (at + 2) (Took expr (drop behind tokens))) → (right_parenthesis : Place) → (right_parenthesis_taken : run is_over (mark_by kind.RightParenthesis (counted d 0)) (drop (behind) tokens) ≡ Took right_parenthesis (drop (behind + 1) tokens)) → (right_parenthesis_inside : behind + 1 ≤ length tokens) → (e : SyntaxFault) → behind + 1 ≤ length tokens → Expects (mark_by kind.LeftBrace (counted d 0)) tokens (behind + 1) (Err e) → FailsFrom (match_family d) tokens at at e
-  match_core_left_brace_fails match_ match__taken match__inside left_parenthesis left_parenthesis_taken left_parenthesis_inside expr behind expr_more expr_inside expr_settles right_parenthesis right_parenthesis_taken right_parenthesis_inside e le h = mark_fails (match_family d) tokens at at kind.LeftBrace _ _ (behind + 1) e le h (mark_step (match_family d) tokens at at kind.RightParenthesis _ _ (behind) (behind + 1) right_parenthesis (omega arith) right_parenthesis_taken (step (match_family d) tokens at at (outermost_family d) _ (at + 2) (at + 2) behind expr (omega arith) (omega arith) expr_settles (mark_step (match_family d) tokens at at kind.LeftParenthesis _ _ (at + 1) (at + 2) left_parenthesis (omega arith) left_parenthesis_taken (mark_step (match_family d) tokens at at kind.Match _ _ (at) (at + 1) match_ (omega arith) match__taken (begin (match_family d) tokens at at)))))
-
-  pub match_core_first_fails : (match_ : Place) → (match__taken : run is_over (mark_by kind.Match (counted d 0)) (drop (at) tokens) ≡ Took match_ (drop (at + 1) tokens)) → (match__inside : at + 1 ≤ length tokens) → (left_parenthesis : Place) → (left_parenthesis_taken : run is_over (mark_by kind.LeftParenthesis (counted d 0)) (drop (at + 1) tokens) ≡ Took left_parenthesis (drop (at + 1 + 1) tokens)) → (left_parenthesis_inside : at + 1 + 1 ≤ length tokens) → (expr : ExprTree) → (behind : ℕ) → (expr_more : at + 2 + 1 ≤ behind) → (expr_inside : behind ≤ length tokens) → (expr_settles : SettlesFrom (outermost_family d) tokens (at + 2) (at + 2) (Took expr (drop behind tokens))) → (right_parenthesis : Place) → (right_parenthesis_taken : run is_over (mark_by kind.RightParenthesis (counted d 0)) (drop (behind) tokens) ≡ Took right_parenthesis (drop (behind + 1) tokens)) → (right_parenthesis_inside : behind + 1 ≤ length tokens) → (left_brace : Place) → (left_brace_taken : run is_over (mark_by kind.LeftBrace (counted d 0)) (drop (behind + 1) tokens) ≡ Took left_brace (drop (behind + 1 + 1) tokens)) → (left_brace_inside : behind + 1 + 1 ≤ length tokens) → behind + 2 ≤ length tokens → (e : SyntaxFault) → FailsFrom (arm_family d) tokens (behind + 2) (behind + 2) e → FailsFrom (match_family d) tokens at at e
-  match_core_first_fails match_ match__taken match__inside left_parenthesis left_parenthesis_taken left_parenthesis_inside expr behind expr_more expr_inside expr_settles right_parenthesis right_parenthesis_taken right_parenthesis_inside left_brace left_brace_taken left_brace_inside le e h = fails (match_family d) tokens at at (arm_family d) _ (behind + 2) (behind + 2) e (omega arith) h (mark_step (match_family d) tokens at at kind.LeftBrace _ _ (behind + 1) (behind + 2) left_brace (omega arith) left_brace_taken (mark_step (match_family d) tokens at at kind.RightParenthesis _ _ (behind) (behind + 1) right_parenthesis (omega arith) right_parenthesis_taken (step (match_family d) tokens at at (outermost_family d) _ (at + 2) (at + 2) behind expr (omega arith) (omega arith) expr_settles (mark_step (match_family d) tokens at at kind.LeftParenthesis _ _ (at + 1) (at + 2) left_parenthesis (omega arith) left_parenthesis_taken (mark_step (match_family d) tokens at at kind.Match _ _ (at) (at + 1) match_ (omega arith) match__taken (begin (match_family d) tokens at at))))))
-
-  pub match_core_rest_fails : (match_ : Place) → (match__taken : run is_over (mark_by kind.Match (counted d 0)) (drop (at) tokens) ≡ Took match_ (drop (at + 1) tokens)) → (match__inside : at + 1 ≤ length tokens) → (left_parenthesis : Place) → (left_parenthesis_taken : run is_over (mark_by kind.LeftParenthesis (counted d 0)) (drop (at + 1) tokens) ≡ Took left_parenthesis (drop (at + 1 + 1) tokens)) → (left_parenthesis_inside : at + 1 + 1 ≤ length tokens) → (expr : ExprTree) → (behind : ℕ) → (expr_more : at + 2 + 1 ≤ behind) → (expr_inside : behind ≤ length tokens) → (expr_settles : SettlesFrom (outermost_family d) tokens (at + 2) (at + 2) (Took expr (drop behind tokens))) → (right_parenthesis : Place) → (right_parenthesis_taken : run is_over (mark_by kind.RightParenthesis (counted d 0)) (drop (behind) tokens) ≡ Took right_parenthesis (drop (behind + 1) tokens)) → (right_parenthesis_inside : behind + 1 ≤ length tokens) → (left_brace : Place) → (left_brace_taken : run is_over (mark_by kind.LeftBrace (counted d 0)) (drop (behind + 1) tokens) ≡ Took left_brace (drop (behind + 1 + 1) tokens)) → (left_brace_inside : behind + 1 + 1 ≤ length tokens) → (first : ArmTree) → (after : ℕ) → (first_more : behind + 2 + 1 ≤ after) → (first_inside : after ≤ length tokens) → (first_settles : SettlesFrom (arm_family d) tokens (behind + 2) (behind + 2) (Took first (drop after tokens))) → after ≤ length tokens → (e : SyntaxFault) → FailsFrom (arms_family d) tokens (after - 1) (after) e → FailsFrom (match_family d) tokens at at e
-  match_core_rest_fails match_ match__taken match__inside left_parenthesis left_parenthesis_taken left_parenthesis_inside expr behind expr_more expr_inside expr_settles right_parenthesis right_parenthesis_taken right_parenthesis_inside left_brace left_brace_taken left_brace_inside first after first_more first_inside first_settles le e h = fails (match_family d) tokens at at (arm_row_family d) _ (after - 1) (after) e (omega arith) (row_fails tokens (after - 1) (after) arm_row (arms_family d) e h) (step (match_family d) tokens at at (arm_family d) _ (behind + 2) (behind + 2) after first (omega arith) (omega arith) first_settles (mark_step (match_family d) tokens at at kind.LeftBrace _ _ (behind + 1) (behind + 2) left_brace (omega arith) left_brace_taken (mark_step (match_family d) tokens at at kind.RightParenthesis _ _ (behind) (behind + 1) right_parenthesis (omega arith) right_parenthesis_taken (step (match_family d) tokens at at (outermost_family d) _ (at + 2) (at + 2) behind expr (omega arith) (omega arith) expr_settles (mark_step (match_family d) tokens at at kind.LeftParenthesis _ _ (at + 1) (at + 2) left_parenthesis (omega arith) left_parenthesis_taken (mark_step (match_family d) tokens at at kind.Match _ _ (at) (at + 1) match_ (omega arith) match__taken (begin (match_family d) tokens at at)))))))
-
-  pub match_core_right_brace_fails : (match_ : Place) → (match__taken : run is_over (mark_by kind.Match (counted d 0)) (drop (at) tokens) ≡ Took match_ (drop (at + 1) tokens)) → (match__inside : at + 1 ≤ length tokens) → (left_parenthesis : Place) → (left_parenthesis_taken : run is_over (mark_by kind.LeftParenthesis (counted d 0)) (drop (at + 1) tokens) ≡ Took left_parenthesis (drop (at + 1 + 1) tokens)) → (left_parenthesis_inside : at + 1 + 1 ≤ length tokens) → (expr : ExprTree) → (behind : ℕ) → (expr_more : at + 2 + 1 ≤ behind) → (expr_inside : behind ≤ length tokens) → (expr_settles : SettlesFrom (outermost_family d) tokens (at + 2) (at + 2) (Took expr (drop behind tokens))) → (right_parenthesis : Place) → (right_parenthesis_taken : run is_over (mark_by kind.RightParenthesis (counted d 0)) (drop (behind) tokens) ≡ Took right_parenthesis (drop (behind + 1) tokens)) → (right_parenthesis_inside : behind + 1 ≤ length tokens) → (left_brace : Place) → (left_brace_taken : run is_over (mark_by kind.LeftBrace (counted d 0)) (drop (behind + 1) tokens) ≡ Took left_brace (drop (behind + 1 + 1) tokens)) → (left_brace_inside : behind + 1 + 1 ≤ length tokens) → (first : ArmTree) → (after : ℕ) → (first_more : behind + 2 + 1 ≤ after) → (first_inside : after ≤ length tokens) → (first_settles : SettlesFrom (arm_family d) tokens (behind + 2) (behind + 2) (Took first (drop after tokens))) → (rest : List ArmTree) → (end : ℕ) → (rest_more : after + 0 ≤ end) → (rest_inside : end ≤ length tokens) → (rest_settles : SettlesFrom (arms_family d) tokens (after - 1) (after) (Took rest (drop end tokens))) → (e : SyntaxFault) → end ≤ length tokens → Expects (mark_by kind.RightBrace (counted d 0)) tokens (end) (Err e) → FailsFrom (match_family d) tokens at at e
-  match_core_right_brace_fails match_ match__taken match__inside left_parenthesis left_parenthesis_taken left_parenthesis_inside expr behind expr_more expr_inside expr_settles right_parenthesis right_parenthesis_taken right_parenthesis_inside left_brace left_brace_taken left_brace_inside first after first_more first_inside first_settles rest end rest_more rest_inside rest_settles e le h = mark_fails (match_family d) tokens at at kind.RightBrace _ _ (end) e le h (step (match_family d) tokens at at (arm_row_family d) _ (after - 1) (after) end (arm_row rest) (omega arith) (omega arith) (row_settles tokens (after - 1) (after) arm_row (arms_family d) rest end rest_settles) (step (match_family d) tokens at at (arm_family d) _ (behind + 2) (behind + 2) after first (omega arith) (omega arith) first_settles (mark_step (match_family d) tokens at at kind.LeftBrace _ _ (behind + 1) (behind + 2) left_brace (omega arith) left_brace_taken (mark_step (match_family d) tokens at at kind.RightParenthesis _ _ (behind) (behind + 1) right_parenthesis (omega arith) right_parenthesis_taken (step (match_family d) tokens at at (outermost_family d) _ (at + 2) (at + 2) behind expr (omega arith) (omega arith) expr_settles (mark_step (match_family d) tokens at at kind.LeftParenthesis _ _ (at + 1) (at + 2) left_parenthesis (omega arith) left_parenthesis_taken (mark_step (match_family d) tokens at at kind.Match _ _ (at) (at + 1) match_ (omega arith) match__taken (begin (match_family d) tokens at at))))))))
-
-  pub match_core_given : (match_ : Place) → (match__taken : run is_over (mark_by kind.Match (counted d 0)) (drop (at) tokens) ≡ Took match_ (drop (at + 1) tokens)) → (match__inside : at + 1 ≤ length tokens) → (left_parenthesis : Place) → (left_parenthesis_taken : run is_over (mark_by kind.LeftParenthesis (counted d 0)) (drop (at + 1) tokens) ≡ Took left_parenthesis (drop (at + 1 + 1) tokens)) → (left_parenthesis_inside : at + 1 + 1 ≤ length tokens) → (expr : ExprTree) → (behind : ℕ) → (expr_more : at + 2 + 1 ≤ behind) → (expr_inside : behind ≤ length tokens) → (expr_settles : SettlesFrom (outermost_family d) tokens (at + 2) (at + 2) (Took expr (drop behind tokens))) → (right_parenthesis : Place) → (right_parenthesis_taken : run is_over (mark_by kind.RightParenthesis (counted d 0)) (drop (behind) tokens) ≡ Took right_parenthesis (drop (behind + 1) tokens)) → (right_parenthesis_inside : behind + 1 ≤ length tokens) → (left_brace : Place) → (left_brace_taken : run is_over (mark_by kind.LeftBrace (counted d 0)) (drop (behind + 1) tokens) ≡ Took left_brace (drop (behind + 1 + 1) tokens)) → (left_brace_inside : behind + 1 + 1 ≤ length tokens) → (first : ArmTree) → (after : ℕ) → (first_more : behind + 2 + 1 ≤ after) → (first_inside : after ≤ length tokens) → (first_settles : SettlesFrom (arm_family d) tokens (behind + 2) (behind + 2) (Took first (drop after tokens))) → (rest : List ArmTree) → (end : ℕ) → (rest_more : after + 0 ≤ end) → (rest_inside : end ≤ length tokens) → (rest_settles : SettlesFrom (arms_family d) tokens (after - 1) (after) (Took rest (drop end tokens))) → (right_brace : Place) → (right_brace_taken : run is_over (mark_by kind.RightBrace (counted d 0)) (drop (end) tokens) ≡ Took right_brace (drop (end + 1) tokens)) → (right_brace_inside : end + 1 ≤ length tokens) → SettlesFrom (match_family d) tokens at at (Took (CoreMatch match_ left_parenthesis expr right_parenthesis left_brace first (arm_row rest) right_brace) (drop (end + 1) tokens))
-  match_core_given match_ match__taken match__inside left_parenthesis left_parenthesis_taken left_parenthesis_inside expr behind expr_more expr_inside expr_settles right_parenthesis right_parenthesis_taken right_parenthesis_inside left_brace left_brace_taken left_brace_inside first after first_more first_inside first_settles rest end rest_more rest_inside rest_settles right_brace right_brace_taken right_brace_inside = ends (match_family d) tokens at at _ (end + 1) (mark_step (match_family d) tokens at at kind.RightBrace _ _ (end) (end + 1) right_brace (omega arith) right_brace_taken (step (match_family d) tokens at at (arm_row_family d) _ (after - 1) (after) end (arm_row rest) (omega arith) (omega arith) (row_settles tokens (after - 1) (after) arm_row (arms_family d) rest end rest_settles) (step (match_family d) tokens at at (arm_family d) _ (behind + 2) (behind + 2) after first (omega arith) (omega arith) first_settles (mark_step (match_family d) tokens at at kind.LeftBrace _ _ (behind + 1) (behind + 2) left_brace (omega arith) left_brace_taken (mark_step (match_family d) tokens at at kind.RightParenthesis _ _ (behind) (behind + 1) right_parenthesis (omega arith) right_parenthesis_taken (step (match_family d) tokens at at (outermost_family d) _ (at + 2) (at + 2) behind expr (omega arith) (omega arith) expr_settles (mark_step (match_family d) tokens at at kind.LeftParenthesis _ _ (at + 1) (at + 2) left_parenthesis (omega arith) left_parenthesis_taken (mark_step (match_family d) tokens at at kind.Match _ _ (at) (at + 1) match_ (omega arith) match__taken (begin (match_family d) tokens at at)))))))))
-
-  pub handle_name_fails : (e : SyntaxFault) → at ≤ length tokens → Expects (name_by (counted d 0)) tokens (at) (Err e) → FailsFrom (named_family d) tokens at at e
-  handle_name_fails e le h = name_fails (named_family d) tokens at at _ _ (at) e le h (begin (named_family d) tokens at at)
-
-  pub handle_with_fails : (name : Name) → (name_taken : run is_over (name_by (counted d 0)) (drop (at) tokens) ≡ Took name (drop (at + 1) tokens)) → (name_inside : at + 1 ≤ length tokens) → (absent : next_is (is_mark kind.Colon) (next (drop (at + 1) tokens)) ≡ false) → at + 1 ≤ length tokens → (e : SyntaxFault) → FailsFrom (with_family d) tokens (at + 1) (at + 1) e → FailsFrom (named_family d) tokens at at e
-  handle_with_fails name name_taken name_inside absent le e h = fails (named_family d) tokens at at (with_family d) _ (at + 1) (at + 1) e (omega arith) h (choose (named_family d) tokens at at kind.Colon _ _ (at + 1) false absent (name_step (named_family d) tokens at at _ _ (at) (at + 1) name (omega arith) name_taken (begin (named_family d) tokens at at)))
-
-  pub handle_given : (name : Name) → (name_taken : run is_over (name_by (counted d 0)) (drop (at) tokens) ≡ Took name (drop (at + 1) tokens)) → (name_inside : at + 1 ≤ length tokens) → (absent : next_is (is_mark kind.Colon) (next (drop (at + 1) tokens)) ≡ false) → (with : WithTree) → (behind : ℕ) → (with_more : at + 1 + 1 ≤ behind) → (with_inside : behind ≤ length tokens) → (with_settles : SettlesFrom (with_family d) tokens (at + 1) (at + 1) (Took with (drop behind tokens))) → SettlesFrom (named_family d) tokens at at (Took (StatementPlain (CoreHandle name with)) (drop (behind) tokens))
-  handle_given name name_taken name_inside absent with behind with_more with_inside with_settles = ends (named_family d) tokens at at _ (behind) (step (named_family d) tokens at at (with_family d) _ (at + 1) (at + 1) behind with (omega arith) (omega arith) with_settles (choose (named_family d) tokens at at kind.Colon _ _ (at + 1) false absent (name_step (named_family d) tokens at at _ _ (at) (at + 1) name (omega arith) name_taken (begin (named_family d) tokens at at))))
-
-  pub label_name_fails : (e : SyntaxFault) → at ≤ length tokens → Expects (name_by (counted d 0)) tokens (at) (Err e) → FailsFrom (named_family d) tokens at at e
-  label_name_fails e le h = name_fails (named_family d) tokens at at _ _ (at) e le h (begin (named_family d) tokens at at)
-
-  pub label_colon_fails : (name : Name) → (name_taken : run is_over (name_by (counted d 0)) (drop (at) tokens) ≡ Took name (drop (at + 1) tokens)) → (name_inside : at + 1 ≤ length tokens) → (present : next_is (is_mark kind.Colon) (next (drop (at + 1) tokens)) ≡ true) → (e : SyntaxFault) → at + 1 ≤ length tokens → Expects (mark_by kind.Colon (counted d 0)) tokens (at + 1) (Err e) → FailsFrom (named_family d) tokens at at e
-  label_colon_fails name name_taken name_inside present e le h = mark_fails (named_family d) tokens at at kind.Colon _ _ (at + 1) e le h (choose (named_family d) tokens at at kind.Colon _ _ (at + 1) true present (name_step (named_family d) tokens at at _ _ (at) (at + 1) name (omega arith) name_taken (begin (named_family d) tokens at at)))
-
-  pub label_core_fails : (name : Name) → (name_taken : run is_over (name_by (counted d 0)) (drop (at) tokens) ≡ Took name (drop (at + 1) tokens)) → (name_inside : at + 1 ≤ length tokens) → (present : next_is (is_mark kind.Colon) (next (drop (at + 1) tokens)) ≡ true) → (colon : Place) → (colon_taken : run is_over (mark_by kind.Colon (counted d 0)) (drop (at + 1) tokens) ≡ Took colon (drop (at + 1 + 1) tokens)) → (colon_inside : at + 1 + 1 ≤ length tokens) → at + 2 ≤ length tokens → (e : SyntaxFault) → FailsFrom (core_family d) tokens (at + 2) (at + 2) e → FailsFrom (named_family d) tokens at at e
-  label_core_fails name name_taken name_inside present colon colon_taken colon_inside le e h = fails (named_family d) tokens at at (core_family d) _ (at + 2) (at + 2) e (omega arith) h (mark_step (named_family d) tokens at at kind.Colon _ _ (at + 1) (at + 2) colon (omega arith) colon_taken (choose (named_family d) tokens at at kind.Colon _ _ (at + 1) true present (name_step (named_family d) tokens at at _ _ (at) (at + 1) name (omega arith) name_taken (begin (named_family d) tokens at at))))
-
-  pub label_given : (name : Name) → (name_taken : run is_over (name_by (counted d 0)) (drop (at) tokens) ≡ Took name (drop (at + 1) tokens)) → (name_inside : at + 1 ≤ length tokens) → (present : next_is (is_mark kind.Colon) (next (drop (at + 1) tokens)) ≡ true) → (colon : Place) → (colon_taken : run is_over (mark_by kind.Colon (counted d 0)) (drop (at + 1) tokens) ≡ Took colon (drop (at + 1 + 1) tokens)) → (colon_inside : at + 1 + 1 ≤ length tokens) → (core : CoreTree) → (after : ℕ) → (core_more : at + 2 + 1 ≤ after) → (core_inside : after ≤ length tokens) → (core_settles : SettlesFrom (core_family d) tokens (at + 2) (at + 2) (Took core (drop after tokens))) → SettlesFrom (named_family d) tokens at at (Took (StatementLabeled (record { name = name; colon = colon }) core) (drop (after) tokens))
-  label_given name name_taken name_inside present colon colon_taken colon_inside core after core_more core_inside core_settles = ends (named_family d) tokens at at _ (after) (step (named_family d) tokens at at (core_family d) _ (at + 2) (at + 2) after core (omega arith) (omega arith) core_settles (mark_step (named_family d) tokens at at kind.Colon _ _ (at + 1) (at + 2) colon (omega arith) colon_taken (choose (named_family d) tokens at at kind.Colon _ _ (at + 1) true present (name_step (named_family d) tokens at at _ _ (at) (at + 1) name (omega arith) name_taken (begin (named_family d) tokens at at)))))
-
-  pub plain_core_fails : at ≤ length tokens → (e : SyntaxFault) → FailsFrom (core_family d) tokens (at) (at) e → FailsFrom (plain_family d) tokens at at e
-  plain_core_fails le e h = fails (plain_family d) tokens at at (core_family d) _ (at) (at) e (omega arith) h (begin (plain_family d) tokens at at)
-
-  pub plain_given : (core : CoreTree) → (after : ℕ) → (core_more : at + 1 ≤ after) → (core_inside : after ≤ length tokens) → (core_settles : SettlesFrom (core_family d) tokens (at) (at) (Took core (drop after tokens))) → SettlesFrom (plain_family d) tokens at at (Took (StatementPlain core) (drop (after) tokens))
-  plain_given core after core_more core_inside core_settles = ends (plain_family d) tokens at at _ (after) (step (plain_family d) tokens at at (core_family d) _ (at) (at) after core (omega arith) (omega arith) core_settles (begin (plain_family d) tokens at at))
-
-  pub whole_activity_fails : (e : SyntaxFault) → at ≤ length tokens → Expects (mark_by kind.Activity (counted d 0)) tokens (at) (Err e) → FailsFrom (activity_family d) tokens at at e
-  whole_activity_fails e le h = mark_fails (activity_family d) tokens at at kind.Activity _ _ (at) e le h (begin (activity_family d) tokens at at)
-
-  pub whole_left_brace_fails : (activity : Place) → (activity_taken : run is_over (mark_by kind.Activity (counted d 0)) (drop (at) tokens) ≡ Took activity (drop (at + 1) tokens)) → (activity_inside : at + 1 ≤ length tokens) → (e : SyntaxFault) → at + 1 ≤ length tokens → Expects (mark_by kind.LeftBrace (counted d 0)) tokens (at + 1) (Err e) → FailsFrom (activity_family d) tokens at at e
-  whole_left_brace_fails activity activity_taken activity_inside e le h = mark_fails (activity_family d) tokens at at kind.LeftBrace _ _ (at + 1) e le h (mark_step (activity_family d) tokens at at kind.Activity _ _ (at) (at + 1) activity (omega arith) activity_taken (begin (activity_family d) tokens at at))
-
-  pub whole_statements_fails : (activity : Place) → (activity_taken : run is_over (mark_by kind.Activity (counted d 0)) (drop (at) tokens) ≡ Took activity (drop (at + 1) tokens)) → (activity_inside : at + 1 ≤ length tokens) → (left_brace : Place) → (left_brace_taken : run is_over (mark_by kind.LeftBrace (counted d 0)) (drop (at + 1) tokens) ≡ Took left_brace (drop (at + 1 + 1) tokens)) → (left_brace_inside : at + 1 + 1 ≤ length tokens) → at + 2 ≤ length tokens → (e : SyntaxFault) → FailsFrom (statements_family d) tokens (at + 2 - 1) (at + 2) e → FailsFrom (activity_family d) tokens at at e
-  whole_statements_fails activity activity_taken activity_inside left_brace left_brace_taken left_brace_inside le e h = fails (activity_family d) tokens at at (statements_family d) _ (at + 2 - 1) (at + 2) e (omega arith) h (mark_step (activity_family d) tokens at at kind.LeftBrace _ _ (at + 1) (at + 2) left_brace (omega arith) left_brace_taken (mark_step (activity_family d) tokens at at kind.Activity _ _ (at) (at + 1) activity (omega arith) activity_taken (begin (activity_family d) tokens at at)))
-
-  pub whole_right_brace_fails : (activity : Place) → (activity_taken : run is_over (mark_by kind.Activity (counted d 0)) (drop (at) tokens) ≡ Took activity (drop (at + 1) tokens)) → (activity_inside : at + 1 ≤ length tokens) → (left_brace : Place) → (left_brace_taken : run is_over (mark_by kind.LeftBrace (counted d 0)) (drop (at + 1) tokens) ≡ Took left_brace (drop (at + 1 + 1) tokens)) → (left_brace_inside : at + 1 + 1 ≤ length tokens) → (statements : List StatementTree) → (after : ℕ) → (statements_more : at + 2 + 0 ≤ after) → (statements_inside : after ≤ length tokens) → (statements_settles : SettlesFrom (statements_family d) tokens (at + 2 - 1) (at + 2) (Took statements (drop after tokens))) → (e : SyntaxFault) → after ≤ length tokens → Expects (mark_by kind.RightBrace (counted d 0)) tokens (after) (Err e) → FailsFrom (activity_family d) tokens at at e
-  whole_right_brace_fails activity activity_taken activity_inside left_brace left_brace_taken left_brace_inside statements after statements_more statements_inside statements_settles e le h = mark_fails (activity_family d) tokens at at kind.RightBrace _ _ (after) e le h (step (activity_family d) tokens at at (statements_family d) _ (at + 2 - 1) (at + 2) after statements (omega arith) (omega arith) statements_settles (mark_step (activity_family d) tokens at at kind.LeftBrace _ _ (at + 1) (at + 2) left_brace (omega arith) left_brace_taken (mark_step (activity_family d) tokens at at kind.Activity _ _ (at) (at + 1) activity (omega arith) activity_taken (begin (activity_family d) tokens at at))))
-
-  pub whole_given : (activity : Place) → (activity_taken : run is_over (mark_by kind.Activity (counted d 0)) (drop (at) tokens) ≡ Took activity (drop (at + 1) tokens)) → (activity_inside : at + 1 ≤ length tokens) → (left_brace : Place) → (left_brace_taken : run is_over (mark_by kind.LeftBrace (counted d 0)) (drop (at + 1) tokens) ≡ Took left_brace (drop (at + 1 + 1) tokens)) → (left_brace_inside : at + 1 + 1 ≤ length tokens) → (statements : List StatementTree) → (after : ℕ) → (statements_more : at + 2 + 0 ≤ after) → (statements_inside : after ≤ length tokens) → (statements_settles : SettlesFrom (statements_family d) tokens (at + 2 - 1) (at + 2) (Took statements (drop after tokens))) → (right_brace : Place) → (right_brace_taken : run is_over (mark_by kind.RightBrace (counted d 0)) (drop (after) tokens) ≡ Took right_brace (drop (after + 1) tokens)) → (right_brace_inside : after + 1 ≤ length tokens) → SettlesFrom (activity_family d) tokens at at (Took (MakeActivity activity left_brace statements right_brace) (drop (after + 1) tokens))
-  whole_given activity activity_taken activity_inside left_brace left_brace_taken left_brace_inside statements after statements_more statements_inside statements_settles right_brace right_brace_taken right_brace_inside = ends (activity_family d) tokens at at _ (after + 1) (mark_step (activity_family d) tokens at at kind.RightBrace _ _ (after) (after + 1) right_brace (omega arith) right_brace_taken (step (activity_family d) tokens at at (statements_family d) _ (at + 2 - 1) (at + 2) after statements (omega arith) (omega arith) statements_settles (mark_step (activity_family d) tokens at at kind.LeftBrace _ _ (at + 1) (at + 2) left_brace (omega arith) left_brace_taken (mark_step (activity_family d) tokens at at kind.Activity _ _ (at) (at + 1) activity (omega arith) activity_taken (begin (activity_family d) tokens at at)))))
+        pub select_rest_fails : (e : SyntaxFault) → FailsFrom (branches_family d) tokens (x.1 - 1) x.1 e → FailsFrom (select_family d) tokens at at e
+        select_rest_fails e h = fails (select_family d) tokens at at (branch_row_family d) _ (x.1 - 1) x.1 e (omega (arith, first.after)) (row_fails tokens (x.1 - 1) x.1 branch_row (branches_family d) e h) select_first_read
+
+        module _ {Y : Type 0} {view_list : Y → List BranchTree} {y : Y × ℕ} (rest : Read view_list (branches_family d) tokens (x.1 - 1) x.1 0 y) where
+          select_rest_read : Reaches (select_family d) tokens at at (λ m n. mark_by kind.RightBrace (counted d 0) >>= (λ r. Done (CoreSelect word left (view x.0) (branch_row (view_list y.0)) r))) y.1
+          select_rest_read =
+              step (select_family d) tokens at at (branch_row_family d) _ (x.1 - 1) x.1 y.1 (branch_row (view_list y.0)) (omega (arith, first.after))
+              (omega (arith, rest.after)) (row_settles tokens (x.1 - 1) x.1 branch_row (branches_family d) (view_list y.0) y.1 rest.settles)
+              select_first_read
+
+          pub select_end_fails : (e : SyntaxFault) → Expects (mark_by kind.RightBrace (counted d 0)) tokens y.1 (Err e) → FailsFrom (select_family d) tokens at at e
+          select_end_fails e h = mark_fails (select_family d) tokens at at kind.RightBrace _ _ y.1 e rest.inside h select_rest_read
+
+          pub select_given : (right : Place) → Expects (mark_by kind.RightBrace (counted d 0)) tokens y.1 (Ok right) → SettlesFrom (select_family d) tokens at at (Took (CoreSelect word left (view x.0) (branch_row (view_list y.0)) right) (drop (y.1 + 1) tokens))
+          select_given right h = ends (select_family d) tokens at at _ (y.1 + 1) (mark_step (select_family d) tokens at at kind.RightBrace _ _ y.1 (y.1 + 1) right (omega arith) h.0 select_rest_read)
+
+-- "repeat" times stmt
+module _ (tokens : List Token) (at d inner : ℕ) (deeper : inner ≡ suc d) where
+  pub repeat_word_fails : (e : SyntaxFault) → at ≤ length tokens → Expects (mark_by kind.Repeat (counted d 0)) tokens at (Err e) → FailsFrom (repeated_family d) tokens at at e
+  repeat_word_fails e le h = mark_fails (repeated_family d) tokens at at kind.Repeat _ _ at e le h (begin (repeated_family d) tokens at at)
+
+  module _ (word : Place) (found : Expects (mark_by kind.Repeat (counted d 0)) tokens at (Ok word)) where
+    repeat_word_read : Reaches (repeated_family d) tokens at at (λ m n. times_by (outermost_at (suc m)) d >>= (λ t. statement_at m d >>= (λ s. Done (CoreRepeat word t.0 t.1 t.2 t.3 s)))) (at + 1)
+    repeat_word_read = mark_step (repeated_family d) tokens at at kind.Repeat _ _ at (at + 1) word (omega arith) found.0 (begin (repeated_family d) tokens at at)
+
+    pub repeat_times_fail : (e : SyntaxFault) → FailsFrom (times_family d) tokens (at + 1) (at + 1) e → FailsFrom (repeated_family d) tokens at at e
+    repeat_times_fail e h = fails (repeated_family d) tokens at at (times_family d) _ (at + 1) (at + 1) e (omega arith) h repeat_word_read
+
+    module _ {X : Type 0} {view : X → TimesTree} {x : X × ℕ} (times : Read view (times_family d) tokens (at + 1) (at + 1) 1 x) where
+      repeat_times_read : Reaches (repeated_family d) tokens at at (λ m n. statement_at m d >>= (λ s. Done (CoreRepeat word (view x.0).0 (view x.0).1 (view x.0).2 (view x.0).3 s))) x.1
+      repeat_times_read = step (repeated_family d) tokens at at (times_family d) _ (at + 1) (at + 1) x.1 (view x.0) (omega arith) (omega (arith, times.after)) times.settles repeat_word_read
+
+      pub repeat_statement_fails : (e : SyntaxFault) → FailsFrom (statement_family inner) tokens x.1 x.1 e → FailsFrom (repeated_family d) tokens at at e
+      repeat_statement_fails e h = fails (repeated_family d) tokens at at (λ m n. statement_at m d) _ at x.1 e (omega arith) (statement_nested_fails tokens at x.1 inner d deeper e (omega (arith, times.after)) times.inside h) repeat_times_read
+
+      pub repeat_given :
+          {Y : Type 0} {view_statement : Y → StatementTree} {y : Y × ℕ} →
+          ReadOpen view_statement statement_ends_open (statement_family inner) tokens x.1 x.1 y →
+          SettlesFrom (repeated_family d) tokens at at (Took (CoreRepeat word (view x.0).0 (view x.0).1 (view x.0).2 (view x.0).3 (view_statement y.0)) (drop y.1 tokens))
+      repeat_given {Y} {view_statement} {y} s =
+          ends (repeated_family d) tokens at at _ y.1
+          (step (repeated_family d) tokens at at (λ m n. statement_at m d) _ at x.1 y.1 (view_statement y.0) (omega arith) (omega (arith, s.after))
+          (statement_nested tokens at x.1 inner d deeper _ (omega (arith, times.after)) times.inside s.settles) repeat_times_read)
+
+-- "if" "(" expr ")" stmt [ "else" stmt ]
+module _ (tokens : List Token) (at d inner : ℕ) (deeper : inner ≡ suc d) where
+  pub if_word_fails : (e : SyntaxFault) → at ≤ length tokens → Expects (mark_by kind.If (counted d 0)) tokens at (Err e) → FailsFrom (if_family d) tokens at at e
+  if_word_fails e le h = mark_fails (if_family d) tokens at at kind.If _ _ at e le h (begin (if_family d) tokens at at)
+
+  module _ (word : Place) (found : Expects (mark_by kind.If (counted d 0)) tokens at (Ok word)) where
+    if_word_read :
+        Reaches (if_family d) tokens at at (λ m n. mark_by kind.LeftParenthesis (counted d 0) >>= (λ l. outermost_at (suc m) d >>= (λ c. mark_by kind.RightParenthesis (counted d 0) >>= (λ r. statement_at m d >>= (λ t. maybe_else_by (statement_at m) d word l c r t (statement_ends_open t)))))) (at + 1)
+    if_word_read = mark_step (if_family d) tokens at at kind.If _ _ at (at + 1) word (omega arith) found.0 (begin (if_family d) tokens at at)
+
+    pub if_opening_fails : (e : SyntaxFault) → Expects (mark_by kind.LeftParenthesis (counted d 0)) tokens (at + 1) (Err e) → FailsFrom (if_family d) tokens at at e
+    if_opening_fails e h = mark_fails (if_family d) tokens at at kind.LeftParenthesis _ _ (at + 1) e found.1 h if_word_read
+
+    module _ (left : Place) (opened : Expects (mark_by kind.LeftParenthesis (counted d 0)) tokens (at + 1) (Ok left)) where
+      if_opening_read : Reaches (if_family d) tokens at at (λ m n. outermost_at (suc m) d >>= (λ c. mark_by kind.RightParenthesis (counted d 0) >>= (λ r. statement_at m d >>= (λ t. maybe_else_by (statement_at m) d word left c r t (statement_ends_open t))))) (at + 2)
+      if_opening_read = mark_step (if_family d) tokens at at kind.LeftParenthesis _ _ (at + 1) (at + 2) left (omega arith) opened.0 if_word_read
+
+      pub if_condition_fails : (e : SyntaxFault) → FailsFrom (outermost_family d) tokens (at + 2) (at + 2) e → FailsFrom (if_family d) tokens at at e
+      if_condition_fails e h = fails (if_family d) tokens at at (outermost_family d) _ (at + 2) (at + 2) e (omega arith) h if_opening_read
+
+      module _ {X : Type 0} {view : X → ExprTree} {x : X × ℕ} (condition : Read view (outermost_family d) tokens (at + 2) (at + 2) 1 x) where
+        if_condition_read : Reaches (if_family d) tokens at at (λ m n. mark_by kind.RightParenthesis (counted d 0) >>= (λ r. statement_at m d >>= (λ t. maybe_else_by (statement_at m) d word left (view x.0) r t (statement_ends_open t)))) x.1
+        if_condition_read = step (if_family d) tokens at at (outermost_family d) _ (at + 2) (at + 2) x.1 (view x.0) (omega arith) (omega (arith, condition.after)) condition.settles if_opening_read
+
+        pub if_closing_fails : (e : SyntaxFault) → Expects (mark_by kind.RightParenthesis (counted d 0)) tokens x.1 (Err e) → FailsFrom (if_family d) tokens at at e
+        if_closing_fails e h = mark_fails (if_family d) tokens at at kind.RightParenthesis _ _ x.1 e condition.inside h if_condition_read
+
+        module _ (right : Place) (closed : Expects (mark_by kind.RightParenthesis (counted d 0)) tokens x.1 (Ok right)) where
+          if_closing_read : Reaches (if_family d) tokens at at (λ m n. statement_at m d >>= (λ t. maybe_else_by (statement_at m) d word left (view x.0) right t (statement_ends_open t))) (x.1 + 1)
+          if_closing_read = mark_step (if_family d) tokens at at kind.RightParenthesis _ _ x.1 (x.1 + 1) right (omega arith) closed.0 if_condition_read
+
+          pub if_statement_fails : (e : SyntaxFault) → FailsFrom (statement_family inner) tokens (x.1 + 1) (x.1 + 1) e → FailsFrom (if_family d) tokens at at e
+          if_statement_fails e h = fails (if_family d) tokens at at (λ m n. statement_at m d) _ at (x.1 + 1) e (omega arith) (statement_nested_fails tokens at (x.1 + 1) inner d deeper e (omega (arith, condition.after)) closed.1 h) if_closing_read
+
+          module _ {Y : Type 0} {view_statement : Y → StatementTree} {y : Y × ℕ} (first : ReadOpen view_statement statement_ends_open (statement_family inner) tokens (x.1 + 1) (x.1 + 1) y) where
+            if_statement_read : Reaches (if_family d) tokens at at (λ m n. maybe_else_by (statement_at m) d word left (view x.0) right (view_statement y.0) (statement_ends_open (view_statement y.0))) y.1
+            if_statement_read = step (if_family d) tokens at at (λ m n. statement_at m d) _ at (x.1 + 1) y.1 (view_statement y.0) (omega arith) (omega (arith, first.after)) (statement_nested tokens at (x.1 + 1) inner d deeper _ (omega (arith, condition.after)) closed.1 first.settles) if_closing_read
+
+            pub if_given : next_is (is_mark kind.Else) (next (drop y.1 tokens)) ≡ false → SettlesFrom (if_family d) tokens at at (Took (CoreIf word left (view x.0) right (view_statement y.0)) (drop y.1 tokens))
+            if_given absent = ends (if_family d) tokens at at _ y.1 (no_else_behind (if_family d) tokens at at d word left (view x.0) right (view_statement y.0) y.1 absent if_statement_read)
+
+            module _ (present : next_is (is_mark kind.Else) (next (drop y.1 tokens)) ≡ true) where
+              else_read : Reaches (if_family d) tokens at at (λ m n. else_by (statement_at m) d word left (view x.0) right (view_statement y.0)) y.1
+              else_read = else_behind (if_family d) tokens at at d word left (view x.0) right (view_statement y.0) y.1 first.no_else present if_statement_read
+
+              pub else_word_fails : (e : SyntaxFault) → Expects (mark_by kind.Else (counted d 0)) tokens y.1 (Err e) → FailsFrom (if_family d) tokens at at e
+              else_word_fails e h = mark_fails (if_family d) tokens at at kind.Else _ _ y.1 e first.inside h else_read
+
+              module _ (other_word : Place) (other_found : Expects (mark_by kind.Else (counted d 0)) tokens y.1 (Ok other_word)) where
+                else_word_read : Reaches (if_family d) tokens at at (λ m n. statement_at m d >>= (λ t. Done (CoreIfElse word left (view x.0) right (view_statement y.0) other_word t))) (y.1 + 1)
+                else_word_read = mark_step (if_family d) tokens at at kind.Else _ _ y.1 (y.1 + 1) other_word (omega arith) other_found.0 else_read
+
+                pub else_statement_fails : (e : SyntaxFault) → FailsFrom (statement_family inner) tokens (y.1 + 1) (y.1 + 1) e → FailsFrom (if_family d) tokens at at e
+                else_statement_fails e h = fails (if_family d) tokens at at (λ m n. statement_at m d) _ at (y.1 + 1) e (omega arith) (statement_nested_fails tokens at (y.1 + 1) inner d deeper e (omega (arith, condition.after, first.after)) other_found.1 h) else_word_read
+
+                pub else_given :
+                    {Z : Type 0} {view_other : Z → StatementTree} {z : Z × ℕ} →
+                    ReadOpen view_other statement_ends_open (statement_family inner) tokens (y.1 + 1) (y.1 + 1) z →
+                    SettlesFrom (if_family d) tokens at at (Took (CoreIfElse word left (view x.0) right (view_statement y.0) other_word (view_other z.0)) (drop z.1 tokens))
+                else_given {Z} {view_other} {z} s =
+                    ends (if_family d) tokens at at _ z.1
+                    (step (if_family d) tokens at at (λ m n. statement_at m d) _ at (y.1 + 1) z.1 (view_other z.0) (omega arith)
+                    (omega (arith, s.after))
+                    (statement_nested tokens at (y.1 + 1) inner d deeper _ (omega (arith, condition.after, first.after)) other_found.1 s.settles)
+                    else_word_read)
+
+-- arm = label ":" stmt
+module _ (tokens : List Token) (at d inner : ℕ) (deeper : inner ≡ suc d) where
+  pub arm_label_fails : (e : SyntaxFault) → FailsFrom (arm_label_family d) tokens at at e → FailsFrom (arm_family d) tokens at at e
+  arm_label_fails e h = fails (arm_family d) tokens at at (arm_label_family d) _ at at e (omega arith) h (begin (arm_family d) tokens at at)
+
+  module _ {X : Type 0} {view : X → ArmLabelTree} {x : X × ℕ} (label : Read view (arm_label_family d) tokens at at 1 x) where
+    arm_label_read : Reaches (arm_family d) tokens at at (λ m n. mark_by kind.Colon (counted d 0) >>= (λ c. statement_at m d >>= (λ s. Done (MakeArm (view x.0) c s)))) x.1
+    arm_label_read = step (arm_family d) tokens at at (arm_label_family d) _ at at x.1 (view x.0) (omega arith) (omega (arith, label.after)) label.settles (begin (arm_family d) tokens at at)
+
+    pub arm_colon_fails : (e : SyntaxFault) → Expects (mark_by kind.Colon (counted d 0)) tokens x.1 (Err e) → FailsFrom (arm_family d) tokens at at e
+    arm_colon_fails e h = mark_fails (arm_family d) tokens at at kind.Colon _ _ x.1 e label.inside h arm_label_read
+
+    module _ (colon : Place) (found : Expects (mark_by kind.Colon (counted d 0)) tokens x.1 (Ok colon)) where
+      arm_colon_read : Reaches (arm_family d) tokens at at (λ m n. statement_at m d >>= (λ s. Done (MakeArm (view x.0) colon s))) (x.1 + 1)
+      arm_colon_read = mark_step (arm_family d) tokens at at kind.Colon _ _ x.1 (x.1 + 1) colon (omega arith) found.0 arm_label_read
+
+      pub arm_statement_fails : (e : SyntaxFault) → FailsFrom (statement_family inner) tokens (x.1 + 1) (x.1 + 1) e → FailsFrom (arm_family d) tokens at at e
+      arm_statement_fails e h = fails (arm_family d) tokens at at (λ m n. statement_at m d) _ at (x.1 + 1) e (omega arith) (statement_nested_fails tokens at (x.1 + 1) inner d deeper e (omega (arith, label.after)) found.1 h) arm_colon_read
+
+      pub arm_given : {Y : Type 0} {view_statement : Y → StatementTree} {y : Y × ℕ} → ReadOpen view_statement statement_ends_open (statement_family inner) tokens (x.1 + 1) (x.1 + 1) y → SettlesFrom (arm_family d) tokens at at (Took (MakeArm (view x.0) colon (view_statement y.0)) (drop y.1 tokens))
+      arm_given {Y} {view_statement} {y} s =
+          ends (arm_family d) tokens at at _ y.1
+          (step (arm_family d) tokens at at (λ m n. statement_at m d) _ at (x.1 + 1) y.1 (view_statement y.0) (omega arith) (omega (arith, s.after))
+          (statement_nested tokens at (x.1 + 1) inner d deeper _ (omega (arith, label.after)) found.1 s.settles) arm_colon_read)
+
+-- "match" "(" expr ")" "{" arm { arm } "}"
+module _ (tokens : List Token) (at d : ℕ) where
+  pub match_word_fails : (e : SyntaxFault) → at ≤ length tokens → Expects (mark_by kind.Match (counted d 0)) tokens at (Err e) → FailsFrom (match_family d) tokens at at e
+  match_word_fails e le h = mark_fails (match_family d) tokens at at kind.Match _ _ at e le h (begin (match_family d) tokens at at)
+
+  module _ (word : Place) (found : Expects (mark_by kind.Match (counted d 0)) tokens at (Ok word)) where
+    match_word_read :
+        Reaches (match_family d) tokens at at (λ m n. mark_by kind.LeftParenthesis (counted d 0) >>= (λ l. outermost_at (suc m) d >>= (λ c. mark_by kind.RightParenthesis (counted d 0) >>= (λ r. mark_by kind.LeftBrace (counted d 0) >>= (λ b. arm_family d m n >>= (λ a. arm_row_family d m n >>= (λ more. mark_by kind.RightBrace (counted d 0) >>= (λ e. Done (CoreMatch word l c r b a more e))))))))) (at + 1)
+    match_word_read = mark_step (match_family d) tokens at at kind.Match _ _ at (at + 1) word (omega arith) found.0 (begin (match_family d) tokens at at)
+
+    pub match_opening_fails : (e : SyntaxFault) → Expects (mark_by kind.LeftParenthesis (counted d 0)) tokens (at + 1) (Err e) → FailsFrom (match_family d) tokens at at e
+    match_opening_fails e h = mark_fails (match_family d) tokens at at kind.LeftParenthesis _ _ (at + 1) e found.1 h match_word_read
+
+    module _ (left : Place) (opened : Expects (mark_by kind.LeftParenthesis (counted d 0)) tokens (at + 1) (Ok left)) where
+      match_opening_read :
+          Reaches (match_family d) tokens at at (λ m n. outermost_at (suc m) d >>= (λ c. mark_by kind.RightParenthesis (counted d 0) >>= (λ r. mark_by kind.LeftBrace (counted d 0) >>= (λ b. arm_family d m n >>= (λ a. arm_row_family d m n >>= (λ more. mark_by kind.RightBrace (counted d 0) >>= (λ e. Done (CoreMatch word left c r b a more e)))))))) (at + 2)
+      match_opening_read = mark_step (match_family d) tokens at at kind.LeftParenthesis _ _ (at + 1) (at + 2) left (omega arith) opened.0 match_word_read
+
+      pub match_value_fails : (e : SyntaxFault) → FailsFrom (outermost_family d) tokens (at + 2) (at + 2) e → FailsFrom (match_family d) tokens at at e
+      match_value_fails e h = fails (match_family d) tokens at at (outermost_family d) _ (at + 2) (at + 2) e (omega arith) h match_opening_read
+
+      module _ {X : Type 0} {view : X → ExprTree} {x : X × ℕ} (value : Read view (outermost_family d) tokens (at + 2) (at + 2) 1 x) where
+        match_value_read :
+            Reaches (match_family d) tokens at at (λ m n. mark_by kind.RightParenthesis (counted d 0) >>= (λ r. mark_by kind.LeftBrace (counted d 0) >>= (λ b. arm_family d m n >>= (λ a. arm_row_family d m n >>= (λ more. mark_by kind.RightBrace (counted d 0) >>= (λ e. Done (CoreMatch word left (view x.0) r b a more e))))))) x.1
+        match_value_read = step (match_family d) tokens at at (outermost_family d) _ (at + 2) (at + 2) x.1 (view x.0) (omega arith) (omega (arith, value.after)) value.settles match_opening_read
+
+        pub match_closing_fails : (e : SyntaxFault) → Expects (mark_by kind.RightParenthesis (counted d 0)) tokens x.1 (Err e) → FailsFrom (match_family d) tokens at at e
+        match_closing_fails e h = mark_fails (match_family d) tokens at at kind.RightParenthesis _ _ x.1 e value.inside h match_value_read
+
+        module _ (right : Place) (closed : Expects (mark_by kind.RightParenthesis (counted d 0)) tokens x.1 (Ok right)) where
+          match_closing_read :
+              Reaches (match_family d) tokens at at (λ m n. mark_by kind.LeftBrace (counted d 0) >>= (λ b. arm_family d m n >>= (λ a. arm_row_family d m n >>= (λ more. mark_by kind.RightBrace (counted d 0) >>= (λ e. Done (CoreMatch word left (view x.0) right b a more e)))))) (x.1 + 1)
+          match_closing_read = mark_step (match_family d) tokens at at kind.RightParenthesis _ _ x.1 (x.1 + 1) right (omega arith) closed.0 match_value_read
+
+          pub match_brace_fails : (e : SyntaxFault) → Expects (mark_by kind.LeftBrace (counted d 0)) tokens (x.1 + 1) (Err e) → FailsFrom (match_family d) tokens at at e
+          match_brace_fails e h = mark_fails (match_family d) tokens at at kind.LeftBrace _ _ (x.1 + 1) e closed.1 h match_closing_read
+
+          module _ (brace : Place) (begun : Expects (mark_by kind.LeftBrace (counted d 0)) tokens (x.1 + 1) (Ok brace)) where
+            match_brace_read : Reaches (match_family d) tokens at at (λ m n. arm_family d m n >>= (λ a. arm_row_family d m n >>= (λ more. mark_by kind.RightBrace (counted d 0) >>= (λ e. Done (CoreMatch word left (view x.0) right brace a more e))))) (x.1 + 2)
+            match_brace_read = mark_step (match_family d) tokens at at kind.LeftBrace _ _ (x.1 + 1) (x.1 + 2) brace (omega arith) begun.0 match_closing_read
+
+            pub match_first_fails : (e : SyntaxFault) → FailsFrom (arm_family d) tokens (x.1 + 2) (x.1 + 2) e → FailsFrom (match_family d) tokens at at e
+            match_first_fails e h = fails (match_family d) tokens at at (arm_family d) _ (x.1 + 2) (x.1 + 2) e (omega (arith, value.after)) h match_brace_read
+
+            module _ {Y : Type 0} {view_first : Y → ArmTree} {y : Y × ℕ} (first : Read view_first (arm_family d) tokens (x.1 + 2) (x.1 + 2) 1 y) where
+              match_first_read : Reaches (match_family d) tokens at at (λ m n. arm_row_family d m n >>= (λ more. mark_by kind.RightBrace (counted d 0) >>= (λ e. Done (CoreMatch word left (view x.0) right brace (view_first y.0) more e)))) y.1
+              match_first_read = step (match_family d) tokens at at (arm_family d) _ (x.1 + 2) (x.1 + 2) y.1 (view_first y.0) (omega (arith, value.after)) (omega (arith, first.after)) first.settles match_brace_read
+
+              pub match_rest_fails : (e : SyntaxFault) → FailsFrom (arms_family d) tokens (y.1 - 1) y.1 e → FailsFrom (match_family d) tokens at at e
+              match_rest_fails e h = fails (match_family d) tokens at at (arm_row_family d) _ (y.1 - 1) y.1 e (omega (arith, value.after, first.after)) (row_fails tokens (y.1 - 1) y.1 arm_row (arms_family d) e h) match_first_read
+
+              module _ {Z : Type 0} {view_list : Z → List ArmTree} {z : Z × ℕ} (rest : Read view_list (arms_family d) tokens (y.1 - 1) y.1 0 z) where
+                match_rest_read : Reaches (match_family d) tokens at at (λ m n. mark_by kind.RightBrace (counted d 0) >>= (λ e. Done (CoreMatch word left (view x.0) right brace (view_first y.0) (arm_row (view_list z.0)) e))) z.1
+                match_rest_read =
+                    step (match_family d) tokens at at (arm_row_family d) _ (y.1 - 1) y.1 z.1 (arm_row (view_list z.0))
+                    (omega (arith, value.after, first.after)) (omega (arith, rest.after))
+                    (row_settles tokens (y.1 - 1) y.1 arm_row (arms_family d) (view_list z.0) z.1 rest.settles) match_first_read
+
+                pub match_end_fails : (e : SyntaxFault) → Expects (mark_by kind.RightBrace (counted d 0)) tokens z.1 (Err e) → FailsFrom (match_family d) tokens at at e
+                match_end_fails e h = mark_fails (match_family d) tokens at at kind.RightBrace _ _ z.1 e rest.inside h match_rest_read
+
+                pub match_given : (end : Place) → Expects (mark_by kind.RightBrace (counted d 0)) tokens z.1 (Ok end) → SettlesFrom (match_family d) tokens at at (Took (CoreMatch word left (view x.0) right brace (view_first y.0) (arm_row (view_list z.0)) end) (drop (z.1 + 1) tokens))
+                match_given end h = ends (match_family d) tokens at at _ (z.1 + 1) (mark_step (match_family d) tokens at at kind.RightBrace _ _ z.1 (z.1 + 1) end (omega arith) h.0 match_rest_read)
+
+-- a statement that begins with a name
+module _ (tokens : List Token) (at d : ℕ) where
+  pub named_name_fails : (e : SyntaxFault) → at ≤ length tokens → Expects (name_by (counted d 0)) tokens at (Err e) → FailsFrom (named_family d) tokens at at e
+  named_name_fails e le h = name_fails (named_family d) tokens at at _ _ at e le h (begin (named_family d) tokens at at)
+
+  module _ (name : Name) (found : Expects (name_by (counted d 0)) tokens at (Ok name)) where
+    -- NAME with
+    module _ (absent : next_is (is_mark kind.Colon) (next (drop (at + 1) tokens)) ≡ false) where
+      handle_name_read : Reaches (named_family d) tokens at at (λ m n. traversed_by (constraint_at (suc m)) d name) (at + 1)
+      handle_name_read = choose (named_family d) tokens at at kind.Colon _ _ (at + 1) false absent (name_step (named_family d) tokens at at _ _ at (at + 1) name (omega arith) found.0 (begin (named_family d) tokens at at))
+
+      pub handle_with_fails : (e : SyntaxFault) → FailsFrom (with_family d) tokens (at + 1) (at + 1) e → FailsFrom (named_family d) tokens at at e
+      handle_with_fails e h = fails (named_family d) tokens at at (with_family d) _ (at + 1) (at + 1) e (omega arith) h handle_name_read
+
+      pub handle_given : (with : WithTree) (behind : ℕ) → at + 1 ≤ behind → SettlesFrom (with_family d) tokens (at + 1) (at + 1) (Took with (drop behind tokens)) → SettlesFrom (named_family d) tokens at at (Took (StatementPlain (CoreHandle name with)) (drop behind tokens))
+      handle_given with behind le h = ends (named_family d) tokens at at _ behind (step (named_family d) tokens at at (with_family d) _ (at + 1) (at + 1) behind with (omega arith) le h handle_name_read)
+
+    -- NAME ":" core
+    module _ (present : next_is (is_mark kind.Colon) (next (drop (at + 1) tokens)) ≡ true) where
+      label_name_read : Reaches (named_family d) tokens at at (λ m n. labeled_by (outermost_at (suc m)) (constraint_at (suc m)) (statement_at m) m d name) (at + 1)
+      label_name_read = choose (named_family d) tokens at at kind.Colon _ _ (at + 1) true present (name_step (named_family d) tokens at at _ _ at (at + 1) name (omega arith) found.0 (begin (named_family d) tokens at at))
+
+      pub label_colon_fails : (e : SyntaxFault) → Expects (mark_by kind.Colon (counted d 0)) tokens (at + 1) (Err e) → FailsFrom (named_family d) tokens at at e
+      label_colon_fails e h = mark_fails (named_family d) tokens at at kind.Colon _ _ (at + 1) e found.1 h label_name_read
+
+      module _ (colon : Place) (behind_it : Expects (mark_by kind.Colon (counted d 0)) tokens (at + 1) (Ok colon)) where
+        label_colon_read : Reaches (named_family d) tokens at at (λ m n. core_family d m n >>= (λ c. Done (StatementLabeled (record { name = name; colon = colon }) c))) (at + 2)
+        label_colon_read = mark_step (named_family d) tokens at at kind.Colon _ _ (at + 1) (at + 2) colon (omega arith) behind_it.0 label_name_read
+
+        pub label_core_fails : (e : SyntaxFault) → FailsFrom (core_family d) tokens (at + 2) (at + 2) e → FailsFrom (named_family d) tokens at at e
+        label_core_fails e h = fails (named_family d) tokens at at (core_family d) _ (at + 2) (at + 2) e (omega arith) h label_colon_read
+
+        pub label_given : (core : CoreTree) (after : ℕ) → at + 2 ≤ after → SettlesFrom (core_family d) tokens (at + 2) (at + 2) (Took core (drop after tokens)) → SettlesFrom (named_family d) tokens at at (Took (StatementLabeled (record { name = name; colon = colon }) core) (drop after tokens))
+        label_given core after le h = ends (named_family d) tokens at at _ after (step (named_family d) tokens at at (core_family d) _ (at + 2) (at + 2) after core (omega arith) le h label_colon_read)
+
+-- a statement without a label
+module _ (tokens : List Token) (at d : ℕ) where
+  pub plain_core_fails : (e : SyntaxFault) → FailsFrom (core_family d) tokens at at e → FailsFrom (plain_family d) tokens at at e
+  plain_core_fails e h = fails (plain_family d) tokens at at (core_family d) _ at at e (omega arith) h (begin (plain_family d) tokens at at)
+
+  pub plain_given : (core : CoreTree) (after : ℕ) → at ≤ after → SettlesFrom (core_family d) tokens at at (Took core (drop after tokens)) → SettlesFrom (plain_family d) tokens at at (Took (StatementPlain core) (drop after tokens))
+  plain_given core after le h = ends (plain_family d) tokens at at _ after (step (plain_family d) tokens at at (core_family d) _ at at after core (omega arith) le h (begin (plain_family d) tokens at at))
+
+-- "activity" "{" { stmt } "}"
+module _ (tokens : List Token) (at d : ℕ) where
+  pub activity_word_fails : (e : SyntaxFault) → at ≤ length tokens → Expects (mark_by kind.Activity (counted d 0)) tokens at (Err e) → FailsFrom (activity_family d) tokens at at e
+  activity_word_fails e le h = mark_fails (activity_family d) tokens at at kind.Activity _ _ at e le h (begin (activity_family d) tokens at at)
+
+  module _ (word : Place) (found : Expects (mark_by kind.Activity (counted d 0)) tokens at (Ok word)) where
+    activity_word_read : Reaches (activity_family d) tokens at at (λ m n. mark_by kind.LeftBrace (counted d 0) >>= (λ l. statements_family d m n >>= (λ s. mark_by kind.RightBrace (counted d 0) >>= (λ r. Done (MakeActivity word l s r))))) (at + 1)
+    activity_word_read = mark_step (activity_family d) tokens at at kind.Activity _ _ at (at + 1) word (omega arith) found.0 (begin (activity_family d) tokens at at)
+
+    pub activity_brace_fails : (e : SyntaxFault) → Expects (mark_by kind.LeftBrace (counted d 0)) tokens (at + 1) (Err e) → FailsFrom (activity_family d) tokens at at e
+    activity_brace_fails e h = mark_fails (activity_family d) tokens at at kind.LeftBrace _ _ (at + 1) e found.1 h activity_word_read
+
+    module _ (left : Place) (opened : Expects (mark_by kind.LeftBrace (counted d 0)) tokens (at + 1) (Ok left)) where
+      activity_brace_read : Reaches (activity_family d) tokens at at (λ m n. statements_family d m n >>= (λ s. mark_by kind.RightBrace (counted d 0) >>= (λ r. Done (MakeActivity word left s r)))) (at + 2)
+      activity_brace_read = mark_step (activity_family d) tokens at at kind.LeftBrace _ _ (at + 1) (at + 2) left (omega arith) opened.0 activity_word_read
+
+      pub activity_statements_fail : (e : SyntaxFault) → FailsFrom (statements_family d) tokens (at + 2 - 1) (at + 2) e → FailsFrom (activity_family d) tokens at at e
+      activity_statements_fail e h = fails (activity_family d) tokens at at (statements_family d) _ (at + 2 - 1) (at + 2) e (omega arith) h activity_brace_read
+
+      module _ {Y : Type 0} {view_list : Y → List StatementTree} {y : Y × ℕ} (listed : Read view_list (statements_family d) tokens (at + 2 - 1) (at + 2) 0 y) where
+        activity_statements_read : Reaches (activity_family d) tokens at at (λ m n. mark_by kind.RightBrace (counted d 0) >>= (λ r. Done (MakeActivity word left (view_list y.0) r))) y.1
+        activity_statements_read = step (activity_family d) tokens at at (statements_family d) _ (at + 2 - 1) (at + 2) y.1 (view_list y.0) (omega arith) (omega (arith, listed.after)) listed.settles activity_brace_read
+
+        pub activity_end_fails : (e : SyntaxFault) → Expects (mark_by kind.RightBrace (counted d 0)) tokens y.1 (Err e) → FailsFrom (activity_family d) tokens at at e
+        activity_end_fails e h = mark_fails (activity_family d) tokens at at kind.RightBrace _ _ y.1 e listed.inside h activity_statements_read
+
+        pub activity_given : (right : Place) → Expects (mark_by kind.RightBrace (counted d 0)) tokens y.1 (Ok right) → SettlesFrom (activity_family d) tokens at at (Took (MakeActivity word left (view_list y.0) right) (drop (y.1 + 1) tokens))
+        activity_given right h = ends (activity_family d) tokens at at _ (y.1 + 1) (mark_step (activity_family d) tokens at at kind.RightBrace _ _ y.1 (y.1 + 1) right (omega arith) h.0 activity_statements_read)

@@ -7,3 +7,5 @@ pub mod ActivityViews
 pub mod ActivityLooks
 pub mod ActivityNested
 pub mod ActivityRules
+pub mod ActivityCores
+pub mod Kept
