@@ -1,9 +1,6 @@
-pub mod Over
 pub mod Links
 pub mod Acts
 pub mod Grouping
-pub mod Tables
-pub mod Tabled
 pub mod Named
 pub mod Listed
 pub mod Ends

@@ -6,7 +6,7 @@ ghost use Rattle.pst_scen.specs.Refusals.{IsOnCycle, GroupClashes, IsParallelOrd
 ghost use Rattle.pst_order.specs.Facts.{IsLinked};
 
 use crate::cause::{clashes_alone, contend};
-use crate::parallel::{stand_parallel, stands_in_parallel};
+use pst_nodes::{stand_parallel, stands_in_parallel};
 use pst_scen::{Plan, Scenario};
 use pst_square::next_in;
 

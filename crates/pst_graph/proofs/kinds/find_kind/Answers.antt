@@ -3,8 +3,8 @@ use Rattle.std.proofs.lemmas.Option.{slice_get-get_or, slice_get_within}
 use Rattle.std.proofs.lemmas.Bool.Decides.{nat_tests}
 use Rattle.pst_graph.specs.declared.uses.Use.{Use}
 use Rattle.pst_graph.specs.Uses.{AreSameKind, IsKindAt}
-use Rattle.pst_graph.proofs.Bits.{no_true}
-use Rattle.pst_graph.proofs.Climbs.{same_some}
+use Rattle.pst_nodes.proofs.Bits.{no_true}
+use Rattle.pst_nodes.proofs.Climbs.{same_some}
 use Rattle.pst_graph.proofs.Grouped.{none_below}
 use Rattle.pst_graph.proofs.UsesApart.{blank}
 use Rattle.pst_graph.proofs.kinds.find_kind.Goals as goal
