@@ -8,3 +8,4 @@ pub mod Whole
 pub mod Streamed
 pub mod Uses
 pub mod Sets
+pub mod Ordered

@@ -1,11 +1,12 @@
 //! The plan of a scenario, or why it has none.
-ghost use Rattle.std.specs.Prelude.{◌≡◌, ◌<◌, ◌^◌, length, IfOk, IfErr, MatchOption, MatchResult};
-ghost use Rattle.pst_scen.specs.Plans.{AreEntriesOf, IsPlanOf};
+ghost use Rattle.std.specs.Prelude.{◌≡◌, ◌<◌, ℕ, length, get_or, IfOk, IfErr, MatchOption, MatchResult};
+ghost use Rattle.pst_scen.specs.Plans.{AreEntriesOf, IsGroupNumber, IsPlanOf};
 ghost use Rattle.pst_scen.specs.Refusals.{IsUnrefused};
 ghost use Rattle.pst_order.specs.Facts.{IsLinked};
 ghost use Rattle.pst_order.specs.Built.{IsBuilt};
 ghost use Rattle.pst_graph.specs.declared.planning.PlanEnd.TheVariants as end;
 ghost use Rattle.pst_graph.specs.Ends.{IsRefusal, IsEndOf};
+ghost use Rattle.pst_graph.specs.Ordered.{IsOrder};
 
 use crate::groups::groups_of;
 use crate::must::must_rows;
@@ -13,7 +14,8 @@ use crate::refusals::{find_cycle, find_group_clash, find_parallel_clash, find_pa
 use crate::rows::conflict_rows;
 use pst_base::NoMemory;
 use pst_order::unrefused_is_planned;
-use pst_scen::{Plan, Scenario};
+use pst_scen::{Plan, Rows, Scenario};
+use pst_square::Closing;
 use std::alloc::Global;
 
 /// Why a scenario has no plan. The first reason in this order is given, with its least action or
@@ -45,14 +47,19 @@ impl From<NoMemory> for PlanEnd {
 }
 
 /// The groups, the order and the conflicts of the scenario, whether or not it has a plan.
-fn entries_of(alloc: Global, scenario: &Scenario) -> Result<Plan, NoMemory>
-    requires built { IsBuilt scenario.now }
-    requires few { length scenario.now.actions < 2 ^ 31 }
+fn entries_of(
+    alloc: Global,
+    scenario: &Scenario,
+    groups: Vec<u32>,
+    must: Rows,
+    count: u32,
+) -> Result<Plan, NoMemory>
+    requires many { length groups.items ≡ length scenario.now.actions }
+    requires numbers { (a : ℕ) → a < length scenario.now.actions → IsGroupNumber scenario.now a (get_or groups.items a 0) }
+    requires order { IsOrder scenario.now must }
+    requires count { count ≡ length scenario.now.actions }
     ensures { IfOk result (AreEntriesOf scenario.now) }
 {
-    let count = scenario.actions.as_slice().len() as u32;
-    let groups = groups_of(alloc, scenario, count)?;
-    let must = must_rows(alloc, scenario, &groups, count)?;
     let conflict = conflict_rows(alloc, scenario, count)?;
     Plan::of_rows_in(alloc, groups, must, conflict)
 }
@@ -89,7 +96,13 @@ pub fn plan_of(alloc: Global, scenario: &Scenario) -> Result<Plan, PlanEnd>
     ensures unrefused { IsUnrefused scenario.now → IfErr result (λ e. e ≡ end.NoMemory) }
 {
     unrefused_is_planned();
-    let plan = entries_of(alloc, scenario)?;
+    let count = scenario.actions.as_slice().len() as u32;
+    let groups = groups_of(alloc, scenario, count)?;
+    let must = match must_rows(alloc, scenario, &groups, count)? {
+        Closing::Closed { rows } => rows,
+        Closing::Circle { least } => return Err(PlanEnd::Cycle { a: least }),
+    };
+    let plan = entries_of(alloc, scenario, groups, must, count)?;
     if let Some(end) = refusal(scenario, &plan) {
         return Err(end);
     }

@@ -5,3 +5,4 @@ pub mod Listed
 pub mod Spread
 pub mod Next
 pub mod Walks
+pub mod Circles
