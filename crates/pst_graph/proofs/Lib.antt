@@ -11,3 +11,4 @@ mod Least
 mod Refused
 mod Numbered
 mod Ended
+mod Besides

@@ -7,3 +7,4 @@ pub mod Ends
 pub mod Leaves
 pub mod BehindRange
 pub mod LeafNumbers
+pub mod BesideRange

@@ -4,10 +4,12 @@
 
 mod before;
 mod behind;
+mod beside;
 mod climb;
 mod parallel;
 mod tables;
 
 pub use behind::add_behinds;
+pub use beside::first_beside;
 pub use parallel::{stand_parallel, stands_in_parallel};
 pub use tables::Tables;

@@ -21,7 +21,7 @@ fn is_parallel(fill: &Fill) -> bool
 }
 
 /// Whether the node is a parallel block.
-fn is_block(nodes: &[Node], n: usize) -> bool
+pub(crate) fn is_block(nodes: &[Node], n: usize) -> bool
     requires { n < length nodes.now }
     ensures { IsTrue result ↔ IsParallelBlock nodes.now n }
 {

@@ -133,6 +133,15 @@ impl Tables {
         })
     }
 
+    /// How many leaves stand before the node.
+    pub(crate) fn leaves_until(&self, nodes: &[Node], n: usize) -> u32
+        requires tables { AreTables nodes.now self.now }
+        requires n_in { n < length nodes.now }
+        ensures { result ≡ leaf_count nodes.now n }
+    {
+        self.counts[n]
+    }
+
     /// How many leaves stand before the node's end.
     pub fn leaves_until_end(&self, nodes: &[Node], n: usize) -> u32
         requires tables { AreTables nodes.now self.now }
