@@ -12,3 +12,4 @@ mod Refused
 mod Numbered
 mod Ended
 mod Besides
+mod Running

@@ -9,3 +9,4 @@ pub mod Streamed
 pub mod Uses
 pub mod Sets
 pub mod Ordered
+pub mod Runs

@@ -4,7 +4,6 @@
 mod apart;
 mod cause;
 mod groups;
-mod kinds;
 mod links;
 mod must;
 mod named;
@@ -12,6 +11,7 @@ mod planning;
 mod refusals;
 mod replaced;
 mod rows;
+mod runs;
 mod usage;
 mod uses;
 mod whole;

@@ -6,3 +6,4 @@ pub mod Spread
 pub mod Next
 pub mod Walks
 pub mod Circles
+pub mod Marks

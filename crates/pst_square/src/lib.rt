@@ -5,12 +5,14 @@
 mod circle;
 mod closure;
 mod guess;
+mod marks;
 mod next;
 mod spreading;
 mod square;
 mod walk;
 
 pub use closure::{Closing, closed_rows};
+pub use marks::{mark, no_marks};
 pub use next::{next_between, next_in};
 pub use spreading::spread;
 pub use square::Square;

@@ -32,7 +32,7 @@ pub(crate) enum Turn {
 }
 
 /// The word with that bit set too.
-fn with_bit(word: u64, bit: usize) -> u64
+pub(crate) fn with_bit(word: u64, bit: usize) -> u64
     requires { bit < 64 }
     ensures { (k : ℕ) → IsBitSet result k ↔ IsBitSet word k ⊎ (k ≡ bit) }
 {
