@@ -13,7 +13,7 @@ use Rattle.pst_scen.specs.Conflicts.{Clash, Resource, FirstWrites, SecondWrites,
 use Rattle.pst_scen.specs.Plans.{Contend}
 use Rattle.pst_graph.specs.Links.{HasLink, HasUse, WritesUsed, HasDispute}
 use Rattle.pst_graph.specs.Acts.{LinksOrder, ByBuffer, BySource, ByPrevious, ByReader, Touches}
-use Rattle.pst_graph.proofs.Climbs.{same_some}
+use Rattle.pst_nodes.proofs.Climbs.{same_some}
 
 pub one_act : (s : Scenario) (a : ℕ) (x y : Act) → IsAct s a x → IsAct s a y → x ≡ y
 one_act s a x y is other = same_some x y (sym is ∙ other)

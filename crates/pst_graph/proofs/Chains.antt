@@ -9,7 +9,12 @@ use Rattle.pst_scen.specs.Order.{Cause, Sequence, Buffer, Source, Previous, Repl
 use Rattle.pst_scen.specs.Rows.{IsSquare, Has}
 use Rattle.pst_order.specs.Facts.{IsLinked}
 use Rattle.pst_square.specs.Chains.{IsChain, Once, Chained}
+use Rattle.pst_scen.specs.Refusals.{IsOnCycle}
+use Rattle.pst_square.specs.Circles.{IsOnCircle, IsClosingOf}
+use Rattle.pst_square.specs.declared.closure.Closing.{Closing}
+use Rattle.pst_square.specs.declared.closure.Closing.TheVariants.{Closed, Circle}
 use Rattle.pst_graph.specs.Grouping.{MustDirectly}
+use Rattle.pst_graph.specs.Ordered.{IsOrderOf}
 
 module _ (R S : ℕ → ℕ → Type 0) (size : ℕ) (each : (a b : ℕ) → a < size → b < size → R a b → S a b) where
   -- a chain of pairs of one relation is one of another that has them
@@ -47,7 +52,7 @@ module _ (s : Scenario) (linked : IsLinked s) where
   must_is_chain a b = (chained_must a b, must_chained a b)
 
   -- the closure of the square of direct causes is the square of the order
-  pub must_square : (direct rows : Rows) → direct.size ≡ length s.actions → ((a b : ℕ) → a < length s.actions → b < length s.actions → Has direct a b ↔ MustDirectly s a b)
+  must_square : (direct rows : Rows) → direct.size ≡ length s.actions → ((a b : ℕ) → a < length s.actions → b < length s.actions → Has direct a b ↔ MustDirectly s a b)
       → (rows.size ≡ direct.size) × IsSquare rows × ((a b : ℕ) → a < direct.size → b < direct.size → Has rows a b ↔ IsChain (Has direct) direct.size a b)
       → (rows.size ≡ length s.actions) × IsSquare rows × ((a b : ℕ) → a < length s.actions → b < length s.actions → Has rows a b ↔ Must s a b)
   must_square direct rows size are h = (h.0 ∙ size, h.1, both)
@@ -65,3 +70,30 @@ module _ (s : Scenario) (linked : IsLinked s) where
         λ must. (closed a b a_in b_in).1
             (chain_of (MustDirectly s) (Has direct) (length s.actions) (λ x y x_in y_in. (are x y x_in y_in).1) a b a_in b_in ((must_is_chain a b).1 must)),
       )
+
+  -- a chain of direct causes from an action back to it is a cycle
+  circle_cycle : (direct : Rows) → direct.size ≡ length s.actions → ((a b : ℕ) → a < length s.actions → b < length s.actions → Has direct a b ↔ MustDirectly s a b) → (a : ℕ) → IsOnCircle direct a ↔ IsOnCycle s a
+  circle_cycle direct size are a = (to, from)
+    where
+      to : IsOnCircle direct a → IsOnCycle s a
+      to h =
+          let a_in : a < length s.actions = subst (λ (n : ℕ). a < n) size h.below in
+          let chain : IsChain (Has direct) (length s.actions) a a = subst (λ (n : ℕ). IsChain (Has direct) n a a) size h.chain in
+          record {
+            below = a_in;
+            must = (must_is_chain a a).0 (chain_of (Has direct) (MustDirectly s) (length s.actions) (λ x y x_in y_in. (are x y x_in y_in).0) a a a_in a_in chain);
+          }
+
+      from : IsOnCycle s a → IsOnCircle direct a
+      from h =
+          let chain : IsChain (Has direct) (length s.actions) a a =
+          chain_of (MustDirectly s) (Has direct) (length s.actions) (λ x y x_in y_in. (are x y x_in y_in).1) a a h.below h.below ((must_is_chain a a).1 h.must) in
+          record {
+            below = subst (λ (n : ℕ). a < n) (sym size) h.below;
+            chain = subst (λ (n : ℕ). IsChain (Has direct) n a a) (sym size) chain;
+          }
+
+  pub order_of : (direct : Rows) (closing : Closing) → direct.size ≡ length s.actions → ((a b : ℕ) → a < length s.actions → b < length s.actions → Has direct a b ↔ MustDirectly s a b) → IsClosingOf direct closing → IsOrderOf s closing
+  order_of direct (Closed rows) size are h = let is = must_square direct rows size are h in record { size = is.0; square = is.1; must = is.2 }
+  order_of direct (Circle least) size are h =
+      record { is = (circle_cycle direct size are least).0 h.is; least = λ b on. h.least b ((circle_cycle direct size are b).1 on) }

@@ -15,21 +15,21 @@ use Rattle.pst_scen.specs.Plans.{IsGroupNumber}
 use Rattle.pst_scen.specs.Rows.{Has}
 use Rattle.pst_order.specs.Facts.{IsLinked}
 use Rattle.pst_order.specs.Built.{IsBuilt}
-use Rattle.pst_graph.specs.Over.{IsLeafOf}
+use Rattle.pst_nodes.specs.Over.{IsLeafOf}
 use Rattle.pst_graph.specs.Acts.{LinksOrder, ByBuffer, BySource, ByPrevious, ByReader}
 use Rattle.pst_graph.specs.Grouping.{MustDirectly}
 use Rattle.pst_square.specs.Squares.{IsBlank, Adds}
-use Rattle.pst_graph.specs.Tables.{AreNodesNumbered, AreLeaves, StandsBefore, leaf_count}
+use Rattle.pst_nodes.specs.Tables.{AreNodesNumbered, AreLeaves, StandsBefore, leaf_count}
 use Rattle.pst_graph.specs.Named.{NamesEarlier, IsNamingIn, IsNamed}
 use Rattle.pst_graph.specs.Listed.{IsReplacing}
 use Rattle.pst_graph.specs.Links.{HasLink}
 use Rattle.pst_square.specs.Spread.{IsSpread, AreOwn}
 use Rattle.pst_graph.proofs.Acted.{referred, order_cause, cause_order}
 use Rattle.pst_square.proofs.Adding.{adds_as, adds_then}
-use Rattle.pst_graph.proofs.BehindRange.{same_leaf}
-use Rattle.pst_graph.proofs.Climbs.{one_child}
+use Rattle.pst_nodes.proofs.BehindRange.{same_leaf}
+use Rattle.pst_nodes.proofs.Climbs.{one_child}
 use Rattle.pst_graph.proofs.Grouped.{same_group, inside}
-use Rattle.pst_graph.proofs.LeafNumbers.{built_numbered, stands_before}
+use Rattle.pst_nodes.proofs.LeafNumbers.{built_numbered, stands_before}
 
 pub leaves_fit : (s : Scenario) (leaves : List ℕ) → IsLinked s → AreLeaves s.nodes leaves (length s.nodes) → leaf_count s.nodes (length s.nodes) ≤ length s.actions
 leaves_fit s leaves linked are = go (cases_lt (length s.actions) (leaf_count s.nodes (length s.nodes)))

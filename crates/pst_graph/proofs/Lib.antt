@@ -1,17 +1,8 @@
-mod Climbs
-mod Awaits
-mod Bits
-mod Branches
 mod Acted
 mod Loops
 mod Grouped
 mod Streaming
 mod Names
-mod Preorder
-mod Ends
-mod Leaves
-mod BehindRange
-mod LeafNumbers
 mod DirectRows
 mod UsesListed
 mod UsesApart
@@ -20,3 +11,5 @@ mod Least
 mod Refused
 mod Numbered
 mod Ended
+mod Besides
+mod Running

@@ -12,7 +12,7 @@ use Rattle.pst_square.specs.Squares.{Adds, IsOneOf}
 use Rattle.pst_graph.specs.Named.{IsNaming, IsNamingAt, IsNamingIn}
 use Rattle.pst_graph.proofs.Acted.{referred}
 use Rattle.pst_square.proofs.Adding.{adds_as, family_more}
-use Rattle.pst_graph.proofs.Climbs.{same_some}
+use Rattle.pst_nodes.proofs.Climbs.{same_some}
 
 -- what a reference of an action is linked to is an action of the scenario
 pub link_inside : (s : Scenario) (x : ℕ) (act : Act) → IsLinked s → IsAct s x act → (i a : ℕ) (filled : Filled) → slice_get act.references i ≡ Some filled → LeadsTo filled.link a → a < length s.actions

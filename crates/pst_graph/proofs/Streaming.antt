@@ -13,7 +13,7 @@ use Rattle.pst_order.specs.Facts.{IsLinked}
 use Rattle.pst_graph.specs.Grouping.{IsApart}
 use Rattle.pst_graph.specs.Streamed.{IsStreamTo, StreamsFrom}
 use Rattle.pst_graph.proofs.Acted.{referred}
-use Rattle.pst_graph.proofs.Climbs.{same_some}
+use Rattle.pst_nodes.proofs.Climbs.{same_some}
 
 module _ (s : Scenario) (a : ℕ) (act : Act) (is_act : IsAct s a act) (i : ℕ) (filled : Filled) (is : slice_get act.references i ≡ Some filled) (b : ℕ) (to : IsStreamTo filled b) where
   stream_refers : Refers s a filled.flow filled.pool (link.Act b to.leads.0)

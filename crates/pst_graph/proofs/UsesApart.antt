@@ -14,7 +14,7 @@ use Rattle.pst_graph.specs.declared.uses.Use.{Use}
 use Rattle.pst_square.specs.Squares.{IsBlank, Adds, IsOneOf, IsCopied}
 use Rattle.pst_graph.specs.Uses.{IsUseOfClaims, IsUseOfReferences, IsUse, Listed, AreUses, AreExclusive, AreApart, IsApartFrom, IsApartFromAny, IsApartAt, AreApartIn, IsKindAt, IsExcluded, IsExcludedAt, IsExcludedBy, IsOfKind, IsOfKinds}
 use Rattle.pst_square.proofs.Adding.{adds_as, family_more}
-use Rattle.pst_graph.proofs.Climbs.{same_some}
+use Rattle.pst_nodes.proofs.Climbs.{same_some}
 
 -- what is read past the end of a list
 abbrev pub blank : Use

@@ -12,7 +12,7 @@ use Rattle.pst_scen.specs.Flows.{IsAct}
 use Rattle.pst_graph.specs.declared.uses.Use.{Use}
 use Rattle.pst_graph.specs.Uses.{IsClaimUse, IsStateUse, IsUseOfClaims, IsUseOfReferences, IsUse, Listed, Lengthens, HasClaims, HasReferences, AreUses}
 use Rattle.pst_graph.proofs.Acted.{one_act}
-use Rattle.pst_graph.proofs.Climbs.{same_some}
+use Rattle.pst_nodes.proofs.Climbs.{same_some}
 
 module _ (uses : List Use) (u : Use) where
   pub pushed_kept : (i : ℕ) (v : Use) → slice_get uses i ≡ Some v → slice_get (uses ++ u ∷ []) i ≡ Some v

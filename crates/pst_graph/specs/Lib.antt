@@ -1,9 +1,6 @@
-pub mod Over
 pub mod Links
 pub mod Acts
 pub mod Grouping
-pub mod Tables
-pub mod Tabled
 pub mod Named
 pub mod Listed
 pub mod Ends
@@ -11,3 +8,5 @@ pub mod Whole
 pub mod Streamed
 pub mod Uses
 pub mod Sets
+pub mod Ordered
+pub mod Runs

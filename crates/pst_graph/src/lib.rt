@@ -2,21 +2,16 @@
 #![tactic(auto)]
 
 mod apart;
-mod before;
-mod behind;
 mod cause;
-mod climb;
 mod groups;
-mod kinds;
 mod links;
 mod must;
 mod named;
-mod parallel;
 mod planning;
 mod refusals;
 mod replaced;
 mod rows;
-mod tables;
+mod runs;
 mod usage;
 mod uses;
 mod whole;

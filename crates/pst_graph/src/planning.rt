@@ -1,19 +1,24 @@
 //! The plan of a scenario, or why it has none.
-ghost use Rattle.std.specs.Prelude.{◌≡◌, ◌<◌, ◌^◌, length, IfOk, IfErr, MatchOption, MatchResult};
-ghost use Rattle.pst_scen.specs.Plans.{AreEntriesOf, IsPlanOf};
+ghost use Rattle.std.specs.Prelude.{◌≡◌, ◌<◌, ℕ, length, get_or, IfOk, IfErr, MatchOption, MatchResult};
+ghost use Rattle.pst_scen.specs.Plans.{AreEntriesOf, IsGroupNumber, IsPlanOf};
 ghost use Rattle.pst_scen.specs.Refusals.{IsUnrefused};
-ghost use Rattle.pst_order.specs.Facts.{IsLinked};
 ghost use Rattle.pst_order.specs.Built.{IsBuilt};
 ghost use Rattle.pst_graph.specs.declared.planning.PlanEnd.TheVariants as end;
 ghost use Rattle.pst_graph.specs.Ends.{IsRefusal, IsEndOf};
+ghost use Rattle.pst_graph.specs.Ordered.{IsOrder};
 
 use crate::groups::groups_of;
 use crate::must::must_rows;
-use crate::refusals::{find_cycle, find_group_clash, find_parallel_clash, find_parallel_order};
+use crate::refusals::{
+    find_cycle, find_group_clash, find_parallel_clash, find_parallel_order, first_contender,
+    first_ordered,
+};
 use crate::rows::conflict_rows;
 use pst_base::NoMemory;
+use pst_nodes::Tables;
 use pst_order::unrefused_is_planned;
-use pst_scen::{Plan, Scenario};
+use pst_scen::{Plan, Rows, Scenario};
+use pst_square::Closing;
 use std::alloc::Global;
 
 /// Why a scenario has no plan. The first reason in this order is given, with its least action or
@@ -45,37 +50,45 @@ impl From<NoMemory> for PlanEnd {
 }
 
 /// The groups, the order and the conflicts of the scenario, whether or not it has a plan.
-fn entries_of(alloc: Global, scenario: &Scenario) -> Result<Plan, NoMemory>
-    requires built { IsBuilt scenario.now }
-    requires few { length scenario.now.actions < 2 ^ 31 }
+fn entries_of(
+    alloc: Global,
+    scenario: &Scenario,
+    groups: Vec<u32>,
+    must: Rows,
+    count: u32,
+) -> Result<Plan, NoMemory>
+    requires many { length groups.items ≡ length scenario.now.actions }
+    requires numbers { (a : ℕ) → a < length scenario.now.actions → IsGroupNumber scenario.now a (get_or groups.items a 0) }
+    requires order { IsOrder scenario.now must }
+    requires count { count ≡ length scenario.now.actions }
     ensures { IfOk result (AreEntriesOf scenario.now) }
 {
-    let count = scenario.actions.as_slice().len() as u32;
-    let groups = groups_of(alloc, scenario, count)?;
-    let must = must_rows(alloc, scenario, &groups, count)?;
     let conflict = conflict_rows(alloc, scenario, count)?;
     Plan::of_rows_in(alloc, groups, must, conflict)
 }
 
 /// The first reason why the scenario has no plan.
-fn refusal(scenario: &Scenario, plan: &Plan) -> Option<PlanEnd>
-    requires linked { IsLinked scenario.now }
+fn refusal(alloc: Global, scenario: &Scenario, plan: &Plan) -> Result<Option<PlanEnd>, NoMemory>
+    requires built { IsBuilt scenario.now }
     requires entries { AreEntriesOf scenario.now plan.now }
-    ensures { MatchOption result (IsUnrefused scenario.now) (IsRefusal scenario.now) }
+    ensures { IfOk result (λ end. MatchOption end (IsUnrefused scenario.now) (IsRefusal scenario.now)) }
 {
     if let Some(a) = find_cycle(scenario, plan) {
-        return Some(PlanEnd::Cycle { a });
+        return Ok(Some(PlanEnd::Cycle { a }));
     }
     if let Some((a, b)) = find_group_clash(scenario, plan) {
-        return Some(PlanEnd::GroupClash { a, b });
+        return Ok(Some(PlanEnd::GroupClash { a, b }));
     }
-    if let Some((a, b)) = find_parallel_order(scenario, plan) {
-        return Some(PlanEnd::ParallelOrder { a, b });
+    let tables = Tables::new(alloc, scenario.nodes.as_slice())?;
+    let first = first_ordered(scenario, &tables, plan);
+    if let Some((a, b)) = find_parallel_order(scenario, plan, first) {
+        return Ok(Some(PlanEnd::ParallelOrder { a, b }));
     }
-    if let Some((a, b)) = find_parallel_clash(scenario, plan) {
-        return Some(PlanEnd::ParallelClash { a, b });
+    let first = first_contender(scenario, &tables, plan);
+    if let Some((a, b)) = find_parallel_clash(scenario, plan, first) {
+        return Ok(Some(PlanEnd::ParallelClash { a, b }));
     }
-    None
+    Ok(None)
 }
 
 /// The plan of the scenario, or the first reason why it has none, with its least action or pair.
@@ -89,8 +102,15 @@ pub fn plan_of(alloc: Global, scenario: &Scenario) -> Result<Plan, PlanEnd>
     ensures unrefused { IsUnrefused scenario.now → IfErr result (λ e. e ≡ end.NoMemory) }
 {
     unrefused_is_planned();
-    let plan = entries_of(alloc, scenario)?;
-    if let Some(end) = refusal(scenario, &plan) {
+    let count = scenario.actions.as_slice().len() as u32;
+    let groups = groups_of(alloc, scenario, count)?;
+    let must = match must_rows(alloc, scenario, &groups, count)? {
+        Closing::Closed { rows } => rows,
+        Closing::Circle { least } => return Err(PlanEnd::Cycle { a: least }),
+    };
+    let plan = entries_of(alloc, scenario, groups, must, count)?;
+    let found = refusal(alloc, scenario, &plan)?;
+    if let Some(end) = found {
         return Err(end);
     }
     Ok(plan)

@@ -3,10 +3,12 @@ ghost use Rattle.std.specs.Prelude.{◌≡◌, ◌↔◌, ◌⊎◌, ◌<◌, �
 ghost use Rattle.pst_scen.specs.Rows.{Has};
 ghost use Rattle.pst_scen.specs.Plans.{AreEntriesOf};
 ghost use Rattle.pst_scen.specs.Refusals.{IsOnCycle, GroupClashes, IsParallelOrdered, IsParallelClash, IsLeast, IsLeastPair, HasNoCycle, HasNoGroupClash, HasNoParallelOrder, HasNoParallelClash};
+ghost use Rattle.pst_order.specs.Built.{IsBuilt};
 ghost use Rattle.pst_order.specs.Facts.{IsLinked};
+ghost use Rattle.pst_nodes.specs.Tabled.{AreTables};
 
 use crate::cause::{clashes_alone, contend};
-use crate::parallel::{stand_parallel, stands_in_parallel};
+use pst_nodes::{Tables, first_beside, stand_parallel, stands_in_parallel};
 use pst_scen::{Plan, Scenario};
 use pst_square::next_in;
 
@@ -114,14 +116,35 @@ fn find_ordered_of(scenario: &Scenario, plan: &Plan, a: u32) -> Option<u32>
     None
 }
 
+/// An action before which none is ordered with one in another branch of one parallel block.
+pub(crate) fn first_ordered(scenario: &Scenario, tables: &Tables, plan: &Plan) -> u32
+    requires built { IsBuilt scenario.now }
+    requires tables { AreTables scenario.now.nodes tables.now }
+    requires entries { AreEntriesOf scenario.now plan.now }
+    ensures { (a b : ℕ) → a < result → IsParallelOrdered scenario.now a b → ⊥ }
+{
+    first_beside(scenario, tables, plan.must_rows())
+}
+
+/// An action before which none contends with one in another branch of one parallel block.
+pub(crate) fn first_contender(scenario: &Scenario, tables: &Tables, plan: &Plan) -> u32
+    requires built { IsBuilt scenario.now }
+    requires tables { AreTables scenario.now.nodes tables.now }
+    requires entries { AreEntriesOf scenario.now plan.now }
+    ensures { (a b : ℕ) → a < result → IsParallelClash scenario.now a b → ⊥ }
+{
+    first_beside(scenario, tables, plan.conflict_rows())
+}
+
 /// The least pair of actions that are ordered though they stand in different branches of one
-/// parallel block.
-pub(crate) fn find_parallel_order(scenario: &Scenario, plan: &Plan) -> Option<(u32, u32)>
+/// parallel block, where none has a first action before the given one.
+pub(crate) fn find_parallel_order(scenario: &Scenario, plan: &Plan, from: u32) -> Option<(u32, u32)>
     requires linked { IsLinked scenario.now }
     requires entries { AreEntriesOf scenario.now plan.now }
+    requires none { (a b : ℕ) → a < from → IsParallelOrdered scenario.now a b → ⊥ }
     ensures { MatchOption result (HasNoParallelOrder scenario.now) (λ p. IsLeastPair (IsParallelOrdered scenario.now) p.0 p.1) }
 {
-    for a in 0..plan.len() {
+    for a in from..plan.len() {
         if let Some(b) = find_ordered_of(scenario, plan, a) {
             return Some((a, b));
         }
@@ -165,13 +188,14 @@ fn find_contender_of(scenario: &Scenario, plan: &Plan, a: u32) -> Option<u32>
 }
 
 /// The least pair of actions that contend for a resource instance from different branches of one
-/// parallel block.
-pub(crate) fn find_parallel_clash(scenario: &Scenario, plan: &Plan) -> Option<(u32, u32)>
+/// parallel block, where none has a first action before the given one.
+pub(crate) fn find_parallel_clash(scenario: &Scenario, plan: &Plan, from: u32) -> Option<(u32, u32)>
     requires linked { IsLinked scenario.now }
     requires entries { AreEntriesOf scenario.now plan.now }
+    requires none { (a b : ℕ) → a < from → IsParallelClash scenario.now a b → ⊥ }
     ensures { MatchOption result (HasNoParallelClash scenario.now) (λ p. IsLeastPair (IsParallelClash scenario.now) p.0 p.1) }
 {
-    for a in 0..plan.len() {
+    for a in from..plan.len() {
         if let Some(b) = find_contender_of(scenario, plan, a) {
             return Some((a, b));
         }

@@ -8,13 +8,12 @@ ghost use Rattle.pst_order.specs.Built.{IsBuilt};
 ghost use Rattle.pst_graph.specs.Grouping.{MustDirectly};
 ghost use Rattle.pst_square.specs.Squares.{Adds};
 
-use crate::behind::add_behinds;
-use crate::kinds::add_conflicts;
 use crate::named::add_named;
 use crate::replaced::add_replaced;
-use crate::tables::Tables;
+use crate::runs::add_conflicts;
 use crate::usage::uses_of;
 use pst_base::NoMemory;
+use pst_nodes::{Tables, add_behinds};
 use pst_scen::{Rows, Scenario};
 use pst_square::{Square, spread};
 use std::alloc::Global;
@@ -30,7 +29,7 @@ pub(crate) fn conflict_rows(
 {
     let uses = uses_of(alloc, scenario, count)?;
     let mut square = Square::new(alloc, count)?;
-    add_conflicts(alloc, &mut square, &uses, count)?;
+    add_conflicts(alloc, &mut square, uses, count)?;
     Ok(square.into_rows())
 }
 

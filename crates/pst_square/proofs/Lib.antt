@@ -8,3 +8,4 @@ mod Joins
 mod Closes
 mod Nexts
 mod Walking
+mod Circling

@@ -84,3 +84,10 @@ lowest_bit word small some =
       set = (set_is_one word (trailing_zeros w64 word)).1 at.1;
       none = λ k less s. let one = (set_is_one word k).0 s in let none = at.2 k less in omega (arith, one, none);
     }
+
+-- the least number from the next one on is the least one behind
+pub behind_is : (P : ℕ → Type 0) (after size : ℕ) (result : Option ℕ) → MatchOption result ((b : ℕ) → after + 1 ≤ b → b < size → P b → ⊥) (IsNextOf (λ b. after + 1 ≤ b) P size)
+    → MatchOption result ((b : ℕ) → after < b → b < size → P b → ⊥) (IsNextOf (λ b. after < b) P size)
+behind_is P after size None h = λ b low inside has. h b (omega (arith, low)) inside has
+behind_is P after size (Some n) h =
+    record { behind = let low = h.behind in omega (arith, low); inside = h.inside; has = h.has; none = λ c low less has. h.none c (omega (arith, low)) less has }

@@ -1,5 +1,5 @@
 -- A walk along pairs, step by step.
-use Rattle.std.proofs.Common.{◌≡◌, ◌↔◌, ◌⊎◌, inl, inr, ⊎_elim, ◌<◌, ◌≤◌, ◌+◌, ◌/◌, ◌^◌, ◌-◌, min, ℕ, List, length, get_or, refl, sym, ap, subst, ◌∙◌, arith}
+use Rattle.std.proofs.Common.{◌≡◌, ◌↔◌, ◌⊎◌, inl, inr, ⊎_elim, ◌<◌, ◌≤◌, ◌+◌, ◌/◌, ◌%◌, ◌^◌, ◌-◌, min, ℕ, List, length, get_or, refl, sym, ap, subst, ◌∙◌, arith}
 use Rattle.std.specs.Prelude.{IsBitSet, bit_and}
 use Rattle.std.specs.Int.{bit_at, bit_not, w64}
 use Rattle.std.specs.List.{sum_by}
@@ -12,7 +12,7 @@ use Rattle.pst_square.specs.declared.walk.Stage.{Stage}
 use Rattle.pst_square.specs.declared.walk.Stage.TheVariants.{New, Open, Finished}
 use Rattle.pst_square.specs.Bits.{HasBit, IsJoined, IsClosure}
 use Rattle.pst_square.specs.Chains.{IsChain, Once, Chained}
-use Rattle.pst_square.specs.Walks.{IsTakenOver, IsCovered, IsFinished, IsWalked, IsOpenPair, weight}
+use Rattle.pst_square.specs.Walks.{IsTakenOver, AreSameRows, IsCovered, IsFinished, IsWalked, IsOpenPair, weight}
 use Rattle.pst_square.proofs.Closes.{word_in}
 use Rattle.pst_square.specs.Next.{IsNextOf}
 use Rattle.pst_square.proofs.Joins.{set_is_one, joined_keeps, joined_adds, joined_only}
@@ -91,6 +91,48 @@ module _ (size row : ℕ) (base words : List ℕ) (stages : List Stage) (h : IsW
           closed = closed;
           covers = λ x x_in is b b_in in_base. g.keeps x b (inside b b_in) (h.covers x x_in is b b_in in_base);
         }
+
+  -- a row that takes over that of a finished number with the same pairs in the base
+  module _ (is_row : row ≡ row_words size) (new : List ℕ) (a c : ℕ) (a_in : a < size) (c_in : c < size) (same : AreSameRows row base a c) (done : IsFinished stages c) (g : IsJoined row words new a c) where
+    moved : (b : ℕ) → b < size → HasBit row base a b ↔ HasBit row base c b
+    moved b b_in =
+        let is = same (b / 64) (word_in size row b is_row b_in) in
+        (λ h. subst (λ (v : ℕ). IsBitSet v (b % 64)) is h, λ h. subst (λ (v : ℕ). IsBitSet v (b % 64)) (sym is) h)
+
+    -- what a chain joins with c one joins with a
+    moved_chain : (b : ℕ) → b < size → IsChain (HasBit row base) size c b → IsChain (HasBit row base) size a b
+    moved_chain b b_in chain =
+        ⊎_elim (λ r. Once a b ((moved b b_in).1 r)) (λ k. Chained a k.0 b k.1 (Once a k.0 ((moved k.0 k.1).1 k.2)) k.3) (first_pair (HasBit row base) size c b chain)
+
+    only : (x b : ℕ) → b < size → HasBit row new x b → HasBit row words x b ⊎ ((x ≡ a) × HasBit row words c b)
+    only x b b_in has = joined_only row words new a c g x b (word_in size row b is_row b_in) has
+
+    keeps : (x b : ℕ) → b < size → HasBit row words x b → HasBit row new x b
+    keeps x b b_in has = joined_keeps row words new a c g x b (word_in size row b is_row b_in) has
+
+    follows : (x b : ℕ) → x < size → b < size → HasBit row new x b → IsChain (HasBit row base) size x b
+    follows x b x_in b_in has =
+        ⊎_elim (h.sound x b x_in b_in) (λ k. subst (λ (y : ℕ). IsChain (HasBit row base) size y b) (sym k.0) (moved_chain b b_in (h.sound c b c_in b_in k.1))) (only x b b_in has)
+
+    goes_on : (x y b : ℕ) → x < size → y < size → b < size → HasBit row new x y → IsChain (HasBit row base) size y b → HasBit row new x b
+    goes_on x y b x_in y_in b_in has chain =
+        ⊎_elim (λ own. keeps x b b_in (h.closed x y b x_in y_in b_in own chain))
+        (λ k. subst (λ (z : ℕ). HasBit row new z b) (sym k.0) (joined_adds row words new a c g b (word_in size row b is_row b_in) (h.closed c y b c_in y_in b_in k.1 chain)))
+        (only x y y_in has)
+
+    pub follows_next : IsWalked size row base new stages
+    follows_next =
+        record {
+          many = g.many ∙ h.many;
+          staged = h.staged;
+          sound = follows;
+          closed = goes_on;
+          covers = λ x x_in is b b_in in_base. keeps x b b_in (h.covers x x_in is b b_in in_base);
+        }
+
+    pub covers_next : IsCovered size row base new a
+    covers_next b b_in in_base =
+        joined_adds row words new a c g b (word_in size row b is_row b_in) (h.covers c c_in done b b_in ((moved b b_in).0 in_base))
 
   -- stages that finish at most numbers whose rows are whole
   pub staged_walks : (new : List Stage) → length new ≡ length stages → ((a : ℕ) → a < size → IsFinished new a → IsCovered size row base words a) → IsWalked size row base words new

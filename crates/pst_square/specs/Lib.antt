@@ -5,3 +5,5 @@ pub mod Listed
 pub mod Spread
 pub mod Next
 pub mod Walks
+pub mod Circles
+pub mod Marks

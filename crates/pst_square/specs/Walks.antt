@@ -1,5 +1,5 @@
 -- A walk along the pairs of a square that finishes the rows of numbers one by one.
-use Rattle.std.specs.Prelude.{◌≡◌, ◌⊎◌, ◌<◌, ◌+◌, ◌/◌, ℕ, List, length, get_or}
+use Rattle.std.specs.Prelude.{◌≡◌, ◌⊎◌, ◌<◌, ◌+◌, ◌*◌, ◌/◌, ℕ, List, length, get_or}
 use Rattle.std.specs.List.{sum_by}
 use Rattle.pst_square.specs.declared.walk.Stage.{Stage}
 use Rattle.pst_square.specs.declared.walk.Stage.TheVariants.{New, Open, Finished}
@@ -15,6 +15,10 @@ pub record IsTakenOver (row : ℕ) (old new : List ℕ) (a c : ℕ) : Type 0 whe
   pub adds : (b : ℕ) → b / 64 < row → HasBit row old c b → HasBit row new a b
   pub own : HasBit row new a c
   pub only : (x b : ℕ) → b / 64 < row → HasBit row new x b → HasBit row old x b ⊎ ((x ≡ a) × ((b ≡ c) ⊎ HasBit row old c b))
+
+-- both rows have the same words
+abbrev pub AreSameRows : ℕ → List ℕ → ℕ → ℕ → Type 0
+AreSameRows row words a c = (w : ℕ) → w < row → get_or words (a * row + w) 0 ≡ get_or words (c * row + w) 0
 
 -- the row of a has each pair of the base
 abbrev pub IsCovered : ℕ → ℕ → List ℕ → List ℕ → ℕ → Type 0

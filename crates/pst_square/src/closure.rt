@@ -2,15 +2,17 @@
 ghost use Rattle.std.specs.Prelude.{◌≡◌, ◌≢◌, ◌↔◌, ◌≤◌, ◌<◌, ◌+◌, ◌*◌, ◌/◌, ℕ, length, get_or, bit_or, IsTrue, IfOk};
 ghost use Rattle.pst_scen.specs.Rows.{row_words, IsSquare, Has};
 ghost use Rattle.pst_square.specs.Chains.{IsChain};
+ghost use Rattle.pst_square.specs.Circles.{IsClosingOf};
 ghost use Rattle.pst_square.specs.Bits.{HasBit, IsJoined, LeadsThrough, GoThrough, IsClosure, IsClosureOf};
 
+use crate::circle::least_circle;
 use crate::walk::walked_rows;
 use pst_base::{Items, NoMemory};
 use pst_scen::Rows;
 use std::alloc::Global;
 
 /// Whether the pair's bit is set, where so many words stand in a row.
-fn has_bit(words: &[u64], row: usize, a: usize, b: usize) -> bool
+pub(crate) fn has_bit(words: &[u64], row: usize, a: usize, b: usize) -> bool
     requires { a * row + b / 64 < length words.now }
     ensures { IsTrue result ↔ HasBit row words.now a b }
 {
@@ -41,7 +43,7 @@ pub(crate) fn join_row(words: &mut [u64], row: usize, a: usize, m: usize)
 }
 
 /// Adds the pairs of `a` that lead through `m`.
-fn lead_through(words: &mut [u64], row: usize, a: usize, m: usize)
+pub(crate) fn lead_through(words: &mut [u64], row: usize, a: usize, m: usize)
     requires a_in { a * row + row ≤ length words.old }
     requires m_in { m * row + row ≤ length words.old }
     requires word_in { m / 64 < row }
@@ -90,13 +92,27 @@ pub(crate) fn stepwise_rows(alloc: Global, direct: &Rows) -> Result<Rows, NoMemo
     })
 }
 
-/// The square of the pairs that a chain of the given ones joins.
-pub fn closed_rows(alloc: Global, direct: &Rows) -> Result<Rows, NoMemory>
+/// What chains of pairs come to.
+#[derive(Debug, Drop)]
+pub enum Closing {
+    /// The pairs that a chain joins.
+    Closed { rows: Rows },
+    /// The least number that a chain leads back to.
+    Circle { least: u32 },
+}
+
+/// The square of the pairs that a chain of the given ones joins. Where a chain leads from a number
+/// back to it, the least such number may be given in its place.
+pub fn closed_rows(alloc: Global, direct: &Rows) -> Result<Closing, NoMemory>
     requires { IsSquare direct.now }
-    ensures { IfOk result (IsClosureOf direct.now) }
+    ensures { IfOk result (IsClosingOf direct.now) }
 {
     if let Some(rows) = walked_rows(alloc, direct)? {
-        return Ok(rows);
+        return Ok(Closing::Closed { rows });
     }
-    stepwise_rows(alloc, direct)
+    if let Some(least) = least_circle(alloc, direct)? {
+        return Ok(Closing::Circle { least });
+    }
+    let rows = stepwise_rows(alloc, direct)?;
+    Ok(Closing::Closed { rows })
 }

@@ -1,7 +1,7 @@
 //! The pairs of a row, one after another. A word without pairs is passed at once.
 ghost use Rattle.std.specs.Prelude.{◌≡◌, ◌↔◌, ◌≤◌, ◌<◌, ◌+◌, ◌%◌, ℕ, IsBitSet, MatchOption};
 ghost use Rattle.pst_scen.specs.Rows.{IsSquare, Has};
-ghost use Rattle.pst_square.specs.Next.{IsNext, IsLowest};
+ghost use Rattle.pst_square.specs.Next.{IsNext, IsNextOf, IsLowest};
 
 use pst_scen::Rows;
 
@@ -14,7 +14,7 @@ pub(crate) fn from_bit(word: u64, bit: usize) -> u64
 }
 
 /// The bits of the row from that one to the end of its word.
-fn rest_of_word(rows: &Rows, a: u32, b: usize) -> u64
+pub(crate) fn rest_of_word(rows: &Rows, a: u32, b: usize) -> u64
     requires square { IsSquare rows.now }
     requires a_in { a < rows.now.size }
     requires b_in { b < rows.now.size }
@@ -45,19 +45,28 @@ fn below(b: usize, size: u32) -> Option<u32>
     }
 }
 
+/// The least number of the range that the row of `a` has.
+pub fn next_between(rows: &Rows, a: u32, from: usize, to: u32) -> Option<u32>
+    requires square { IsSquare rows.now }
+    requires a_in { a < rows.now.size }
+    requires to_in { to ≤ rows.now.size }
+    ensures { MatchOption result ((b : ℕ) → from ≤ b → b < to → Has rows.now a b → ⊥) (IsNextOf (λ b. from ≤ b) (Has rows.now a) to) }
+{
+    let mut at = from;
+    'words: while at < to as usize {
+        if let Some(k) = lowest(rest_of_word(rows, a, at)) {
+            return below(at + k as usize, to);
+        }
+        at += 64 - at % 64;
+    }
+    None
+}
+
 /// The least number behind the given one that the row of `a` has.
 pub fn next_in(rows: &Rows, a: u32, after: u32) -> Option<u32>
     requires square { IsSquare rows.now }
     requires a_in { a < rows.now.size }
     ensures { MatchOption result ((b : ℕ) → after < b → b < rows.now.size → Has rows.now a b → ⊥) (IsNext rows.now a after) }
 {
-    let size = rows.size;
-    let mut at = after as usize + 1;
-    'words: while at < size as usize {
-        if let Some(k) = lowest(rest_of_word(rows, a, at)) {
-            return below(at + k as usize, size);
-        }
-        at += 64 - at % 64;
-    }
-    None
+    next_between(rows, a, after as usize + 1, rows.size)
 }

@@ -1,6 +1,7 @@
 //! Squares of bits in the making.
 ghost use Rattle.std.specs.Prelude.{◌≡◌, ◌≢◌, ◌↔◌, ◌⊎◌, ◌≤◌, ◌<◌, ◌+◌, ◌*◌, ◌/◌, ◌^◌, ℕ, length, get_or, IsTrue, IsBitSet, IfOk};
 ghost use Rattle.pst_scen.specs.Rows.{row_words, IsSquare, Has};
+ghost use Rattle.pst_square.specs.Marks.{IsWithMarked, IsWithMarkedAt};
 ghost use Rattle.pst_square.specs.Squares.{IsBlank, Adds, IsPair, IsMasked, IsWithin, IsInRange, IsInPart, IsFilled, IsCopied, IsCopiedAt};
 
 use crate::walk::without;
@@ -225,6 +226,29 @@ impl Square {
     {
         for w in 0..self.row_len() {
             self.add_copied_word(a, other, k, w);
+        }
+    }
+
+    /// Adds, in one word, the pairs of `a` with the other numbers of the set.
+    fn add_marked_word(&mut self, a: u32, marks: &[u64], w: usize)
+        requires a_in { a < self.old.size }
+        requires many { length marks.now ≡ row_words self.old.size }
+        requires w_in { w < row_words self.old.size }
+        requires small { w < 2 ^ 32 }
+        ensures { Adds self.old self.new (IsWithMarkedAt marks.now a w) }
+    {
+        let mask = word_without(marks[w], w, a as usize);
+        self.add_word(a, w, mask);
+    }
+
+    /// Adds the pairs of `a` with the other numbers of the set.
+    pub fn add_marked(&mut self, a: u32, marks: &[u64])
+        requires a_in { a < self.old.size }
+        requires many { length marks.now ≡ row_words self.old.size }
+        ensures { Adds self.old self.new (IsWithMarked marks.now a) }
+    {
+        for w in 0..self.row_len() {
+            self.add_marked_word(a, marks, w);
         }
     }
 

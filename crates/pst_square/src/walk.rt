@@ -3,7 +3,7 @@ ghost use Rattle.std.specs.Prelude.{◌≡◌, ◌≢◌, ◌↔◌, ◌⊎◌, 
 ghost use Rattle.pst_scen.specs.Rows.{row_words, IsSquare};
 ghost use Rattle.pst_square.specs.Bits.{HasBit, IsClosure, IsClosureOf};
 ghost use Rattle.pst_square.specs.Next.{IsLowest, IsNextOf};
-ghost use Rattle.pst_square.specs.Walks.{IsTakenOver, IsCovered, IsFinished, AreFinished, IsWalked, IsOpenPair, IsTurn, MatchTurn, AllBelow, left};
+ghost use Rattle.pst_square.specs.Walks.{IsTakenOver, AreSameRows, IsCovered, IsFinished, AreFinished, IsWalked, IsOpenPair, IsTurn, MatchTurn, AllBelow, left};
 ghost use Rattle.pst_square.specs.declared.walk.Stage.TheVariants.{New, Open, Finished};
 
 use crate::closure::join_row;
@@ -32,7 +32,7 @@ pub(crate) enum Turn {
 }
 
 /// The word with that bit set too.
-fn with_bit(word: u64, bit: usize) -> u64
+pub(crate) fn with_bit(word: u64, bit: usize) -> u64
     requires { bit < 64 }
     ensures { (k : ℕ) → IsBitSet result k ↔ IsBitSet word k ⊎ (k ≡ bit) }
 {
@@ -156,6 +156,72 @@ fn settle(
     Turn::Done
 }
 
+/// Whether the rows of both numbers have the same pairs.
+fn are_same_rows(base: &[u64], row: usize, a: usize, c: usize) -> bool
+    requires a_in { a * row + row ≤ length base.now }
+    requires c_in { c * row + row ≤ length base.now }
+    ensures { IsTrue result → AreSameRows row base.now a c }
+{
+    for w in 0..row {
+        if base[a * row + w] != base[c * row + w] {
+            return false;
+        }
+    }
+    true
+}
+
+/// Gives the row of `a` that of the next number, where the walk is done with that one and both have
+/// the same pairs in the base. False where that isn't so.
+fn follow_next(
+    base: &[u64],
+    words: &mut [u64],
+    stages: &[Stage],
+    count: u32,
+    row: usize,
+    a: usize,
+) -> bool
+    requires square { length base.now ≡ count * row }
+    requires row { row ≡ row_words count }
+    requires a_in { a < count }
+    requires walked { IsWalked count row base.now words.old stages.now }
+    ensures walked { IsWalked count row base.now words.new stages.now }
+    ensures covered { IsTrue result → IsCovered count row base.now words.new a }
+{
+    if a + 1 >= count as usize {
+        return false;
+    }
+    if !is_finished(stages, a + 1) {
+        return false;
+    }
+    if !are_same_rows(base, row, a, a + 1) {
+        return false;
+    }
+    join_row(words, row, a, a + 1);
+    true
+}
+
+/// Goes on with the row of the number as far as that goes without another number.
+fn turn_at(
+    base: &[u64],
+    words: &mut [u64],
+    stages: &[Stage],
+    count: u32,
+    row: usize,
+    a: usize,
+) -> Turn
+    requires square { length base.now ≡ count * row }
+    requires row { row ≡ row_words count }
+    requires a_in { a < count }
+    requires walked { IsWalked count row base.now words.old stages.now }
+    ensures walked { IsWalked count row base.now words.new stages.now }
+    ensures turn { IsTurn count row base.now words.new stages.now a result }
+{
+    if follow_next(base, words, stages, count, row, a) {
+        return Turn::Done;
+    }
+    settle(base, words, stages, count, row, a)
+}
+
 /// Goes on with the number, which the path ended with. False where the walk goes round in a circle.
 fn step(
     base: &[u64],
@@ -176,7 +242,7 @@ fn step(
     ensures left { OnOk result (left stages.new path.new.items ≤ left stages.old path.old.items) }
 {
     stages[a as usize] = Stage::Open;
-    match settle(base, words, stages, count, row, a as usize) {
+    match turn_at(base, words, stages, count, row, a as usize) {
         Turn::Done => {
             stages[a as usize] = Stage::Finished;
             Ok(true)

@@ -1,5 +1,5 @@
 use Rattle.std.proofs.Common.{refl, ⊎_elim}
-use Rattle.pst_graph.proofs.Bits.{no_true}
+use Rattle.pst_nodes.proofs.Bits.{no_true}
 use Rattle.pst_graph.proofs.Acted.{contend_clash, touches_clash, clash_touches}
 use Rattle.pst_graph.proofs.cause.clashes.Goals as goal
 

@@ -1,7 +1,7 @@
 use Rattle.std.proofs.Common.{◌<◌, arith}
 use Rattle.std.proofs.lemmas.Option.{slice_get_within}
 use Rattle.std.proofs.lemmas.Bool.Decides.{nat_tests}
-use Rattle.pst_graph.proofs.Bits.{no_true}
+use Rattle.pst_nodes.proofs.Bits.{no_true}
 use Rattle.pst_graph.proofs.links.has_own_dispute.Goals as goal
 
 pub returns : goal.returns

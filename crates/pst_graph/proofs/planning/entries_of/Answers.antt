@@ -6,13 +6,12 @@ use Rattle.pst_graph.proofs.Numbered.{are_numbered}
 use Rattle.pst_graph.proofs.planning.entries_of.Goals as goal
 
 pub of_rows_in-requires-clause-numbered : goal.of_rows_in-requires-clause-numbered
-of_rows_in-requires-clause-numbered c = let groups = c.in_ok-groups.ensures in are_numbered c.args.scenario.now c.in_ok-groups.groups.items groups.0 groups.1
+of_rows_in-requires-clause-numbered c = are_numbered c.args.scenario.now c.args.groups.items c.requires.many c.requires.numbers
 
 pub returns : goal.returns
 returns c =
-    let groups = c.in_ok-groups.ensures in
     IfOk-weaker c.of_rows_in.result _ _ (
     λ plan is.
     subst (λ (p : Entries). AreEntriesOf c.args.scenario.now p) (sym is)
-    (record { many = groups.0; group = groups.1; must = c.in_ok-must.ensures.2; conflict = c.in_ok-conflict.ensures.2 })
+    (record { many = c.requires.many; group = c.requires.numbers; must = c.requires.order.must; conflict = c.in_ok-conflict.ensures.2 })
     ) c.of_rows_in.ensures

@@ -3,7 +3,7 @@ use Rattle.pst_scen.specs.declared.rows.Rows.{Rows}
 use Rattle.pst_scen.specs.Refusals.{GroupClashes, One}
 use Rattle.pst_scen.specs.Rows.{Has}
 use Rattle.pst_square.specs.Next.{IsNext}
-use Rattle.pst_graph.proofs.Bits.{no_true}
+use Rattle.pst_nodes.proofs.Bits.{no_true}
 use Rattle.pst_graph.proofs.Least.{least_here, found_in, passed_in, nowhere_in}
 use Rattle.pst_graph.proofs.Refused.{no_clash_ahead, no_clash_before, clash_has, share_is_clash}
 use Rattle.pst_graph.proofs.refusals.find_clash_of.Goals as goal

@@ -3,7 +3,7 @@ use Rattle.pst_scen.specs.declared.rows.Rows.{Rows}
 use Rattle.pst_scen.specs.Refusals.{IsParallelClash}
 use Rattle.pst_scen.specs.Rows.{Has}
 use Rattle.pst_square.specs.Next.{IsNext}
-use Rattle.pst_graph.proofs.Bits.{no_true}
+use Rattle.pst_nodes.proofs.Bits.{no_true}
 use Rattle.pst_graph.proofs.Least.{found_in, passed_in, nowhere_in}
 use Rattle.pst_graph.proofs.Refused.{parallel_clash_has}
 use Rattle.pst_graph.proofs.refusals.find_contender_of.Goals as goal

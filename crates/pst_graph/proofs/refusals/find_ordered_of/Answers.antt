@@ -1,7 +1,7 @@
 use Rattle.std.proofs.Common.{◌<◌, refl, arith}
 use Rattle.std.proofs.lemmas.Bool.Decides.{nat_tests}
 use Rattle.pst_scen.specs.Refusals.{IsParallelOrdered}
-use Rattle.pst_graph.proofs.Bits.{no_true}
+use Rattle.pst_nodes.proofs.Bits.{no_true}
 use Rattle.pst_graph.proofs.Grouped.{none_below}
 use Rattle.pst_graph.proofs.Least.{least_here}
 use Rattle.pst_graph.proofs.Refused.{parallel_in}

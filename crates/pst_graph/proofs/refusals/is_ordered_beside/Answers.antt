@@ -1,5 +1,5 @@
 use Rattle.std.proofs.Common.{◌<◌, length, refl, arith}
-use Rattle.pst_graph.proofs.Bits.{no_true}
+use Rattle.pst_nodes.proofs.Bits.{no_true}
 use Rattle.pst_graph.proofs.Refused.{ordered_has}
 use Rattle.pst_graph.proofs.refusals.is_ordered_beside.Goals as goal
 

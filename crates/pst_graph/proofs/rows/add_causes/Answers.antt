@@ -1,8 +1,8 @@
 use Rattle.std.proofs.Common.{List, sym, subst}
 use Rattle.pst_scen.specs.declared.tree.Node.{Node}
 use Rattle.pst_square.specs.Squares.{Adds}
-use Rattle.pst_graph.specs.Tables.{AreNodesNumbered, StandsBefore}
-use Rattle.pst_graph.proofs.LeafNumbers.{built_numbered}
+use Rattle.pst_nodes.specs.Tables.{AreNodesNumbered, StandsBefore}
+use Rattle.pst_nodes.proofs.LeafNumbers.{built_numbered}
 use Rattle.pst_graph.proofs.DirectRows.{causes_added}
 use Rattle.pst_graph.proofs.rows.add_causes.Goals as goal
 

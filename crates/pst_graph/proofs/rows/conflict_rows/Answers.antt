@@ -1,10 +1,9 @@
-use Rattle.std.proofs.Common.{◌≡◌, ◌↔◌, ◌<◌, ℕ, List, length, slice_get, Some, sym, subst, ap, ◌∙◌}
+use Rattle.std.proofs.Common.{◌≡◌, ◌↔◌, ◌<◌, ℕ, length, sym, subst, ap, ◌∙◌}
 use Rattle.pst_scen.specs.declared.rows.Rows.{Rows}
 use Rattle.pst_scen.specs.Conflicts.{Conflict}
 use Rattle.pst_scen.specs.Rows.{Has}
-use Rattle.pst_graph.specs.declared.uses.Use.{Use}
-use Rattle.pst_square.specs.Squares.{IsBlank, Adds}
-use Rattle.pst_graph.specs.Uses.{AreUses, AreApartIn}
+use Rattle.pst_square.specs.Squares.{IsBlank}
+use Rattle.pst_graph.specs.Uses.{AreUses}
 use Rattle.pst_graph.proofs.UsesApart.{use_inside, all_conflicts}
 use Rattle.pst_graph.proofs.rows.conflict_rows.Goals as goal
 
@@ -12,7 +11,7 @@ pub add_conflicts-requires-clause-inside : goal.add_conflicts-requires-clause-in
 add_conflicts-requires-clause-inside c = λ i v is.
     let blank = c.in_ok-square.ensures in
     subst (λ (n : ℕ). v.act < n) (sym (blank.sized ∙ c.requires))
-    (use_inside c.args.scenario.now c.in_ok-uses.uses.items c.args.count i v c.in_ok-uses.ensures (subst (λ (uses : List Use). slice_get uses i ≡ Some v) c.deref.ensures.value is))
+    (use_inside c.args.scenario.now c.in_ok-uses.uses.items c.args.count i v c.in_ok-uses.ensures is)
 
 pub returns : goal.returns
 returns c =
@@ -26,5 +25,5 @@ returns c =
           (all_conflicts c.args.scenario.now c.in_ok-uses.uses.items c.in_ok-square.square c.add_conflicts.new.square
           (subst (λ (n : ℕ). AreUses c.args.scenario.now c.in_ok-uses.uses.items n) c.requires c.in_ok-uses.ensures)
           (subst (λ (n : ℕ). IsBlank c.in_ok-square.square n) c.requires blank)
-          (subst (λ (uses : List Use). Adds c.in_ok-square.square c.add_conflicts.new.square (AreApartIn uses)) c.deref.ensures.value added) a b a_in b_in),
+          added a b a_in b_in),
     )

@@ -1,0 +1,10 @@
+pub mod Climbs
+pub mod Awaits
+pub mod Bits
+pub mod Branches
+pub mod Preorder
+pub mod Ends
+pub mod Leaves
+pub mod BehindRange
+pub mod LeafNumbers
+pub mod BesideRange

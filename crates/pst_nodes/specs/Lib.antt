@@ -1,0 +1,4 @@
+pub mod Over
+pub mod Tables
+pub mod Tabled
+pub mod Beside
