@@ -1,0 +1,5 @@
+pub mod Sources
+pub mod Fields
+pub mod Terms
+pub mod Slots
+pub mod Readings
