@@ -1,0 +1,3 @@
+pub mod One
+mod RowsTried
+mod StatementsTried
