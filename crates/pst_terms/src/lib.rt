@@ -1,3 +1,7 @@
 //! What expressions become in a model: terms over slots, and expressions over their numbers:
 //! definitions on syntax trees.
 #![tactic(auto)]
+
+mod laws;
+
+pub use laws::{numbering_keeps_values, rewriting_keeps_values, slots_are_tried};

@@ -1,0 +1,19 @@
+//! Laws of the definitions: each function here does nothing, and its contract is a law.
+ghost use Rattle.pst_terms.specs.Laws.{NumberingKeepsValues, RewritingKeepsValues};
+ghost use Rattle.pst_terms.specs.Tried.{SlotsAreTried};
+
+/// An expression has the value of its term.
+pub fn rewriting_keeps_values()
+    ensures { RewritingKeepsValues }
+{}
+
+/// Where the slots of a term stand at their numbers, the expression by these numbers has the value
+/// of the term.
+pub fn numbering_keeps_values()
+    ensures { NumberingKeepsValues }
+{}
+
+/// The slots of small terms, and the expressions by their numbers.
+pub fn slots_are_tried()
+    ensures { SlotsAreTried }
+{}
