@@ -1,3 +1,4 @@
 pub mod One
+pub mod Meaning
 mod RowsTried
 mod StatementsTried

@@ -7,5 +7,6 @@ pub mod Types
 pub mod Model
 pub mod Ends
 pub mod Laws
+pub mod Meaning
 pub mod TriedRows
 pub mod TriedStatements

@@ -1,5 +1,6 @@
 //! Laws of the definitions: each function here does nothing, and its contract is a law.
 ghost use Rattle.pst_elab.specs.Laws.{ModelsAreOne, FirstBreachesAreOne, AnswersAreApart};
+ghost use Rattle.pst_elab.specs.Meaning.{RewritingsMean};
 ghost use Rattle.pst_elab.specs.TriedRows.{RowsAreTried};
 ghost use Rattle.pst_elab.specs.TriedStatements.{StatementsAreTried};
 
@@ -27,6 +28,11 @@ pub fn answers_are_apart()
     models_are_one();
     pst_tree::instances_are_one();
 }
+
+/// What `unique`, implications, `if` and `foreach` mean after their rewriting.
+pub fn rewritings_mean()
+    ensures { RewritingsMean }
+{}
 
 /// The models of small sources.
 pub fn rows_are_tried()
