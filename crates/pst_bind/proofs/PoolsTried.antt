@@ -23,7 +23,7 @@ unfolding look_up
 pools = refl
 
 pub serves : served three instances
-    ≡ serve 0 2 0 2 ∷ serve 0 3 0 5 ∷ serve 0 4 0 6 ∷ serve 1 2 0 0 ∷ serve 1 3 0 5 ∷ serve 1 4 0 6 ∷ serve 2 2 0 3 ∷ serve 2 3 0 3 ∷ serve 2 4 0 1 ∷ []
+    ≡ serve 0 2 0 2 ∷ serve 0 3 0 5 ∷ serve 0 4 0 6 ∷ serve 1 2 0 0 ∷ serve 1 3 0 2 ∷ serve 1 4 0 6 ∷ serve 2 2 0 3 ∷ serve 2 3 0 3 ∷ serve 2 4 0 1 ∷ []
 unfolding look_up declared_at base_of member_of type_of action_at with_bases
 serves = refl
 

@@ -7,7 +7,7 @@ use Rattle.pst_ast.specs.declared.declaration.ReferenceWord.TheVariants as way
 use Rattle.pst_ast.specs.declared.declaration.ClaimWord.TheVariants as claiming
 use Rattle.pst_ast.specs.declared.shared.DotName.{DotName}
 use Rattle.pst_ast.specs.ActivityTree.{StatementPlain, CoreDo, WithNothing}
-use Rattle.pst_ast.specs.DeclarationTree.{UnitTree, ItemTree, ItemObject, ComponentPartTree, ComponentPartPool, ComponentPartPoolBind, MakeObject, MakePool, MakePoolBind, TargetsTree, TargetsAll, TargetsOne, TargetsSeveral, TargetTree, MakeTarget, MakeNextTarget, ActionPartTree, ActionPartReference, ActionPartClaim, MakeReference, MakeClaim}
+use Rattle.pst_ast.specs.DeclarationTree.{UnitTree, ItemTree, ItemObject, ComponentPartTree, ComponentPartPool, ComponentPartPoolBind, MakeObject, MakePool, MakePoolBind, TargetsTree, TargetsAll, TargetsSeveral, TargetTree, MakeTarget, MakeNextTarget, ActionPartTree, ActionPartReference, ActionPartClaim, MakeReference, MakeClaim}
 use Rattle.pst_scope.specs.declared.declaration.Declaration.{Declaration}
 use Rattle.pst_scope.specs.declared.declaration.Sort.TheVariants as sort
 use Rattle.pst_scope.specs.Declarations.{declarations, action_declared, member}
@@ -63,7 +63,7 @@ serve action instance reference pool = record { action = action; instance = inst
 --    5    action D : A { }
 --    6    action C { lock r c; }
 --       }
---    7  component mid { inner i, j; pool b q; pool r s; bind q i.A.o; bind s *; }
+--    7  component mid { inner i, j; pool b q; pool r s; bind q { i.A.o, j.D.o }; bind s *; }
 --    8  component pss_top { mid m; inner k; pool b t; pool r u; bind t { m.i.A.o, m.i.D.o, m.i.D.o }; bind u *; }
 
 abbrev pub names : List (List ℕ)
@@ -77,7 +77,7 @@ inner =
     (pool 1 4 3 26 ∷ bind 4 3 34 all ∷ an_action 5 4 None (output 1 6 4 23 ∷ []) ∷ an_action 7 5 (Some (base_named 5 5 14)) [] ∷ an_action 8 6 None (lock 2 9 6 21 ∷ []) ∷ [])
 
 abbrev pub mid : ItemTree
-mid = component 10 7 (members (type 3 7 17) (two_names 11 23 12 26 7) ∷ pool 1 13 7 36 ∷ pool 2 14 7 46 ∷ bind 13 7 54 (TargetsOne (target 11 5 (6 ∷ []))) ∷ bind 14 7 68 all ∷ [])
+mid = component 10 7 (members (type 3 7 17) (two_names 11 23 12 26 7) ∷ pool 1 13 7 36 ∷ pool 2 14 7 46 ∷ bind 13 7 54 (TargetsSeveral mark (target 11 5 (6 ∷ [])) (MakeNextTarget mark (target 12 7 (6 ∷ [])) ∷ []) mark) ∷ bind 14 7 68 all ∷ [])
 
 abbrev pub several : TargetsTree
 several = TargetsSeveral mark (target 15 11 (5 ∷ 6 ∷ [])) (MakeNextTarget mark (target 15 11 (7 ∷ 6 ∷ [])) ∷ MakeNextTarget mark (target 15 11 (7 ∷ 6 ∷ [])) ∷ []) mark
@@ -137,7 +137,7 @@ pub record PoolsAreTried : Type 0 where
   pub pools : pool_places (declarations three) instances ≡ place 0 17 ∷ place 0 18 ∷ place 1 13 ∷ place 1 14 ∷ place 2 4 ∷ place 3 4 ∷ place 4 4 ∷ []
   -- the explicit bind of the nearer instance, a default bind where there is none; an explicit bind of the derived action; the default bind of the nearer instance
   pub serves : served three instances
-      ≡ serve 0 2 0 2 ∷ serve 0 3 0 5 ∷ serve 0 4 0 6 ∷ serve 1 2 0 0 ∷ serve 1 3 0 5 ∷ serve 1 4 0 6 ∷ serve 2 2 0 3 ∷ serve 2 3 0 3 ∷ serve 2 4 0 1 ∷ []
+      ≡ serve 0 2 0 2 ∷ serve 0 3 0 5 ∷ serve 0 4 0 6 ∷ serve 1 2 0 0 ∷ serve 1 3 0 2 ∷ serve 1 4 0 6 ∷ serve 2 2 0 3 ∷ serve 2 3 0 3 ∷ serve 2 4 0 1 ∷ []
   -- two binds of one pool
   pub twice : candidates three instances derived its_output 2 ≡ 0 ∷ 0 ∷ []
   -- one pool, none, and two at one level

@@ -1,2 +1,4 @@
 pub mod Rewriting
 pub mod Numbering
+pub mod SameSlots
+pub mod Standing

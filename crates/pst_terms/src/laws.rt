@@ -1,5 +1,5 @@
 //! Laws of the definitions: each function here does nothing, and its contract is a law.
-ghost use Rattle.pst_terms.specs.Laws.{NumberingKeepsValues, RewritingKeepsValues};
+ghost use Rattle.pst_terms.specs.Laws.{NumberingKeepsValues, RewritingKeepsValues, SlotsStand};
 ghost use Rattle.pst_terms.specs.Tried.{SlotsAreTried};
 
 /// An expression has the value of its term.
@@ -11,6 +11,12 @@ pub fn rewriting_keeps_values()
 /// of the term.
 pub fn numbering_keeps_values()
     ensures { NumberingKeepsValues }
+{}
+
+/// Among the slots of a term whose arrays don't overlap each slot stands at its number, and the
+/// elements of each array stand together.
+pub fn slots_stand()
+    ensures { SlotsStand }
 {}
 
 /// The slots of small terms, and the expressions by their numbers.

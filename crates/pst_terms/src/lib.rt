@@ -4,4 +4,4 @@
 
 mod laws;
 
-pub use laws::{numbering_keeps_values, rewriting_keeps_values, slots_are_tried};
+pub use laws::{numbering_keeps_values, rewriting_keeps_values, slots_are_tried, slots_stand};
