@@ -1,8 +1,10 @@
 -- Laws of the definitions.
-use Rattle.std.specs.Prelude.{◌≡◌, ◌⊎◌, ℕ, ◌+◌, ℤ, Bool, true, false, List, [], ◌∷◌, ◌++◌, map, slice_get, Option, Some}
-use Rattle.std.specs.List.{list_any, Contains}
+use Rattle.std.specs.Prelude.{◌≡◌, ◌⊎◌, ℕ, ◌+◌, ◌≤◌, ℤ, Bool, true, false, List, [], ◌∷◌, ◌++◌, map, length, slice_get, Option, Some}
+use Rattle.std.specs.List.{flat_map, list_any, Contains}
 use Rattle.pst_ast.specs.ExpressionTree.{ExprTree, PathTree}
 use Rattle.pst_expr.specs.Value.{value}
+use Rattle.pst_model.specs.Limits.{most_elements}
+use Rattle.pst_model.specs.SoundConstraint.{IsBelow}
 use Rattle.pst_model.specs.ConstraintTree.{SlotTree}
 use Rattle.pst_constants.specs.Values.{value_under}
 use Rattle.pst_terms.specs.Terms.{Term, Number, Leaf, Prefix, Infix, Indexed, Reading, term_of}
@@ -55,3 +57,22 @@ pub record IsWhole (term : Term SlotTree) : Type 0 where
 -- among the slots of such a term each stands at its number, and the elements of each array stand together
 abbrev pub SlotsStand : Type 0
 SlotsStand = (term : Term SlotTree) → IsWhole term → StandIn (slots_of term) term
+
+-- ---- sound expressions
+
+-- each array of a term has at least one element, and no more than an array may have
+abbrev pub HasRightArrays : Term SlotTree → Type 0
+HasRightArrays (Number n) = Unit {0}
+HasRightArrays (Leaf slot) = Unit {0}
+HasRightArrays (Prefix operator operand) = HasRightArrays operand
+HasRightArrays (Infix operator left right) = HasRightArrays left × HasRightArrays right
+HasRightArrays (Indexed elements index) = (1 ≤ length elements) × (length elements ≤ most_elements) × HasRightArrays index
+
+-- the slots that stand in a term
+abbrev pub slots_in : Term SlotTree → List SlotTree
+slots_in term = flat_map (λ b. b) (blocks term)
+
+-- The variables of an expression are below its slots, and each slot stands in the term: what a sound model asks of it but for the meaning of the term's own slots.
+pub record ExpressionsAreBelow : Type 0 where
+  pub below : (term : Term SlotTree) → IsWhole term → HasRightArrays term → IsBelow (length (slots_of term)) (numbered (slots_of term) term)
+  pub among : (term : Term SlotTree) (slot : SlotTree) → is_in slot (slots_of term) ≡ true → is_in slot (slots_in term) ≡ true

@@ -1,5 +1,5 @@
 //! Laws of the definitions: each function here does nothing, and its contract is a law.
-ghost use Rattle.pst_terms.specs.Laws.{NumberingKeepsValues, RewritingKeepsValues, SlotsStand};
+ghost use Rattle.pst_terms.specs.Laws.{ExpressionsAreBelow, NumberingKeepsValues, RewritingKeepsValues, SlotsStand};
 ghost use Rattle.pst_terms.specs.Tried.{SlotsAreTried};
 
 /// An expression has the value of its term.
@@ -17,6 +17,11 @@ pub fn numbering_keeps_values()
 /// elements of each array stand together.
 pub fn slots_stand()
     ensures { SlotsStand }
+{}
+
+/// The variables of an expression are below its slots, and each slot stands in its term.
+pub fn expressions_are_below()
+    ensures { ExpressionsAreBelow }
 {}
 
 /// The slots of small terms, and the expressions by their numbers.

@@ -4,4 +4,7 @@
 
 mod laws;
 
-pub use laws::{numbering_keeps_values, rewriting_keeps_values, slots_are_tried, slots_stand};
+pub use laws::{
+    expressions_are_below, numbering_keeps_values, rewriting_keeps_values, slots_are_tried,
+    slots_stand,
+};
