@@ -4,4 +4,4 @@
 
 mod laws;
 
-pub use laws::bases_are_tried;
+pub use laws::{bases_are_tried, members_are_found};
