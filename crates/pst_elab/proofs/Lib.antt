@@ -1,4 +1,5 @@
 pub mod One
 pub mod Meaning
+pub mod Inside
 mod RowsTried
 mod StatementsTried

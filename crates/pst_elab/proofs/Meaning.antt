@@ -25,7 +25,7 @@ IsMissing (Some x) = ⊥
 is_missing : {A : Type 0} (x : A) → None ≡ Some x → ⊥
 is_missing x e = subst IsMissing e tt
 
-one_is_not_zero : pos 1 ≡ pos 0 → ⊥
+pub one_is_not_zero : pos 1 ≡ pos 0 → ⊥
 one_is_not_zero e = true≢false (sym ((Decides-int_eq (pos 1) (pos 0)).1 e))
 
 -- ---- tests

@@ -1,9 +1,13 @@
 -- What the rewritings of constraints mean, in the language's own words: a law.
-use Rattle.std.specs.Prelude.{◌≡◌, ◌↔◌, ℕ, ◌<◌, ℤ, pos, List, [], ◌∷◌, Option, Some, None}
+use Rattle.std.specs.Prelude.{◌≡◌, ◌↔◌, ◌⊎◌, ℕ, ◌<◌, ℤ, pos, List, [], ◌∷◌, Option, Some, None}
+use Rattle.pst_ast.specs.ExpressionTree.{PathTree, RangesTree, RangeTree, RangeSingle, RangeBetween}
+use Rattle.pst_expr.specs.declared.ranges.Span.{Span}
+use Rattle.pst_expr.specs.Spans.{IsInSpan}
 use Rattle.pst_expr.specs.declared.tree.UnaryOp.TheVariants.{Not}
 use Rattle.pst_expr.specs.declared.tree.BinaryOp.TheVariants.{Implies}
 use Rattle.pst_model.specs.ConstraintTree.{SlotTree}
-use Rattle.pst_terms.specs.Terms.{Term, Prefix, Infix}
+use Rattle.pst_constants.specs.Domains.{ranges_of}
+use Rattle.pst_terms.specs.Terms.{Term, Prefix, Infix, Reading, term_of, ranges_term}
 use Rattle.pst_terms.specs.Values.{term_value}
 use Rattle.pst_elab.specs.Constraints.{pairs, implied, for_each}
 
@@ -31,7 +35,26 @@ abbrev pub AreDifferent : List ℤ → Type 0
 AreDifferent [] = Unit {0}
 AreDifferent (v ∷ vs) = IsNoneOf v vs × AreDifferent vs
 
+-- the ends of ranges have the values of these spans
+abbrev pub IsRangeOf : (SlotTree → Option ℤ) → (PathTree → Reading SlotTree) → RangeTree → Span → Type 0
+IsRangeOf f read (RangeSingle expr) s = (term_value f (term_of read expr) ≡ Some s.low) × (s.high ≡ s.low)
+IsRangeOf f read (RangeBetween low dots high) s = (term_value f (term_of read low) ≡ Some s.low) × (term_value f (term_of read high) ≡ Some s.high)
+
+abbrev pub AreRangesOf : (SlotTree → Option ℤ) → (PathTree → Reading SlotTree) → List RangeTree → List Span → Type 0
+AreRangesOf f read [] [] = Unit {0}
+AreRangesOf f read [] (s ∷ spans) = ⊥
+AreRangesOf f read (r ∷ ranges) [] = ⊥
+AreRangesOf f read (r ∷ ranges) (s ∷ spans) = IsRangeOf f read r s × AreRangesOf f read ranges spans
+
+-- a value is in one of some spans
+abbrev pub IsInOne : ℤ → List Span → Type 0
+IsInOne v [] = ⊥
+IsInOne v (s ∷ spans) = IsInSpan v s ⊎ IsInOne v spans
+
 pub record RewritingsMean : Type 0 where
+  -- `x in [a..b, c]`: x is in one of the ranges
+  pub inside : (f : SlotTree → Option ℤ) (read : PathTree → Reading SlotTree) (x : Term SlotTree) (v : ℤ) (ranges : RangesTree) (spans : List Span) → term_value f x ≡ Some v → AreRangesOf f read (ranges_of ranges) spans
+      → Holds f (ranges_term read x ranges) ↔ IsInOne v spans
   -- `unique`: no two values are equal
   pub unique : (f : SlotTree → Option ℤ) (terms : List (Term SlotTree)) (values : List ℤ) → HaveValues f terms values → AllHold f (pairs terms) ↔ AreDifferent values
   -- `c -> set`, and the first part of an `if`: where c isn't 0, the set holds; where it has no value, none of the constraints does

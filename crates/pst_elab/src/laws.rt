@@ -29,7 +29,7 @@ pub fn answers_are_apart()
     pst_tree::instances_are_one();
 }
 
-/// What `unique`, implications, `if` and `foreach` mean after their rewriting.
+/// What `in`, `unique`, implications, `if` and `foreach` mean after their rewriting.
 pub fn rewritings_mean()
     ensures { RewritingsMean }
 {}
