@@ -2,4 +2,6 @@ pub mod One
 pub mod Found
 pub mod LaidOut
 pub mod Preorder
+pub mod Declared
+pub mod Existing
 mod InstancesTried

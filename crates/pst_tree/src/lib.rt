@@ -4,5 +4,7 @@
 mod laws;
 mod tree;
 
-pub use laws::{instances_are_in_preorder, instances_are_one, instances_are_tried};
+pub use laws::{
+    instances_are_in_preorder, instances_are_one, instances_are_tried, instances_exist,
+};
 pub use tree::{Tree, TreeEnd};
