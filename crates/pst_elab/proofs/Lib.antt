@@ -1,3 +1,4 @@
+pub mod InOrder
 pub mod One
 pub mod Meaning
 pub mod Inside

@@ -3,12 +3,18 @@ use Rattle.std.specs.Prelude.{◌≡◌, ℕ, List}
 use Rattle.pst_base.specs.declared.position.Place.{Place}
 use Rattle.pst_ast.specs.DeclarationTree.{UnitTree}
 use Rattle.pst_model.specs.ModelTree.{ModelTree}
+use Rattle.pst_model.specs.Preorder.{IsInstanceTree}
+use Rattle.pst_model.specs.Served.{IsInOrder}
 use Rattle.pst_elab.specs.Model.{IsModel}
 use Rattle.pst_elab.specs.Ends.{IsFirstBreach, HasMany, IsElaborated}
 
 -- sources have at most one model
 abbrev pub ModelsAreOne : Type 0
 ModelsAreOne = (units : List UnitTree) (names : List (List ℕ)) (model other : ModelTree) → IsModel units names model → IsModel units names other → model ≡ other
+
+-- in a model of sources the instances stand in preorder, and what pools serve by action, instance and reference, each at most once
+abbrev pub ModelsAreInOrder : Type 0
+ModelsAreInOrder = (units : List UnitTree) (names : List (List ℕ)) (model : ModelTree) → IsModel units names model → IsInstanceTree model.instances × IsInOrder model.served
 
 -- at most one breach is the first
 abbrev pub FirstBreachesAreOne : Type 0

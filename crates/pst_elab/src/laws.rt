@@ -1,5 +1,5 @@
 //! Laws of the definitions: each function here does nothing, and its contract is a law.
-ghost use Rattle.pst_elab.specs.Laws.{ModelsAreOne, FirstBreachesAreOne, AnswersAreApart};
+ghost use Rattle.pst_elab.specs.Laws.{AnswersAreApart, FirstBreachesAreOne, ModelsAreInOrder, ModelsAreOne};
 ghost use Rattle.pst_elab.specs.Meaning.{RewritingsMean};
 ghost use Rattle.pst_elab.specs.TriedRows.{RowsAreTried};
 ghost use Rattle.pst_elab.specs.TriedStatements.{StatementsAreTried};
@@ -11,6 +11,14 @@ pub fn models_are_one()
     pst_types::constants_are_one();
     pst_constants::types_have_one_domain();
     pst_tree::instances_are_one();
+}
+
+/// In a model of sources the instances stand in preorder, and what pools serve by action, instance
+/// and reference.
+pub fn models_are_in_order()
+    ensures { ModelsAreInOrder }
+{
+    pst_tree::instances_are_in_preorder();
 }
 
 /// At most one breach is the first.
