@@ -1,0 +1,2 @@
+mod PoolsTried
+pub mod Serves

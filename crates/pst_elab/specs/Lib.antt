@@ -1,0 +1,12 @@
+pub mod Constraints
+pub mod Spans
+pub mod Steps
+pub mod Ties
+pub mod Bodies
+pub mod Types
+pub mod Model
+pub mod Ends
+pub mod Laws
+pub mod Meaning
+pub mod TriedRows
+pub mod TriedStatements

@@ -1,0 +1,4 @@
+pub mod Bases
+pub mod Contents
+pub mod Laws
+pub mod Tried

@@ -1,0 +1,5 @@
+pub mod Rewriting
+pub mod Numbering
+pub mod SameSlots
+pub mod Standing
+pub mod Below

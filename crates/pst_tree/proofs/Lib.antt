@@ -1,0 +1,7 @@
+pub mod One
+pub mod Found
+pub mod LaidOut
+pub mod Preorder
+pub mod Declared
+pub mod Existing
+mod InstancesTried

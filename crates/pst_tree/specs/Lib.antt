@@ -1,0 +1,4 @@
+pub mod Instances
+pub mod Laws
+pub mod Steps
+pub mod Tried
