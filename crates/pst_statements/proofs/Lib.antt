@@ -1,5 +1,5 @@
 pub mod Children
 mod Found
-mod Kept
+pub mod Kept
 mod Listed
 mod Whole
