@@ -41,7 +41,7 @@ numbered_at k (x ∷ xs) e numbers (inr has) =
     (suc r.0, omega (arith, r.1), r.2)
 
 -- the leaf of an action has the action's number among the leaves
-leaf_at : (s : Scenario) (n act : ℕ) (node : Node) → map (λ e. e.0) (leaves_of s.nodes) ≡ range_with_len 0 (length (leaves_of s.nodes)) → slice_get s.nodes n ≡ Some node → node.fill ≡ fill.Leaf act
+pub leaf_at : (s : Scenario) (n act : ℕ) (node : Node) → map (λ e. e.0) (leaves_of s.nodes) ≡ range_with_len 0 (length (leaves_of s.nodes)) → slice_get s.nodes n ≡ Some node → node.fill ≡ fill.Leaf act
     → slice_get (leaves_of s.nodes) act ≡ Some (act, n)
 leaf_at s n act node numbers is leaf =
     let has : In (act, n) (leaf_of n node.fill) = subst (λ f. In (act, n) (leaf_of n f)) (sym leaf) (inl refl) in

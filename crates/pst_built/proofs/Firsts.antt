@@ -4,7 +4,7 @@ use Rattle.std.specs.Prelude.{slice_get}
 use Rattle.std.specs.List.{filter, list_any, range_with_len}
 use Rattle.std.specs.Option.{option_and_then}
 use Rattle.std.proofs.lemmas.Option.{slice_get_within, option_and_then_some}
-use Rattle.std.proofs.lemmas.Bool.{false≢true, eqb-true, eq-eqb, and_parts, and_from, or_left, or_right, or_cases, cases_order}
+use Rattle.std.proofs.lemmas.Bool.{false≢true, eqb-true, eq-eqb, and_parts, and_from, cases_order}
 use Rattle.pst_model.specs.declared.model.Pool.{Pool}
 use Rattle.pst_model.specs.ModelTree.{ModelTree}
 use Rattle.pst_model.specs.declared.object.ObjectKind.TheVariants.{State}
@@ -20,43 +20,12 @@ use Rattle.pst_legal.specs.Types.{is_state_pool, has_kind}
 use Rattle.pst_legal.specs.SupplyReading.{is_state}
 use Rattle.pst_legal.specs.Blanks.{refers_to, used_state_pools}
 use Rattle.pst_built.proofs.Bares.{Bare, bare, bares, bare_at, bare_from, bare_of}
-use Rattle.pst_built.proofs.Members.{In, in_get, in_filter}
+use Rattle.pst_built.proofs.Members.{In, in_get, in_filter, any_found, any_from, to_filter, to_contains, from_contains}
 use Rattle.pst_built.proofs.Spots.{at_act}
 use Rattle.pst_built.proofs.Values.{IsValued}
 use Rattle.pst_built.proofs.SoundActs.{in_place, ArePooled}
 
--- ---- elements that pass a test
-
-any_found : {A : Type 0} (test : A → Bool) (xs : List A) → list_any test xs ≡ true → (x : A) × In x xs × (test x ≡ true)
-any_found test [] e = absurd (false≢true e)
-any_found test (x ∷ xs) e =
-    ⊎_elim (λ is. (x, inl refl, is)) (λ more. let r = any_found test xs more in (r.0, inr r.1, r.2)) (or_cases (test x) (list_any test xs) e)
-
-any_from : {A : Type 0} (test : A → Bool) (xs : List A) (x : A) → In x xs → test x ≡ true → list_any test xs ≡ true
-any_from test [] x has is = absurd has
-any_from test (y ∷ ys) x (inl e) is = or_left (test y) (list_any test ys) (subst (λ v. test v ≡ true) (sym e) is)
-any_from test (y ∷ ys) x (inr has) is = or_right (test y) (list_any test ys) (any_from test ys x has is)
-
-by_filter : {A : Type 0} (test : A → Bool) (y : A) (ys : List A) (x : A) → (In x ys → test x ≡ true → In x (filter test ys)) → (b : Bool) → test y ≡ b
-    → (y ≡ x) ⊎ In x ys → test x ≡ true → In x (cond b (y ∷ filter test ys) (filter test ys))
-by_filter test y ys x rest true e (inl same) is = inl same
-by_filter test y ys x rest true e (inr has) is = inr (rest has is)
-by_filter test y ys x rest false e (inl same) is = absurd (false≢true (sym e ∙ ap test same ∙ is))
-by_filter test y ys x rest false e (inr has) is = rest has is
-
-to_filter : {A : Type 0} (test : A → Bool) (xs : List A) (x : A) → In x xs → test x ≡ true → In x (filter test xs)
-to_filter test [] x has is = absurd has
-to_filter test (y ∷ ys) x has is = by_filter test y ys x (to_filter test ys x) (test y) refl has is
-
-pub to_contains : (xs : List ℕ) (x : ℕ) → In x xs → Contains xs x
-to_contains [] x has = absurd has
-to_contains (y ∷ ys) x (inl e) = (0, omega arith, e)
-to_contains (y ∷ ys) x (inr has) = let c = to_contains ys x has in (suc c.0, omega (arith, c.1), c.2)
-
-from_contains : (xs : List ℕ) (x k : ℕ) → k < length xs → get_or xs k x ≡ x → In x xs
-from_contains [] x k l e = absurd (omega (arith, l))
-from_contains (y ∷ ys) x zero l e = inl e
-from_contains (y ∷ ys) x (suc k) l e = inr (from_contains ys x k (omega (arith, l)) e)
+-- ---- numbers in order
 
 to_range : (a n k : ℕ) → a ≤ k → k < a + n → In k (range_with_len a n)
 to_range a zero k low high = absurd (omega (arith, low, high))

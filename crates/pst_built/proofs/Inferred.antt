@@ -21,10 +21,9 @@ use Rattle.pst_legal.specs.Binds.{Bound, bounds_of, fixed_source}
 use Rattle.pst_legal.specs.Supplied.{is_need, is_source_for}
 use Rattle.pst_legal.specs.SupplyReading.{Spot, spots, same_link, is_open, fixed_for, is_elsewhere, has_turn, next_need, Source, Initially, From, New, is_stream, is_inferable, put_link, linked_to, supplied_by}
 use Rattle.pst_built.specs.Sources.{HasSources}
-use Rattle.pst_built.proofs.Members.{In, none_found}
+use Rattle.pst_built.proofs.Members.{In, none_found, to_contains}
 use Rattle.pst_built.proofs.Bares.{Bare, bare, bares, bare_at, bare_from, bare_of, Kind, kind_in, kinds_in, kinds_put, nodes_in, node_in}
 use Rattle.pst_built.proofs.Parents.{get_cases}
-use Rattle.pst_built.proofs.Firsts.{to_contains}
 use Rattle.pst_built.proofs.Spots.{to_spot, IsNew, Suits}
 use Rattle.pst_built.proofs.Trees.{Grown}
 use Rattle.pst_built.proofs.Supply.{IsSupplied}

@@ -1,10 +1,10 @@
-mod Members
+pub mod Members
 mod Gives
 mod Ways
 mod Bares
 mod Values
 mod Looks
-mod Parents
+pub mod Parents
 mod Opens
 mod Leaves
 mod Trees
@@ -13,11 +13,12 @@ mod Ends
 mod Spots
 mod Linking
 mod Supply
-mod SoundActs
+pub mod SoundActs
 mod SoundPieces
 mod PooledTrees
 mod Firsts
 mod Built
+mod WellFormed
 mod Linked
 mod Inferred
 mod Whole

@@ -1,9 +1,9 @@
 -- The elements of lists, by recursion.
-use Rattle.std.proofs.Common.{◌≡◌, ◌⊎◌, ℕ, zero, suc, ◌+◌, List, [], ◌∷◌, ◌++◌, map, Bool, true, false, cond, if◌then◌else◌, Some, None, refl, sym, ap, subst, inl, inr, ⊎_elim, arith}
+use Rattle.std.proofs.Common.{◌≡◌, ◌⊎◌, ℕ, zero, suc, ◌+◌, ◌<◌, List, [], ◌∷◌, ◌++◌, map, length, get_or, Contains, Bool, true, false, cond, if◌then◌else◌, Some, None, refl, sym, ap, ◌∙◌, subst, inl, inr, ⊎_elim, arith}
 use Rattle.std.specs.Prelude.{slice_get, flat_map}
 use Rattle.std.specs.List.{enumerate_from, filter, find, list_any}
 use Rattle.std.proofs.lemmas.Option.{none-some, same_Some}
-use Rattle.std.proofs.lemmas.Bool.{or_parts}
+use Rattle.std.proofs.lemmas.Bool.{false≢true, or_parts, or_left, or_right, or_cases}
 
 abbrev pub In : {A : Type 0} → A → List A → Type 0
 In x [] = ⊥
@@ -106,3 +106,36 @@ pub none_any : {A : Type 0} (test : A → Bool) (xs : List A) (x : A) → list_a
 none_any test [] x e has = absurd has
 none_any test (y ∷ ys) x e (inl same) = subst (λ v. test v ≡ false) same (or_parts (test y) (list_any test ys) e).0
 none_any test (y ∷ ys) x e (inr has) = none_any test ys x (or_parts (test y) (list_any test ys) e).1 has
+
+-- ---- elements that pass a test, the other way round
+
+pub any_found : {A : Type 0} (test : A → Bool) (xs : List A) → list_any test xs ≡ true → (x : A) × In x xs × (test x ≡ true)
+any_found test [] e = absurd (false≢true e)
+any_found test (x ∷ xs) e =
+    ⊎_elim (λ is. (x, inl refl, is)) (λ more. let r = any_found test xs more in (r.0, inr r.1, r.2)) (or_cases (test x) (list_any test xs) e)
+
+pub any_from : {A : Type 0} (test : A → Bool) (xs : List A) (x : A) → In x xs → test x ≡ true → list_any test xs ≡ true
+any_from test [] x has is = absurd has
+any_from test (y ∷ ys) x (inl e) is = or_left (test y) (list_any test ys) (subst (λ v. test v ≡ true) (sym e) is)
+any_from test (y ∷ ys) x (inr has) is = or_right (test y) (list_any test ys) (any_from test ys x has is)
+
+keep_filter : {A : Type 0} (test : A → Bool) (y : A) (ys : List A) (x : A) → (In x ys → test x ≡ true → In x (filter test ys)) → (b : Bool) → test y ≡ b
+    → (y ≡ x) ⊎ In x ys → test x ≡ true → In x (cond b (y ∷ filter test ys) (filter test ys))
+keep_filter test y ys x rest true e (inl same) is = inl same
+keep_filter test y ys x rest true e (inr has) is = inr (rest has is)
+keep_filter test y ys x rest false e (inl same) is = absurd (false≢true (sym e ∙ ap test same ∙ is))
+keep_filter test y ys x rest false e (inr has) is = rest has is
+
+pub to_filter : {A : Type 0} (test : A → Bool) (xs : List A) (x : A) → In x xs → test x ≡ true → In x (filter test xs)
+to_filter test [] x has is = absurd has
+to_filter test (y ∷ ys) x has is = keep_filter test y ys x (to_filter test ys x) (test y) refl has is
+
+pub to_contains : {A : Type 0} (xs : List A) (x : A) → In x xs → Contains xs x
+to_contains [] x has = absurd has
+to_contains (y ∷ ys) x (inl e) = (0, omega arith, e)
+to_contains (y ∷ ys) x (inr has) = let c = to_contains ys x has in (suc c.0, omega (arith, c.1), c.2)
+
+pub from_contains : {A : Type 0} (xs : List A) (x : A) (k : ℕ) → k < length xs → get_or xs k x ≡ x → In x xs
+from_contains [] x k l e = absurd (omega (arith, l))
+from_contains (y ∷ ys) x zero l e = inl e
+from_contains (y ∷ ys) x (suc k) l e = inr (from_contains ys x k (omega (arith, l)) e)

@@ -81,7 +81,7 @@ stands : (nodes : List Node) {top n : ℕ} → Under (parents nodes) top n → S
 stands nodes Here = AtTop
 stands nodes (Lower n parent other is) = Below n parent (stands nodes other) (by_node nodes n parent (slice_get nodes n) refl (sym (slice_get-map parent_in nodes n) ∙ is))
 
-parent_is : (nodes : List Node) (n : ℕ) (node : Node) → slice_get nodes n ≡ Some node → slice_get (parents nodes) n ≡ Some node.parent
+pub parent_is : (nodes : List Node) (n : ℕ) (node : Node) → slice_get nodes n ≡ Some node → slice_get (parents nodes) n ≡ Some node.parent
 parent_is nodes n node is = slice_get-map parent_in nodes n ∙ ap (option_map parent_in) is
 
 pub in_preorder : (nodes : List Node) → InOrder (parents nodes) → AreInPreorder nodes

@@ -89,7 +89,7 @@ some_of None e = absurd (false≢true e)
 some_of (Some x) e = (x, refl)
 
 -- the pool's objects are of the reference's type
-served_pool : (m : ModelTree) → IsSound m → (action instance reference p : ℕ) (type : ActionTree) → type_of m action ≡ Some type → pool_in m.served action instance reference ≡ Some p
+pub served_pool : (m : ModelTree) → IsSound m → (action instance reference p : ℕ) (type : ActionTree) → type_of m action ≡ Some type → pool_in m.served action instance reference ≡ Some p
     → (pool : Pool) × (slice_get m.pools p ≡ Some pool) × (slice_get (objects_of type) reference ≡ Some pool.object)
 served_pool m sound action instance reference p type is e =
     let t = entry_of m.served action instance reference p e in

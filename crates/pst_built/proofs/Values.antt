@@ -6,7 +6,7 @@ use Rattle.pst_scen.specs.declared.scenario.First.{First}
 use Rattle.pst_scen.specs.declared.scenario.Scenario.{Scenario}
 use Rattle.pst_legal.specs.Blanks.{Blank, Instance, OfFirst, OfAct, OfOutput, OfClaim, used_state_pools, claim_blanks, value_blanks, options, option_value}
 use Rattle.pst_legal.specs.SupplyReading.{alter}
-use Rattle.pst_legal.specs.ValueReading.{more_values, first_with_value, empty_first, written, with_claim, act_with_value, with_output_value, with_claim_value, filled_with_value, read_blanks, read_values, with_firsts}
+use Rattle.pst_legal.specs.ValueReading.{more_values, first_with_value, empty_first, with_option, with_claim, act_with_value, with_output_value, with_claim_value, filled_with_value, read_blanks, read_values, with_firsts}
 use Rattle.pst_built.proofs.Bares.{bare, bares_in, bares, node_in, nodes_in, kind_in, kinds_in, alter_same}
 use Rattle.pst_built.proofs.Gives.{Gives, gives_seeded, gives_then}
 
@@ -37,15 +37,15 @@ altered s f n node kinds references = record {
   references = alter_same bares_in f references n s.actions;
 }
 
-written_keeps : (m : ModelTree) (s : Scenario) (k : ℕ) (blank : Blank) → IsSameOrder s (written m k blank s)
-written_keeps m s k (Instance act claim) = altered s (with_claim m claim k) act (λ x. refl) (λ x. refl) (λ x. refl)
-written_keeps m s k (OfFirst pool field) = record { level = refl; nodes = refl; acts = refl; kinds = refl; references = refl }
-written_keeps m s k (OfAct act field) = altered s (act_with_value (option_value m s.actions (OfAct act field) k)) act (λ x. refl) (λ x. refl) (λ x. refl)
-written_keeps m s k (OfOutput act reference field) =
+option_keeps : (m : ModelTree) (s : Scenario) (k : ℕ) (blank : Blank) → IsSameOrder s (with_option m k blank s)
+option_keeps m s k (Instance act claim) = altered s (with_claim m claim k) act (λ x. refl) (λ x. refl) (λ x. refl)
+option_keeps m s k (OfFirst pool field) = record { level = refl; nodes = refl; acts = refl; kinds = refl; references = refl }
+option_keeps m s k (OfAct act field) = altered s (act_with_value (option_value m s.actions (OfAct act field) k)) act (λ x. refl) (λ x. refl) (λ x. refl)
+option_keeps m s k (OfOutput act reference field) =
     let v = option_value m s.actions (OfOutput act reference field) k in
     altered s (with_output_value reference v) act (λ x. refl) (λ x. refl)
     (λ x. alter_same bare (filled_with_value v) (λ filled. refl) reference x.references)
-written_keeps m s k (OfClaim act claim field) =
+option_keeps m s k (OfClaim act claim field) =
     altered s (with_claim_value claim (option_value m s.actions (OfClaim act claim field) k)) act (λ x. refl) (λ x. refl) (λ x. refl)
 
 -- ---- first objects
@@ -61,12 +61,12 @@ pools_stay : (pool : ℕ) (v : ℤ) (firsts : List First) → map pool_in (map (
 pools_stay pool v [] = refl
 pools_stay pool v (first ∷ more) = ap₂ ◌∷◌ (by_test pool v first (nat_eq first.pool pool)) (pools_stay pool v more)
 
-written_firsts : (m : ModelTree) (s : Scenario) (k : ℕ) (blank : Blank) → map pool_in (written m k blank s).firsts ≡ map pool_in s.firsts
-written_firsts m s k (Instance act claim) = refl
-written_firsts m s k (OfFirst pool field) = pools_stay pool (option_value m s.actions (OfFirst pool field) k) s.firsts
-written_firsts m s k (OfAct act field) = refl
-written_firsts m s k (OfOutput act reference field) = refl
-written_firsts m s k (OfClaim act claim field) = refl
+option_firsts : (m : ModelTree) (s : Scenario) (k : ℕ) (blank : Blank) → map pool_in (with_option m k blank s).firsts ≡ map pool_in s.firsts
+option_firsts m s k (Instance act claim) = refl
+option_firsts m s k (OfFirst pool field) = pools_stay pool (option_value m s.actions (OfFirst pool field) k) s.firsts
+option_firsts m s k (OfAct act field) = refl
+option_firsts m s k (OfOutput act reference field) = refl
+option_firsts m s k (OfClaim act claim field) = refl
 
 pools_of : (pools : List ℕ) → map pool_in (map empty_first pools) ≡ pools
 pools_of [] = refl
@@ -82,10 +82,10 @@ pub record IsValued (m : ModelTree) (s t : Scenario) : Type 0 where
 blanks_keep : (m : ModelTree) (seed : ℕ) (more : List Blank) (s t : Scenario) (place : ℕ) (left : List ℕ) → IsValued m s t → Gives (IsValued m s) (read_blanks m seed more t place left)
 blanks_keep m seed [] s t place left valued = valued
 blanks_keep m seed (blank ∷ more) s t place left valued =
-    gives_seeded (IsValued m s) seed (options m t.actions blank) (λ k read. read_blanks m seed more (written m k blank read)) t place left
-    (λ k next rest. blanks_keep m seed more s (written m k blank t) next rest (record {
-      same = same_after s t (written m k blank t) valued.same (written_keeps m t k blank);
-      firsts = written_firsts m t k blank ∙ valued.firsts;
+    gives_seeded (IsValued m s) seed (options m t.actions blank) (λ k read. read_blanks m seed more (with_option m k blank read)) t place left
+    (λ k next rest. blanks_keep m seed more s (with_option m k blank t) next rest (record {
+      same = same_after s t (with_option m k blank t) valued.same (option_keeps m t k blank);
+      firsts = option_firsts m t k blank ∙ valued.firsts;
     }))
 
 pub values_keep : (m : ModelTree) (seed : ℕ) (s : Scenario) (place : ℕ) (left : List ℕ) → Gives (IsValued m s) (read_values m seed s place left)

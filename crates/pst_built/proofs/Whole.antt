@@ -8,7 +8,7 @@ use Rattle.pst_legal.specs.Growing.{nothing_yet, most_nodes, most_acts}
 use Rattle.pst_legal.specs.Reading.{Reading, Wants, Stops, Reads, then_read, read_tree}
 use Rattle.pst_legal.specs.SupplyReading.{read_supply}
 use Rattle.pst_legal.specs.ValueReading.{Whole, answer_of, read_values, read_all, read}
-use Rattle.pst_built.specs.Laws.{WholeReadingsAreBuilt, WholeReadingsAreWithin, WholeReadingsAreLinked, WholeReadingsHaveSources, IsConcreteRoot, WholeReadingsAreScenarios}
+use Rattle.pst_built.specs.Laws.{WholeReadingsAreBuilt, WholeReadingsAreWithin, WholeReadingsAreLinked, WholeReadingsHaveSources, IsConcreteRoot, WholeReadingsAreScenarios, WholeReadingsAreWellFormed}
 use Rattle.pst_built.proofs.Gives.{Gives, gives_more, gives_then}
 use Rattle.pst_built.proofs.Bares.{bares, nodes_in, kinds_in}
 use Rattle.pst_built.proofs.Values.{IsSameOrder, IsValued, values_keep}
@@ -23,6 +23,7 @@ use Rattle.pst_built.proofs.PooledTrees.{HasPools, pooled_tree}
 use Rattle.pst_built.proofs.Firsts.{has_firsts}
 use Rattle.pst_built.proofs.Inferred.{AreInferable, inferable_supplied, inferable_first, AreBound, all_bound, has_sources}
 use Rattle.pst_built.proofs.Built.{built}
+use Rattle.pst_built.proofs.WellFormed.{well_formed}
 use Rattle.pst_built.proofs.Linked.{are_linked}
 
 -- ---- the same order
@@ -117,6 +118,11 @@ pub whole_has_sources : WholeReadingsHaveSources
 whole_has_sources m root seed level choices s e =
     let is = whole_gives (IsInferred m) (read_all m seed root (nothing_yet level) 0 choices) s (inferred_whole m root seed level choices) e in
     has_sources m level s (supplied_whole m root seed level choices s e) is.bound is.inferable
+
+pub whole_is_well_formed : WholeReadingsAreWellFormed
+whole_is_well_formed m root seed level choices s e =
+    let is = whole_is_built m root seed level choices s e in
+    well_formed s is.0.preorder is.0.leaves (whole_is_linked m root seed level choices s e) is.0.small
 
 -- ---- sound models
 

@@ -22,16 +22,7 @@ pub record Bound : Type 0 where
 
 abbrev pub act_in : Fill → Option ℕ
 act_in (fill.Leaf act) = Some act
-act_in (fill.Compound action instance fields) = None
-act_in fill.Sequence = None
-act_in fill.Parallel = None
-act_in fill.Schedule = None
-act_in (fill.Joined parallel joined) = None
-act_in (fill.Select branch) = None
-act_in fill.Repeat = None
-act_in (fill.Turn index) = None
-act_in (fill.If taken) = None
-act_in (fill.Match arm) = None
+act_in _ = None
 
 -- the atomic action behind a handle of the compound action of a node
 abbrev pub act_behind : ModelTree → List Node → ℕ → ℕ → Option ℕ

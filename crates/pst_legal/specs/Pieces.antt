@@ -8,7 +8,7 @@ use Rattle.pst_expr.specs.Value.{value, is_false}
 use Rattle.pst_model.specs.declared.action.Field.{Field}
 use Rattle.pst_model.specs.declared.activity.Join.{Join}
 use Rattle.pst_model.specs.declared.activity.Join.TheVariants.{Fixed, Choose}
-use Rattle.pst_model.specs.ConstraintTree.{SlotTree, Own, Object, First, ClaimId, ClaimField, Prev, IsFirst, Id, Index, Local, Through, Outer, ConstraintTree}
+use Rattle.pst_model.specs.ConstraintTree.{SlotTree, Own, Index, ConstraintTree}
 use Rattle.pst_model.specs.ActivityTree.{StepTree, Traverse, Sequence, Parallel, Schedule, Joined, Select, Repeat, If, Match, BranchTree, ArmTree, steps_of, branches_of, arms_of, step_of, guard_of, branch_step, spans_of, arm_step}
 use Rattle.pst_model.specs.ModelTree.{ModelTree, ActionTree, ContentTree, Atomic, Compound}
 use Rattle.pst_scen.specs.declared.tree.Fill.TheVariants as fill
@@ -28,16 +28,7 @@ in_turn c index = record c { indices = c.indices ++ index ∷ [] }
 abbrev pub slot_in : Context → SlotTree → Option ℤ
 slot_in c (Own field) = slice_get c.fields field
 slot_in c (Index level) = option_map pos (slice_get c.indices level)
-slot_in c (Object reference field) = None
-slot_in c (First reference) = None
-slot_in c (ClaimId claim) = None
-slot_in c (ClaimField claim field) = None
-slot_in c (Prev field) = None
-slot_in c IsFirst = None
-slot_in c Id = None
-slot_in c (Local local) = None
-slot_in c (Through handle slot) = None
-slot_in c (Outer slot) = None
+slot_in c _ = None
 
 abbrev pub value_in : Context → ConstraintTree → Option ℤ
 value_in c k = value k.expression (map (slot_in c) k.slots)

@@ -19,12 +19,13 @@ children_of nodes parent = map (λ e. e.0) (filter (λ e. is_parent parent e.1.p
 abbrev pub IsBranch : List Node → ℕ → ℕ → ℕ → Type 0
 IsBranch nodes parent index child = slice_get (children_of nodes parent) index ≡ Some child
 
--- The statement that the child of that place fills, where a node fills a statement. (The children of a repetition are its turns.)
+-- The statement that the child of that place fills, where a node fills a statement of its kind. (The children of a repetition
+-- are its turns.)
 abbrev pub step_below : Fill → StepTree → ℕ → Option StepTree
-step_below fill (Sequence steps) index = slice_get (steps_of steps) index
-step_below fill (Parallel steps) index = slice_get (steps_of steps) index
-step_below fill (Schedule steps) index = slice_get (steps_of steps) index
-step_below fill (Joined parallel join steps) index = slice_get (steps_of steps) index
+step_below fill.Sequence (Sequence steps) index = slice_get (steps_of steps) index
+step_below fill.Parallel (Parallel steps) index = slice_get (steps_of steps) index
+step_below fill.Schedule (Schedule steps) index = slice_get (steps_of steps) index
+step_below (fill.Joined _ _) (Joined parallel join steps) index = slice_get (steps_of steps) index
 step_below (fill.Select branch) (Select branches) index = option_map branch_step (slice_get (branches_of branches) branch)
 step_below (fill.If true) (If condition holds fails) index = Some holds
 step_below (fill.If false) (If condition holds fails) index = step_of fails

@@ -52,19 +52,19 @@ abbrev pub first_with_value : ℕ → ℤ → First → First
 first_with_value pool v first = if nat_eq first.pool pool then record first { values = more_values v first.values } else first
 
 -- the option of that number stands in the blank
-abbrev pub written : ModelTree → ℕ → Blank → Scenario → Scenario
-written m k (Instance act claim) s = record s { actions = alter (with_claim m claim k) act s.actions }
-written m k (OfFirst pool field) s = record s { firsts = map (first_with_value pool (option_value m s.actions (OfFirst pool field) k)) s.firsts }
-written m k (OfAct act field) s = record s { actions = alter (act_with_value (option_value m s.actions (OfAct act field) k)) act s.actions }
-written m k (OfOutput act reference field) s =
+abbrev pub with_option : ModelTree → ℕ → Blank → Scenario → Scenario
+with_option m k (Instance act claim) s = record s { actions = alter (with_claim m claim k) act s.actions }
+with_option m k (OfFirst pool field) s = record s { firsts = map (first_with_value pool (option_value m s.actions (OfFirst pool field) k)) s.firsts }
+with_option m k (OfAct act field) s = record s { actions = alter (act_with_value (option_value m s.actions (OfAct act field) k)) act s.actions }
+with_option m k (OfOutput act reference field) s =
     record s { actions = alter (with_output_value reference (option_value m s.actions (OfOutput act reference field) k)) act s.actions }
-written m k (OfClaim act claim field) s =
+with_option m k (OfClaim act claim field) s =
     record s { actions = alter (with_claim_value claim (option_value m s.actions (OfClaim act claim field) k)) act s.actions }
 
 abbrev pub read_blanks : ModelTree → ℕ → List Blank → Reader
 read_blanks m seed [] s place left = Reads s place left
 read_blanks m seed (blank ∷ more) s place left =
-    read_seeded seed (options m s.actions blank) (λ k read. read_blanks m seed more (written m k blank read)) s place left
+    read_seeded seed (options m s.actions blank) (λ k read. read_blanks m seed more (with_option m k blank read)) s place left
 
 abbrev pub empty_first : ℕ → First
 empty_first pool = record { pool = pool; values = [] }

@@ -17,4 +17,4 @@ mod Joining
 mod OneAnswer
 mod Pieces
 mod Numbered
-mod OwnTables
+pub mod OwnTables

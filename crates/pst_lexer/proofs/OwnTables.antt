@@ -11,7 +11,7 @@ use Rattle.pst_token.specs.declared.kind.Kind.TheVariants as kind
 use Rattle.pst_token.specs.declared.token.Token.{Token}
 use Rattle.pst_token.specs.Spelling.{spelling_of}
 use Rattle.pst_token.specs.Lexemes.{Lexeme, fixed, name, number, IsLexeme}
-use Rattle.pst_token.specs.Tokens.{place_after, lexemes_of, IsTokenOf, AreTokensOf, token_of, complete}
+use Rattle.pst_token.specs.Tokens.{place_after, lexemes_of, IsTokenOf, AreTokensOf, token_of, complete, AreTokens}
 use Rattle.pst_token.proofs.Readings.{one_reading}
 use Rattle.pst_token.proofs.Ordered.{are_lexemes}
 use Rattle.pst_lexer.specs.Numbering.{Numbers, Other, Known, New, AreNumbered, AreOwnTokens}
@@ -38,14 +38,14 @@ one_number (other ∷ names) text (suc i) zero different at_i at_j =
 one_number (other ∷ names) text (suc i) (suc j) different at_i at_j = ap suc (one_number names text i j different.1 at_i at_j)
 
 -- two tables have the same texts below a number
-abbrev Agree : List (List ℕ) → List (List ℕ) → ℕ → Type 0
+abbrev pub Agree : List (List ℕ) → List (List ℕ) → ℕ → Type 0
 Agree names others free = (k : ℕ) → k < free → slice_get names k ≡ slice_get others k
 
 -- what two tables with the same first texts make of the same lexemes
-record IsSame (names others : List (List ℕ)) (tokens more : List Token) (next after : ℕ) : Type 0 where
-  tokens_same : tokens ≡ more
-  next_same : next ≡ after
-  agree : Agree names others next
+pub record IsSame (names others : List (List ℕ)) (tokens more : List Token) (next after : ℕ) : Type 0 where
+  pub tokens_same : tokens ≡ more
+  pub next_same : next ≡ after
+  pub agree : Agree names others next
 
 -- one more text, under the same number
 agree_on : (names others : List (List ℕ)) (free : ℕ) (bytes : List ℕ) → Agree names others free → slice_get names free ≡ Some bytes → slice_get others free ≡ Some bytes → Agree names others (suc free)
@@ -128,7 +128,7 @@ without_end free [] last next other (middle, here, rest) = rest ∙ no_number fr
 without_end free (t ∷ tokens) last next other (middle, here, rest) = (middle, here, without_end middle tokens last next other rest)
 
 -- tables that agree up to their ends are the same
-same_tables : (names others : List (List ℕ)) → length names ≡ length others → Agree names others (length names) → names ≡ others
+pub same_tables : (names others : List (List ℕ)) → length names ≡ length others → Agree names others (length names) → names ≡ others
 same_tables [] [] long agree = refl
 same_tables [] (o ∷ others) long agree = absurd (cc)
 same_tables (n ∷ names) [] long agree = absurd (cc)
@@ -138,12 +138,19 @@ same_tables (n ∷ names) (o ∷ others) long agree =
     let tail = same_tables names others (cc) (λ k below. agree (suc k) (omega (arith, below))) in
     λ i. head i ∷ tail i
 
+-- one text has one list of tokens, in tables that agree on the names before it
+pub same_text : (file : ℕ) (text : List ℕ) (names others : List (List ℕ)) (free : ℕ) (tokens more : List Token) (next after : ℕ) → AreDifferent names → AreDifferent others → Agree names others free
+    → AreTokens file names text tokens → AreTokens file others text more → AreNumbered free tokens next → AreNumbered free more after → IsSame names others tokens more next after
+same_text file text names others free tokens more next after d e agree h k here there =
+    let (same, _, _) = one_reading text h.parts k.parts [] [] complete complete h.reading k.reading in
+    let last : Token = token_of kind.End 0 (pos 0) (place_after file text) in
+    let first : AreNumbered free h.before_end next = without_end free h.before_end last next (λ named. cc) (subst (λ ts. AreNumbered free ts next) h.all here) in
+    let second : AreNumbered free k.before_end after = without_end free k.before_end last after (λ named. cc) (subst (λ ts. AreNumbered free ts after) k.all there) in
+    let all = same_tokens names others (lexemes_of file h.parts) free h.before_end k.before_end next after d e agree
+    (are_lexemes file [] h.parts [] h.reading.front.stand) h.each (subst (λ parts. AreTokensOf others (lexemes_of file parts) k.before_end) (sym same) k.each) first second in
+    record { tokens_same = h.all ∙ ap (λ ts. ts ++ last ∷ []) all.tokens_same ∙ sym k.all; next_same = all.next_same; agree = all.agree }
+
 pub one_table : (file : ℕ) (text : List ℕ) (names others : List (List ℕ)) (tokens more : List Token) → AreOwnTokens file text names tokens → AreOwnTokens file text others more → (names ≡ others) × (tokens ≡ more)
 one_table file text names others tokens more h k =
-    let (same, _, _) = one_reading text h.are.parts k.are.parts [] [] complete complete h.are.reading k.are.reading in
-    let last : Token = token_of kind.End 0 (pos 0) (place_after file text) in
-    let first : AreNumbered 0 h.are.before_end (length names) = without_end 0 h.are.before_end last (length names) (λ named. cc) (subst (λ ts. AreNumbered 0 ts (length names)) h.are.all h.numbered) in
-    let second : AreNumbered 0 k.are.before_end (length others) = without_end 0 k.are.before_end last (length others) (λ named. cc) (subst (λ ts. AreNumbered 0 ts (length others)) k.are.all k.numbered) in
-    let all = same_tokens names others (lexemes_of file k.are.parts) 0 h.are.before_end k.are.before_end (length names) (length others) h.different k.different (λ n below. absurd (omega (arith, below)))
-    (are_lexemes file [] k.are.parts [] k.are.reading.front.stand) (subst (λ parts. AreTokensOf names (lexemes_of file parts) h.are.before_end) same h.are.each) k.are.each first second in
-    (same_tables names others all.next_same all.agree, h.are.all ∙ ap (λ ts. ts ++ last ∷ []) all.tokens_same ∙ sym k.are.all)
+    let all = same_text file text names others 0 tokens more (length names) (length others) h.different k.different (λ n below. absurd (omega (arith, below))) h.are k.are h.numbered k.numbered in
+    (same_tables names others all.next_same all.agree, all.tokens_same)

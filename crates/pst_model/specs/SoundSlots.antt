@@ -23,13 +23,7 @@ IsActionSlot objects action (Object reference field) = IsSomeAnd (slice_get acti
 IsActionSlot objects action (First reference) = IsSomeAnd (slice_get action.references reference) (λ r. IsOfKind objects State r.object)
 IsActionSlot objects action (ClaimId claim) = claim < length action.claims
 IsActionSlot objects action (ClaimField claim field) = IsSomeAnd (slice_get action.claims claim) (λ c. HasField objects c.object field)
-IsActionSlot objects action (Prev field) = ⊥
-IsActionSlot objects action IsFirst = ⊥
-IsActionSlot objects action Id = ⊥
-IsActionSlot objects action (Index level) = ⊥
-IsActionSlot objects action (Local local) = ⊥
-IsActionSlot objects action (Through handle slot) = ⊥
-IsActionSlot objects action (Outer slot) = ⊥
+IsActionSlot objects action _ = ⊥
 
 -- the action types of an action's handles
 abbrev pub handles_of : ContentTree → List ℕ
@@ -48,62 +42,25 @@ handle_type model handles handle = option_and_then (slice_get model.actions) (sl
 -- a slot of a constraint of an action: of the action itself, or of what a handle traverses, if it traverses one action in each fill
 abbrev pub IsConstraintSlot : ModelTree → ActionTree → SlotTree → Type 0
 IsConstraintSlot model action (Through handle slot) = IsSteady handle (activity_of action.content) × IsSomeAnd (handle_type model (handles_of action.content) handle) (λ traversed. IsActionSlot model.objects traversed slot)
-IsConstraintSlot model action (Own field) = IsActionSlot model.objects action (Own field)
-IsConstraintSlot model action (Object reference field) = IsActionSlot model.objects action (Object reference field)
-IsConstraintSlot model action (First reference) = IsActionSlot model.objects action (First reference)
-IsConstraintSlot model action (ClaimId claim) = IsActionSlot model.objects action (ClaimId claim)
-IsConstraintSlot model action (ClaimField claim field) = IsActionSlot model.objects action (ClaimField claim field)
-IsConstraintSlot model action (Prev field) = ⊥
-IsConstraintSlot model action IsFirst = ⊥
-IsConstraintSlot model action Id = ⊥
-IsConstraintSlot model action (Index level) = ⊥
-IsConstraintSlot model action (Local local) = ⊥
-IsConstraintSlot model action (Outer slot) = ⊥
+IsConstraintSlot model action slot = IsActionSlot model.objects action slot
 
 -- a slot of an inline constraint: an index, a slot of the action round it, or one of the traversed action
 abbrev pub IsInlineSlot : ModelTree → ActionTree → ActionTree → ℕ → SlotTree → Type 0
 IsInlineSlot model action traversed levels (Index level) = level < levels
 IsInlineSlot model action traversed levels (Outer slot) = IsConstraintSlot model action slot
-IsInlineSlot model action traversed levels (Through handle slot) = IsConstraintSlot model traversed (Through handle slot)
-IsInlineSlot model action traversed levels (Own field) = IsConstraintSlot model traversed (Own field)
-IsInlineSlot model action traversed levels (Object reference field) = IsConstraintSlot model traversed (Object reference field)
-IsInlineSlot model action traversed levels (First reference) = IsConstraintSlot model traversed (First reference)
-IsInlineSlot model action traversed levels (ClaimId claim) = IsConstraintSlot model traversed (ClaimId claim)
-IsInlineSlot model action traversed levels (ClaimField claim field) = IsConstraintSlot model traversed (ClaimField claim field)
-IsInlineSlot model action traversed levels (Prev field) = ⊥
-IsInlineSlot model action traversed levels IsFirst = ⊥
-IsInlineSlot model action traversed levels Id = ⊥
-IsInlineSlot model action traversed levels (Local local) = ⊥
+IsInlineSlot model action traversed levels slot = IsConstraintSlot model traversed slot
 
 -- a slot of a condition, guard, count or matched value of an activity: a field of its own action, or an index
 abbrev pub IsConditionSlot : ActionTree → ℕ → SlotTree → Type 0
 IsConditionSlot action levels (Own field) = field < length action.fields
 IsConditionSlot action levels (Index level) = level < levels
-IsConditionSlot action levels (Object reference field) = ⊥
-IsConditionSlot action levels (First reference) = ⊥
-IsConditionSlot action levels (ClaimId claim) = ⊥
-IsConditionSlot action levels (ClaimField claim field) = ⊥
-IsConditionSlot action levels (Prev field) = ⊥
-IsConditionSlot action levels IsFirst = ⊥
-IsConditionSlot action levels Id = ⊥
-IsConditionSlot action levels (Local local) = ⊥
-IsConditionSlot action levels (Through handle slot) = ⊥
-IsConditionSlot action levels (Outer slot) = ⊥
+IsConditionSlot action levels _ = ⊥
 
 -- a slot of an expression of a body: an index, a local, or a slot of the action
 abbrev pub IsBodySlot : List ObjectTree → ActionTree → ℕ → ℕ → SlotTree → Type 0
 IsBodySlot objects action locals levels (Index level) = level < levels
 IsBodySlot objects action locals levels (Local local) = local < locals
-IsBodySlot objects action locals levels (Own field) = IsActionSlot objects action (Own field)
-IsBodySlot objects action locals levels (Object reference field) = IsActionSlot objects action (Object reference field)
-IsBodySlot objects action locals levels (First reference) = IsActionSlot objects action (First reference)
-IsBodySlot objects action locals levels (ClaimId claim) = IsActionSlot objects action (ClaimId claim)
-IsBodySlot objects action locals levels (ClaimField claim field) = IsActionSlot objects action (ClaimField claim field)
-IsBodySlot objects action locals levels (Prev field) = ⊥
-IsBodySlot objects action locals levels IsFirst = ⊥
-IsBodySlot objects action locals levels Id = ⊥
-IsBodySlot objects action locals levels (Through handle slot) = ⊥
-IsBodySlot objects action locals levels (Outer slot) = ⊥
+IsBodySlot objects action locals levels slot = IsActionSlot objects action slot
 
 -- a slot of a constraint of an object: its field, in a state object what came before it, in a resource object its number
 abbrev pub IsObjectSlot : ObjectTree → SlotTree → Type 0
@@ -111,11 +68,4 @@ IsObjectSlot object (Own field) = field < length object.fields
 IsObjectSlot object (Prev field) = (object.kind ≡ State) × (field < length object.fields)
 IsObjectSlot object IsFirst = object.kind ≡ State
 IsObjectSlot object Id = object.kind ≡ Resource
-IsObjectSlot object (Object reference field) = ⊥
-IsObjectSlot object (First reference) = ⊥
-IsObjectSlot object (ClaimId claim) = ⊥
-IsObjectSlot object (ClaimField claim field) = ⊥
-IsObjectSlot object (Index level) = ⊥
-IsObjectSlot object (Local local) = ⊥
-IsObjectSlot object (Through handle slot) = ⊥
-IsObjectSlot object (Outer slot) = ⊥
+IsObjectSlot object _ = ⊥

@@ -262,3 +262,13 @@ fn domains(rt: HostRuntime) -> Result<(), Fail> {
     assert_eq!(rt; wide.at(u64::MAX - 1), MAX - 1);
     Ok(())
 }
+
+fn may_cross<T: Send + Sync>() {}
+
+#[test]
+fn expressions_and_domains_cross_threads() -> Result<(), Fail> {
+    may_cross::<Expr>();
+    may_cross::<Domain>();
+    may_cross::<Env>();
+    Ok(())
+}

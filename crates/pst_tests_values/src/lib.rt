@@ -1,4 +1,4 @@
-//! Tests of names, numbers, expressions, spans of expressions, random words, files and lanes.
+//! Tests of names, numbers, expressions, spans of expressions, random words, files, their faults, and lanes.
 #![tactic(auto)]
 
 #[cfg(test)]
@@ -6,7 +6,11 @@ mod arithmetic;
 #[cfg(test)]
 mod bounds;
 #[cfg(test)]
+mod broken;
+#[cfg(test)]
 mod expressions;
+#[cfg(test)]
+mod faults;
 #[cfg(test)]
 mod files;
 #[cfg(test)]

@@ -253,20 +253,16 @@ plain_other NoStep plain step is = absurd (none_some step is)
 plain_other (SomeStep other) plain step is = subst IsPlain (some_same other step is) plain
 
 plain_below : (fill : Fill) (above : StepTree) (index : ℕ) (step : StepTree) → IsPlain above → step_below fill above index ≡ Some step → IsPlain step
-plain_below _ (Traverse action handle inline) index step plain is = absurd (none_some step is)
-plain_below _ (Sequence steps) index step plain is = plain_in_row steps plain index step is
-plain_below _ (Parallel steps) index step plain is = plain_in_row steps plain index step is
-plain_below _ (Schedule steps) index step plain is = plain_in_row steps plain index step is
-plain_below _ (Joined parallel join steps) index step plain is = plain_in_row steps plain index step is
+plain_below fill.Sequence (Sequence steps) index step plain is = plain_in_row steps plain index step is
+plain_below fill.Parallel (Parallel steps) index step plain is = plain_in_row steps plain index step is
+plain_below fill.Schedule (Schedule steps) index step plain is = plain_in_row steps plain index step is
+plain_below (fill.Joined _ _) (Joined parallel join steps) index step plain is = plain_in_row steps plain index step is
 plain_below (fill.Select branch) (Select filling) index step plain is = plain_in_branches filling plain branch step is
-plain_below _ (Select filling) index step plain is = absurd (none_some step is)
-plain_below _ (Repeat count body) index step plain is = absurd (none_some step is)
 plain_below (fill.If true) (If condition holds fails) index step plain is = subst IsPlain (some_same holds step is) plain.0
 plain_below (fill.If false) (If condition holds fails) index step plain is = plain_other fails plain.1 step is
-plain_below _ (If condition holds fails) index step plain is = absurd (none_some step is)
 plain_below (fill.Match (Some arm)) (Match matched arms other) index step plain is = plain_in_arms arms plain.0 arm step is
 plain_below (fill.Match None) (Match matched arms other) index step plain is = plain_other other plain.1 step is
-plain_below _ (Match matched arms other) index step plain is = absurd (none_some step is)
+plain_below _ _ index step plain is = absurd (none_some step is)
 
 abbrev pub IsPlainContent : ContentTree → Type 0
 IsPlainContent (Atomic body) = Unit {0}
@@ -437,8 +433,17 @@ pub record StandsAtTop (m : ModelTree) (nodes : List Node) (top n : ℕ) (step :
   pub traverse : is_traverse step ≡ true
   pub no_turns : indices ≡ []
 
+-- no node fills a part of a traversal
+none_below : (fill : Fill) (action : ℕ) (handle : Option ℕ) (inline : List ConstraintTree) (index : ℕ) → step_below fill (Traverse action handle inline) index ≡ None
+none_below fill.Sequence action handle inline index = refl
+none_below (fill.If true) action handle inline index = refl
+none_below (fill.If false) action handle inline index = refl
+none_below (fill.Match (Some arm)) action handle inline index = refl
+none_below (fill.Match None) action handle inline index = refl
+none_below _ action handle inline index = refl
+
 below_traverse : (fill : Fill) (above : StepTree) (index : ℕ) (step : StepTree) → is_traverse above ≡ true → step_below fill above index ≡ Some step → ⊥
-below_traverse _ (Traverse action handle inline) index step is some = none_some step some
+below_traverse fill (Traverse action handle inline) index step is some = none_some step (sym (none_below fill action handle inline index) ∙ some)
 below_traverse _ (Sequence steps) index step is some = false_true is
 below_traverse _ (Parallel steps) index step is some = false_true is
 below_traverse _ (Schedule steps) index step is some = false_true is

@@ -1,0 +1,11 @@
+mod Lists
+mod Owned
+mod Parts
+mod Stood
+mod Compounds
+mod Statements
+mod Handles
+mod Sounds
+mod Whole
+mod Placed
+mod Both

@@ -1,0 +1,15 @@
+//! Laws of slots.
+ghost use Rattle.pst_slots.specs.Laws.{SlotsAreSettled, SlotsArePlaced};
+
+/// In a scenario of a sound model that fits and whose needs have their sources, each slot of each
+/// constraint has a value, or stands for nothing that ever has one: none is open, and none isn't read.
+pub fn slots_are_settled()
+    ensures { SlotsAreSettled }
+{}
+
+/// In a scenario of a sound model of which the activity and the sources are read, each slot of each
+/// constraint has a value, stands for nothing that ever has one, or is an open value whose place is
+/// known: none isn't read.
+pub fn slots_are_placed()
+    ensures { SlotsArePlaced }
+{}

@@ -1,0 +1,5 @@
+pub mod Children
+mod Found
+pub mod Kept
+mod Listed
+mod Whole
