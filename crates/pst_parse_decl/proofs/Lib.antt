@@ -1,4 +1,3 @@
-pub mod Boxing
 pub mod Taken
 pub mod Behind
 pub mod ObjectsExplain
@@ -14,3 +13,7 @@ pub mod Contents
 pub mod Unique
 pub mod InnerParts
 pub mod Items
+pub mod Made
+pub mod ActionChoices
+pub mod ComponentChoices
+pub mod ItemChoices

@@ -16,6 +16,7 @@ use crate::boxes::boxed_part;
 use crate::inner::{activity, body};
 use crate::objects::constraint_declaration;
 use pst_ast::{ActionNode, ActionPart, BaseNode, SyntaxFault};
+use pst_parse_member::keeping::both;
 use pst_parse_member::members::{claim, field, members, reference};
 use pst_parse_part::marks::maybe_mark;
 use pst_parse_part::names::type_name;
@@ -144,8 +145,9 @@ pub fn action(
     let name = expect_name(tokens, after_abstract + 1, IN_ACTION, 0)?;
     let (base, after_base) = maybe_base(tokens, after_abstract + 2, IN_ACTION)?;
     let left_brace = expect(tokens, after_base, Kind::LeftBrace, IN_ACTION, 0)?;
-    let (parts, after_parts) = action_parts(alloc, tokens, after_base + 1)?;
-    let right_brace = expect(tokens, after_parts, Kind::RightBrace, IN_ACTION, 0)?;
+    let (listed, after_parts) = action_parts(alloc, tokens, after_base + 1)?;
+    let closing = expect(tokens, after_parts, Kind::RightBrace, IN_ACTION, 0);
+    let (parts, right_brace) = both(listed, closing)?;
     let whole = ActionNode {
         abstract_,
         action,

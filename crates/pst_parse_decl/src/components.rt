@@ -17,6 +17,7 @@ use crate::boxes::boxed_part;
 use crate::objects::object;
 use pst_ast::{ComponentNode, ComponentPart, Item, SyntaxFault};
 use pst_parse_member::enums::{enum_, function};
+use pst_parse_member::keeping::both;
 use pst_parse_member::members::members;
 use pst_parse_member::pools::{pool, pool_bind};
 use pst_reading::{expect, expect_name, is, push};
@@ -116,8 +117,9 @@ fn component(
     let component = expect(tokens, at, Kind::Component, IN_COMPONENT, 0)?;
     let name = expect_name(tokens, at + 1, IN_COMPONENT, 0)?;
     let left_brace = expect(tokens, at + 2, Kind::LeftBrace, IN_COMPONENT, 0)?;
-    let (parts, after_parts) = component_parts(alloc, tokens, at + 3)?;
-    let right_brace = expect(tokens, after_parts, Kind::RightBrace, IN_COMPONENT, 0)?;
+    let (listed, after_parts) = component_parts(alloc, tokens, at + 3)?;
+    let closing = expect(tokens, after_parts, Kind::RightBrace, IN_COMPONENT, 0);
+    let (parts, right_brace) = both(listed, closing)?;
     let whole = ComponentNode {
         component,
         name,

@@ -18,6 +18,7 @@ use pst_ast::{
 };
 use pst_base::Place;
 use pst_parse_expr::constraint::{items, set};
+use pst_parse_member::keeping::both;
 use pst_parse_member::members::field;
 use pst_reading::{expect, expect_name, is, is_name, push};
 use pst_token::{Kind, Token};
@@ -45,8 +46,9 @@ fn named_constraint(
 {
     let name = expect_name(tokens, at, depth + 1, 0)?;
     let left_brace = expect(tokens, at + 1, Kind::LeftBrace, depth, 0)?;
-    let (items, after_items) = items(alloc, tokens, at + 2, depth + 1)?;
-    let right_brace = expect(tokens, after_items, Kind::RightBrace, depth, 0)?;
+    let (listed, after_items) = items(alloc, tokens, at + 2, depth + 1)?;
+    let closing = expect(tokens, after_items, Kind::RightBrace, depth, 0);
+    let (items, right_brace) = both(listed, closing)?;
     let content = ConstraintContent::Named {
         name,
         left_brace,
@@ -183,8 +185,9 @@ pub fn object(
     let ((word, place), after_word) = object_word(tokens, at, depth)?;
     let name = expect_name(tokens, after_word, depth, 0)?;
     let left_brace = expect(tokens, after_word + 1, Kind::LeftBrace, depth, 0)?;
-    let (parts, after_parts) = object_parts(alloc, tokens, after_word + 2, depth)?;
-    let right_brace = expect(tokens, after_parts, Kind::RightBrace, depth, 0)?;
+    let (listed, after_parts) = object_parts(alloc, tokens, after_word + 2, depth)?;
+    let closing = expect(tokens, after_parts, Kind::RightBrace, depth, 0);
+    let (parts, right_brace) = both(listed, closing)?;
     let whole = ObjectNode {
         word,
         place,

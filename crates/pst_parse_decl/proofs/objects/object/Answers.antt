@@ -1,3 +1,5 @@
+use Rattle.pst_reading.specs.Parser.{mark_by}
+use Rattle.pst_parse_member.proofs.Kept.{token_fault, token_read}
 use Rattle.pst_ast.specs.DeclarationView.{view_object_part}
 use Rattle.pst_ast.specs.Limits.{counted}
 use Rattle.pst_parse_decl.proofs.objects.object.Goals as goal
@@ -27,28 +29,29 @@ returns-in_err-left_brace c =
     let r2 = name_step (object_family c.args.depth) c.args.tokens.now c.args.at c.args.at (counted c.args.depth 0) _ c.in_ok-word.after_word (c.in_ok-word.after_word + 1) c.in_ok-name.name (omega arith) c.in_ok-name.ensures.reads.0 r1 in
     rw (p.1, p.2) (mark_fails (object_family c.args.depth) c.args.tokens.now c.args.at c.args.at kind.LeftBrace (counted c.args.depth 0) _ (c.in_ok-word.after_word + 1) c.in_err-left_brace.field-0.0 (omega (arith, c.in_ok-name.ensures.reads.1)) c.in_err-left_brace.ensures.reads r2)
 
+pub returns-in_err-listed : goal.returns-in_err-listed
+returns-in_err-listed c =
+    let p = err_from_is_err_and c.from_residual-in_err-listed.result c.from_residual-in_err-listed.ensures.1 in
+    let r1 = step (object_family c.args.depth) c.args.tokens.now c.args.at c.args.at (object_word_family c.args.depth) _ c.args.at c.args.at c.in_ok-word.after_word (c.in_ok-word.word, c.in_ok-word.place) (omega arith) (omega (arith, c.in_ok-word.ensures.after)) c.in_ok-word.ensures.settles (begin (object_family c.args.depth) c.args.tokens.now c.args.at c.args.at) in
+    let r2 = name_step (object_family c.args.depth) c.args.tokens.now c.args.at c.args.at (counted c.args.depth 0) _ c.in_ok-word.after_word (c.in_ok-word.after_word + 1) c.in_ok-name.name (omega arith) c.in_ok-name.ensures.reads.0 r1 in
+    let r3 = mark_step (object_family c.args.depth) c.args.tokens.now c.args.at c.args.at kind.LeftBrace (counted c.args.depth 0) _ (c.in_ok-word.after_word + 1) (c.in_ok-word.after_word + 2) c.in_ok-left_brace.left_brace (omega arith) c.in_ok-left_brace.ensures.reads.0 r2 in
+    rw (p.1, p.2) (fails (object_family c.args.depth) c.args.tokens.now c.args.at c.args.at (listed (is_other kind.RightBrace) (object_part_family c.args.depth)) _ (c.in_ok-word.after_word + 2 - 1) (c.in_ok-word.after_word + 2) c.in_err-listed.field-0.0 (omega (arith, c.in_ok-word.ensures.after)) c.in_err-listed.ensures r3)
+
 pub returns-in_err-parts : goal.returns-in_err-parts
 returns-in_err-parts c =
     let p = err_from_is_err_and c.from_residual-in_err-parts.result c.from_residual-in_err-parts.ensures.1 in
     let r1 = step (object_family c.args.depth) c.args.tokens.now c.args.at c.args.at (object_word_family c.args.depth) _ c.args.at c.args.at c.in_ok-word.after_word (c.in_ok-word.word, c.in_ok-word.place) (omega arith) (omega (arith, c.in_ok-word.ensures.after)) c.in_ok-word.ensures.settles (begin (object_family c.args.depth) c.args.tokens.now c.args.at c.args.at) in
     let r2 = name_step (object_family c.args.depth) c.args.tokens.now c.args.at c.args.at (counted c.args.depth 0) _ c.in_ok-word.after_word (c.in_ok-word.after_word + 1) c.in_ok-name.name (omega arith) c.in_ok-name.ensures.reads.0 r1 in
     let r3 = mark_step (object_family c.args.depth) c.args.tokens.now c.args.at c.args.at kind.LeftBrace (counted c.args.depth 0) _ (c.in_ok-word.after_word + 1) (c.in_ok-word.after_word + 2) c.in_ok-left_brace.left_brace (omega arith) c.in_ok-left_brace.ensures.reads.0 r2 in
-    rw (p.1, p.2) (fails (object_family c.args.depth) c.args.tokens.now c.args.at c.args.at (listed (is_other kind.RightBrace) (object_part_family c.args.depth)) _ (c.in_ok-word.after_word + 2 - 1) (c.in_ok-word.after_word + 2) c.in_err-parts.field-0.0 (omega (arith, c.in_ok-word.ensures.after)) c.in_err-parts.ensures r3)
-
-pub returns-in_err-right_brace : goal.returns-in_err-right_brace
-returns-in_err-right_brace c =
-    let p = err_from_is_err_and c.from_residual-in_err-right_brace.result c.from_residual-in_err-right_brace.ensures.1 in
-    let r1 = step (object_family c.args.depth) c.args.tokens.now c.args.at c.args.at (object_word_family c.args.depth) _ c.args.at c.args.at c.in_ok-word.after_word (c.in_ok-word.word, c.in_ok-word.place) (omega arith) (omega (arith, c.in_ok-word.ensures.after)) c.in_ok-word.ensures.settles (begin (object_family c.args.depth) c.args.tokens.now c.args.at c.args.at) in
-    let r2 = name_step (object_family c.args.depth) c.args.tokens.now c.args.at c.args.at (counted c.args.depth 0) _ c.in_ok-word.after_word (c.in_ok-word.after_word + 1) c.in_ok-name.name (omega arith) c.in_ok-name.ensures.reads.0 r1 in
-    let r3 = mark_step (object_family c.args.depth) c.args.tokens.now c.args.at c.args.at kind.LeftBrace (counted c.args.depth 0) _ (c.in_ok-word.after_word + 1) (c.in_ok-word.after_word + 2) c.in_ok-left_brace.left_brace (omega arith) c.in_ok-left_brace.ensures.reads.0 r2 in
-    let r4 = step (object_family c.args.depth) c.args.tokens.now c.args.at c.args.at (listed (is_other kind.RightBrace) (object_part_family c.args.depth)) _ (c.in_ok-word.after_word + 2 - 1) (c.in_ok-word.after_word + 2) c.in_ok-parts.after_parts (map view_object_part c.in_ok-parts.parts.items) (omega (arith, c.in_ok-word.ensures.after)) (omega (arith, c.in_ok-parts.ensures.after)) c.in_ok-parts.ensures.settles r3 in
-    rw (p.1, p.2) (mark_fails (object_family c.args.depth) c.args.tokens.now c.args.at c.args.at kind.RightBrace (counted c.args.depth 0) _ c.in_ok-parts.after_parts c.in_err-right_brace.field-0.0 c.in_ok-parts.ensures.inside c.in_err-right_brace.ensures.reads r4)
+    let r4 = step (object_family c.args.depth) c.args.tokens.now c.args.at c.args.at (listed (is_other kind.RightBrace) (object_part_family c.args.depth)) _ (c.in_ok-word.after_word + 2 - 1) (c.in_ok-word.after_word + 2) c.in_ok-listed.after_parts (map view_object_part c.in_ok-listed.listed.items) (omega (arith, c.in_ok-word.ensures.after)) (omega (arith, c.in_ok-listed.ensures.after)) c.in_ok-listed.ensures.settles r3 in
+    rw (p.1, p.2) (mark_fails (object_family c.args.depth) c.args.tokens.now c.args.at c.args.at kind.RightBrace (counted c.args.depth 0) _ c.in_ok-listed.after_parts c.in_err-parts.field-0.0 c.in_ok-listed.ensures.inside (token_fault (mark_by kind.RightBrace (counted c.args.depth 0)) c.args.tokens.now c.in_ok-listed.after_parts _ _ c.in_err-parts.ensures.err c.expect-closing.ensures.reads) r4)
 
 pub returns : goal.returns
 returns c =
+    let closing = token_read (mark_by kind.RightBrace (counted c.args.depth 0)) c.args.tokens.now c.in_ok-listed.after_parts _ _ c.in_ok-parts.ensures.ok.1 c.expect-closing.ensures.reads in
     let r1 = step (object_family c.args.depth) c.args.tokens.now c.args.at c.args.at (object_word_family c.args.depth) _ c.args.at c.args.at c.in_ok-word.after_word (c.in_ok-word.word, c.in_ok-word.place) (omega arith) (omega (arith, c.in_ok-word.ensures.after)) c.in_ok-word.ensures.settles (begin (object_family c.args.depth) c.args.tokens.now c.args.at c.args.at) in
     let r2 = name_step (object_family c.args.depth) c.args.tokens.now c.args.at c.args.at (counted c.args.depth 0) _ c.in_ok-word.after_word (c.in_ok-word.after_word + 1) c.in_ok-name.name (omega arith) c.in_ok-name.ensures.reads.0 r1 in
     let r3 = mark_step (object_family c.args.depth) c.args.tokens.now c.args.at c.args.at kind.LeftBrace (counted c.args.depth 0) _ (c.in_ok-word.after_word + 1) (c.in_ok-word.after_word + 2) c.in_ok-left_brace.left_brace (omega arith) c.in_ok-left_brace.ensures.reads.0 r2 in
-    let r4 = step (object_family c.args.depth) c.args.tokens.now c.args.at c.args.at (listed (is_other kind.RightBrace) (object_part_family c.args.depth)) _ (c.in_ok-word.after_word + 2 - 1) (c.in_ok-word.after_word + 2) c.in_ok-parts.after_parts (map view_object_part c.in_ok-parts.parts.items) (omega (arith, c.in_ok-word.ensures.after)) (omega (arith, c.in_ok-parts.ensures.after)) c.in_ok-parts.ensures.settles r3 in
-    let r5 = mark_step (object_family c.args.depth) c.args.tokens.now c.args.at c.args.at kind.RightBrace (counted c.args.depth 0) _ c.in_ok-parts.after_parts (c.in_ok-parts.after_parts + 1) c.in_ok-right_brace.right_brace (omega arith) c.in_ok-right_brace.ensures.reads.0 r4 in
-    record { settles = ends (object_family c.args.depth) c.args.tokens.now c.args.at c.args.at _ (c.in_ok-parts.after_parts + 1) r5; after = omega (arith, c.in_ok-word.ensures.after, c.in_ok-parts.ensures.after); inside = (omega (arith, c.in_ok-right_brace.ensures.reads.1)) }
+    let r4 = step (object_family c.args.depth) c.args.tokens.now c.args.at c.args.at (listed (is_other kind.RightBrace) (object_part_family c.args.depth)) _ (c.in_ok-word.after_word + 2 - 1) (c.in_ok-word.after_word + 2) c.in_ok-listed.after_parts (map view_object_part c.in_ok-listed.listed.items) (omega (arith, c.in_ok-word.ensures.after)) (omega (arith, c.in_ok-listed.ensures.after)) c.in_ok-listed.ensures.settles r3 in
+    let r5 = mark_step (object_family c.args.depth) c.args.tokens.now c.args.at c.args.at kind.RightBrace (counted c.args.depth 0) _ c.in_ok-listed.after_parts (c.in_ok-listed.after_parts + 1) c.in_ok-parts.right_brace (omega arith) closing.0 r4 in
+    record { settles = rw c.in_ok-parts.ensures.ok.0 (ends (object_family c.args.depth) c.args.tokens.now c.args.at c.args.at _ (c.in_ok-listed.after_parts + 1) r5); after = omega (arith, c.in_ok-word.ensures.after, c.in_ok-listed.ensures.after); inside = (omega (arith, closing.1)) }

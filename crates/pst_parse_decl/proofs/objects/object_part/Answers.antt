@@ -1,6 +1,6 @@
 use Rattle.pst_ast.specs.ConstraintView.{view_constraint_declaration}
 use Rattle.pst_ast.specs.DeclarationView.{view_field}
-use Rattle.pst_parse_decl.proofs.Boxing.{boxed_fault}
+use Rattle.pst_parse_statement.proofs.Kept.{boxed_fault}
 use Rattle.pst_parse_decl.proofs.objects.object_part.Goals as goal
 use Rattle.pst_parse_decl.specs.Families.{constraint_declaration_family, object_part_family}
 use Rattle.pst_parse_member.specs.Families.{field_family}
