@@ -11,8 +11,8 @@ use Rattle.pst_scen.specs.Flows.{IsAct, Claims, Refers}
 use Rattle.pst_scen.specs.Rows.{Has}
 use Rattle.pst_scen.specs.Conflicts.{Clash, Resource, FirstWrites, SecondWrites, Uses, Conflict}
 use Rattle.pst_graph.specs.declared.uses.Use.{Use}
-use Rattle.pst_square.specs.Squares.{IsBlank, Adds, IsOneOf, IsCopied}
-use Rattle.pst_graph.specs.Uses.{IsUseOfClaims, IsUseOfReferences, IsUse, Listed, AreUses, AreExclusive, AreApart, IsApartFrom, IsApartFromAny, IsApartAt, AreApartIn, IsKindAt, IsExcluded, IsExcludedAt, IsExcludedBy, IsOfKind, IsOfKinds}
+use Rattle.pst_square.specs.Squares.{IsBlank, Adds, IsOneOf}
+use Rattle.pst_graph.specs.Uses.{IsUseOfClaims, IsUseOfReferences, IsUse, Listed, AreUses, AreExclusive, AreApart, IsApartFrom, IsApartFromAny, IsApartAt, AreApartIn}
 use Rattle.pst_square.proofs.Adding.{adds_as, family_more}
 use Rattle.pst_nodes.proofs.Climbs.{same_some}
 
@@ -177,93 +177,6 @@ all_conflicts s uses blank_rows rows are is added a b a_in b_in =
       λ has. ⊎_elim (λ before. absurd (is.none a b before)) (λ h. apart_conflict s uses (length s.actions) a b are h) (one.0 has),
       λ conflict. one.1 (inr (conflict_apart s uses (length s.actions) are a b a_in b_in conflict)),
     )
-
--- ---- what a kind excludes
-
-pub excluded_more : (first middle last : Rows) (kind : Use) (uses : List Use) (k i : ℕ) (v : Use) → slice_get uses i ≡ Some v → Adds first middle (IsOneOf (IsExcludedAt kind uses k) i) → Adds middle last (IsExcluded kind v k) → Adds first last (IsOneOf (IsExcludedAt kind uses k) (i + 1))
-excluded_more first middle last kind uses k i v is one two =
-    family_more (IsExcludedAt kind uses k) first middle last i one
-    (adds_as middle last (IsExcluded kind v k) (IsExcludedAt kind uses k i) two
-    (λ c d c_in d_in h. record { other = v; is = is; excluded = h })
-    (λ c d c_in d_in h. subst (λ (w : Use). IsExcluded kind w k c d) (same_some h.other v (sym h.is ∙ is)) h.excluded))
-
-pub excluded_all : (first last : Rows) (kind : Use) (uses : List Use) (k n : ℕ) → length uses ≤ n → Adds first last (IsOneOf (IsExcludedAt kind uses k) n) → Adds first last (IsExcludedBy kind uses k)
-excluded_all first last kind uses k n all added =
-    adds_as first last (IsOneOf (IsExcludedAt kind uses k) n) (IsExcludedBy kind uses k) added
-    (λ c d c_in d_in h. record { place = h.index; at = h.has })
-    (λ c d c_in d_in h. let within = slice_get_within uses h.place h.at.other h.at.is in record { index = h.place; below = omega (arith, within, all); has = h.at })
-
-pub kinds_more : (first middle last : Rows) (kinds uses : List Use) (k : ℕ) (kind : Use) → slice_get kinds k ≡ Some kind → Adds first middle (IsOneOf (IsOfKind kinds uses) k) → Adds middle last (IsExcludedBy kind uses k) → Adds first last (IsOneOf (IsOfKind kinds uses) (k + 1))
-kinds_more first middle last kinds uses k kind is one two =
-    family_more (IsOfKind kinds uses) first middle last k one
-    (adds_as middle last (IsExcludedBy kind uses k) (IsOfKind kinds uses k) two
-    (λ c d c_in d_in h. record { kind = kind; is = is; excluded = h })
-    (λ c d c_in d_in h. subst (λ (w : Use). IsExcludedBy w uses k c d) (same_some h.kind kind (sym h.is ∙ is)) h.excluded))
-
-pub kinds_all : (first last : Rows) (kinds uses : List Use) (n : ℕ) → length kinds ≤ n → Adds first last (IsOneOf (IsOfKind kinds uses) n) → Adds first last (IsOfKinds kinds uses)
-kinds_all first last kinds uses n all added =
-    adds_as first last (IsOneOf (IsOfKind kinds uses) n) (IsOfKinds kinds uses) added
-    (λ c d c_in d_in h. subst (λ (k : ℕ). IsOfKind kinds uses k c d) (sym h.has.excluded.at.excluded.first) h.has)
-    (λ c d c_in d_in h. let within = slice_get_within kinds c h.kind h.is in record { index = c; below = omega (arith, within, all); has = h })
-
--- The row of a use's kind has the actions with uses that the use excludes.
-pub copied_apart : (first last blank_rows sets : Rows) (kinds uses : List Use) (u : Use) (k n : ℕ) → first.size ≡ n → k < n → IsBlank blank_rows n → Adds blank_rows sets (IsOfKinds kinds uses) → IsKindAt kinds u k → Adds first last (IsCopied sets u.act k) → Adds first last (IsApartFromAny u uses)
-copied_apart first last blank_rows sets kinds uses u k n size k_in is filled at added =
-    adds_as first last (IsCopied sets u.act k) (IsApartFromAny u uses) added (λ c d c_in d_in h. to c d d_in h) (λ c d c_in d_in h. from c d d_in h)
-  where
-    both : (d : ℕ) → d < first.size → Has sets k d ↔ IsOfKinds kinds uses k d
-    both d d_in =
-        let one = filled.has k d (subst (λ (m : ℕ). k < m) (sym is.sized) k_in) (subst (λ (m : ℕ). d < m) (size ∙ sym is.sized) d_in) in
-        (λ has. ⊎_elim (λ before. absurd (is.none k d before)) (λ h. h) (one.0 has), λ h. one.1 (inr h))
-
-    to : (c d : ℕ) → d < first.size → IsCopied sets u.act k c d → IsApartFromAny u uses c d
-    to c d d_in h =
-        let of = (both d d_in).0 h.has in
-        let e = of.excluded.at.excluded.exclusive in
-        let kind : of.kind ≡ at.kind = same_some of.kind at.kind (sym of.is ∙ at.is) in
-        let exclusive : AreExclusive at.kind of.excluded.at.other = subst (λ (w : Use). AreExclusive w of.excluded.at.other) kind e in
-        let same = at.same in
-        let c_is = h.first in
-        let other = h.different in
-        record {
-          place = of.excluded.place;
-          at = record {
-            other = of.excluded.at.other;
-            is = of.excluded.at.is;
-            apart = record {
-              first = c_is;
-              second = of.excluded.at.excluded.second;
-              different = λ same_act. other (sym same_act ∙ c_is);
-              exclusive = record { state = same.state ∙ exclusive.state; pool = same.pool ∙ exclusive.pool; instance = same.instance ∙ exclusive.instance; alone = ⊎_elim (λ own. inl (same.alone ∙ own)) (λ others. inr others) exclusive.alone };
-            };
-          };
-        }
-
-    from : (c d : ℕ) → d < first.size → IsApartFromAny u uses c d → IsCopied sets u.act k c d
-    from c d d_in h =
-        let apart = h.at.apart in
-        let e = apart.exclusive in
-        let same = at.same in
-        record {
-          first = apart.first;
-          different = λ same_act. apart.different (apart.first ∙ sym same_act);
-          has = (both d d_in).1 (record {
-            kind = at.kind;
-            is = at.is;
-            excluded = record {
-              place = h.place;
-              at = record {
-                other = h.at.other;
-                is = h.at.is;
-                excluded = record {
-                  first = refl;
-                  second = apart.second;
-                  exclusive = record { state = sym same.state ∙ e.state; pool = sym same.pool ∙ e.pool; instance = sym same.instance ∙ e.instance; alone = ⊎_elim (λ own. inl (sym same.alone ∙ own)) (λ others. inr others) e.alone };
-                };
-              };
-            };
-          });
-        }
 
 pub apart_at : (first last : Rows) (uses : List Use) (i : ℕ) (u : Use) → slice_get uses i ≡ Some u → Adds first last (IsApartFromAny u uses) → Adds first last (IsApartAt uses i)
 apart_at first last uses i u is added =

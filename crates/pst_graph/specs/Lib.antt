@@ -7,6 +7,5 @@ pub mod Ends
 pub mod Whole
 pub mod Streamed
 pub mod Uses
-pub mod Sets
 pub mod Ordered
 pub mod Runs

@@ -72,14 +72,3 @@ pub record IsOneOf (F : ℕ → ℕ → ℕ → Type 0) (to c d : ℕ) : Type 0 
   pub index : ℕ
   pub below : index < to
   pub has : F index c d
-
--- the pair is of that row and another number, which a row of the other square has
-pub record IsCopied (other : Rows) (a k c d : ℕ) : Type 0 where
-  pub first : c ≡ a
-  pub different : d ≢ a
-  pub has : Has other k d
-
--- the same in one word
-pub record IsCopiedAt (other : Rows) (a k w c d : ℕ) : Type 0 where
-  pub copied : IsCopied other a k c d
-  pub word : d / 64 ≡ w

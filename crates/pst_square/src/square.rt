@@ -2,7 +2,7 @@
 ghost use Rattle.std.specs.Prelude.{◌≡◌, ◌≢◌, ◌↔◌, ◌⊎◌, ◌≤◌, ◌<◌, ◌+◌, ◌*◌, ◌/◌, ◌^◌, ℕ, length, get_or, IsTrue, IsBitSet, IfOk};
 ghost use Rattle.pst_scen.specs.Rows.{row_words, IsSquare, Has};
 ghost use Rattle.pst_square.specs.Marks.{IsWithMarked, IsWithMarkedAt};
-ghost use Rattle.pst_square.specs.Squares.{IsBlank, Adds, IsPair, IsMasked, IsWithin, IsInRange, IsInPart, IsFilled, IsCopied, IsCopiedAt};
+ghost use Rattle.pst_square.specs.Squares.{IsBlank, Adds, IsPair, IsMasked, IsWithin, IsInRange, IsInPart, IsFilled};
 
 use crate::walk::without;
 use pst_base::{Items, NoMemory};
@@ -186,47 +186,12 @@ impl Square {
         self.add_part(a, from, to, last.max(first + 1), (to as usize + 63) / 64);
     }
 
-    /// The word `w` of the row of `a`.
-    fn word(&self, a: u32, w: usize) -> u64
-        requires a_in { a < self.now.size }
-        requires w_in { w < row_words self.now.size }
-        ensures { result ≡ get_or self.now.words (a * row_words self.now.size + w) 0 }
-    {
-        self.words[self.place(a, w)]
-    }
-
     /// The number of words of a row.
     fn row_len(&self) -> usize
         ensures is { result ≡ row_words self.now.size }
         ensures small { result < 2 ^ 32 }
     {
         words_in(self.size)
-    }
-
-    /// Adds, in one word, the pairs of `a` with the other numbers that the row of `k` in the other
-    /// square has.
-    fn add_copied_word(&mut self, a: u32, other: &Square, k: u32, w: usize)
-        requires a_in { a < self.old.size }
-        requires same { other.now.size ≡ self.old.size }
-        requires k_in { k < self.old.size }
-        requires w_in { w < row_words self.old.size }
-        requires small { w < 2 ^ 32 }
-        ensures { Adds self.old self.new (IsCopiedAt other.now a k w) }
-    {
-        let mask = word_without(other.word(k, w), w, a as usize);
-        self.add_word(a, w, mask);
-    }
-
-    /// Adds the pairs of `a` with the other numbers that the row of `k` in the other square has.
-    pub fn add_row(&mut self, a: u32, other: &Square, k: u32)
-        requires a_in { a < self.old.size }
-        requires same { other.now.size ≡ self.old.size }
-        requires k_in { k < self.old.size }
-        ensures { Adds self.old self.new (IsCopied other.now a k) }
-    {
-        for w in 0..self.row_len() {
-            self.add_copied_word(a, other, k, w);
-        }
     }
 
     /// Adds, in one word, the pairs of `a` with the other numbers of the set.
