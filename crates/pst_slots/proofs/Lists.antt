@@ -6,22 +6,22 @@ use Rattle.std.proofs.lemmas.Option.{none-some}
 use Rattle.pst_expr.specs.declared.ranges.Span.{Span}
 use Rattle.pst_legal.specs.Blanks.{Blank}
 use Rattle.pst_legal.specs.Standing.{Standing, value_or, open_value, unread}
-use Rattle.pst_slots.specs.Settled.{IsSettled}
+use Rattle.pst_slots.specs.Decided.{IsDecided}
 
--- a value that has been read, or what is settled where none has
-pub settled_or : (o : Option ℤ) (other : Standing) → (o ≡ None → IsSettled other) → IsSettled (value_or o other)
-settled_or None other go = go refl
-settled_or (Some v) other go = tt
+-- a value that has been read, or what is decided where none has
+pub decided_or : (o : Option ℤ) (other : Standing) → (o ≡ None → IsDecided other) → IsDecided (value_or o other)
+decided_or None other go = go refl
+decided_or (Some v) other go = tt
 
-pub nothing_open : (blank : Blank) (span : Option Span) → span ≡ None → IsSettled (open_value blank span)
+pub nothing_open : (blank : Blank) (span : Option Span) → span ≡ None → IsDecided (open_value blank span)
 nothing_open blank None e = tt
 nothing_open blank (Some span) e = absurd (none-some span (sym e))
 
-pub nothing_unread : (span : Option Span) → span ≡ None → IsSettled (unread span)
+pub nothing_unread : (span : Option Span) → span ≡ None → IsDecided (unread span)
 nothing_unread None e = tt
 nothing_unread (Some span) e = absurd (none-some span (sym e))
 
-pub either : (b : Bool) (x y : Standing) → (b ≡ true → IsSettled x) → (b ≡ false → IsSettled y) → IsSettled (if b then x else y)
+pub either : (b : Bool) (x y : Standing) → (b ≡ true → IsDecided x) → (b ≡ false → IsDecided y) → IsDecided (if b then x else y)
 either true x y one other = one refl
 either false x y one other = other refl
 

@@ -1,4 +1,4 @@
--- What belongs to the atomic actions and the objects of a scenario that fits is settled.
+-- What belongs to the atomic actions and the objects of a scenario that fits is decided.
 use Rattle.std.proofs.Common.{◌≡◌, ◌⊎◌, ℕ, zero, suc, ◌+◌, ◌<◌, ℤ, pos, List, [], ◌∷◌, ◌++◌, map, length, get_or, Contains, Bool, true, false, nat_eq, if◌then◌else◌, Option, Some, None, refl, sym, ap, ◌∙◌, subst, arith, inl, inr, ⊎_elim}
 use Rattle.std.specs.Prelude.{slice_get}
 use Rattle.std.specs.Option.{option_map, option_and_then}
@@ -35,8 +35,8 @@ use Rattle.pst_legal.specs.Standing.{open_value, hull, field_span}
 use Rattle.pst_legal.specs.Slots.{pool_span, first_values, first_slot, written_slot, output_values, linked_slot, flow_slot, initial_by, initial_slot, claim_slot, claim_values, claim_field_slot, act_slot, output_slot, resource_slot, first_object_slot}
 use Rattle.pst_built.proofs.Parents.{get_more}
 use Rattle.pst_built.proofs.SoundActs.{served_pool}
-use Rattle.pst_slots.specs.Settled.{IsSettled}
-use Rattle.pst_slots.proofs.Lists.{settled_or, nothing_open, either, zip_past, as_long_past, as_long_at}
+use Rattle.pst_slots.specs.Decided.{IsDecided}
+use Rattle.pst_slots.proofs.Lists.{decided_or, nothing_open, either, zip_past, as_long_past, as_long_at}
 
 -- ---- fields of objects
 
@@ -178,9 +178,9 @@ module _ (m : ModelTree) (s : Scenario) (sound : IsSound m) (scenario : IsScenar
       let are : AreObjectValues (slice_get m.objects w.pool.object) filled.values = subst (λ k. AreObjectValues (slice_get m.objects k) filled.values) (sym w.object) (w.of.output output) in
       no_span (pool_field m filled.pool field) (by_pool m filled.pool w.pool field w.is_pool ∙ past_fields (slice_get m.objects w.pool.object) filled.values field are none)
 
-  written : (a r : ℕ) (filled : Filled) (field : ℕ) → reference_at s.actions a r ≡ Some filled → is_output filled.flow ≡ true → IsSettled (written_slot m a r filled field)
+  written : (a r : ℕ) (filled : Filled) (field : ℕ) → reference_at s.actions a r ≡ Some filled → is_output filled.flow ≡ true → IsDecided (written_slot m a r filled field)
   written a r filled field e output =
-      settled_or (slice_get filled.values field) (open_value (OfOutput a r field) (pool_span m filled.pool field))
+      decided_or (slice_get filled.values field) (open_value (OfOutput a r field) (pool_span m filled.pool field))
       (λ none. nothing_open (OfOutput a r field) (pool_span m filled.pool field) (written_past a r filled field e output none))
 
   -- ---- first objects
@@ -188,12 +188,12 @@ module _ (m : ModelTree) (s : Scenario) (sound : IsSound m) (scenario : IsScenar
   first_past : (pool field : ℕ) (values_of : List ℤ) → AreObjectValues (pool_object m pool) values_of → slice_get values_of field ≡ None → pool_span m pool field ≡ None
   first_past pool field values_of are none = no_span (pool_field m pool field) (by_object m (slice_get m.pools pool) field ∙ past_fields (pool_object m pool) values_of field are none)
 
-  pub first : (a pool field : ℕ) → Uses s a pool → IsSettled (first_slot m s pool field)
+  pub first : (a pool field : ℕ) → Uses s a pool → IsDecided (first_slot m s pool field)
   first a pool field uses =
       let f = first_found s.firsts pool ((scenario.firsts.used pool).1 (a, uses)) in
       let are : AreObjectValues (pool_object m pool) (first_values s.firsts pool) =
       subst (λ p. AreObjectValues (pool_object m p) (first_values s.firsts pool)) f.3 (subst (AreObjectValues (pool_object m f.1.pool)) (sym f.4) (values.firsts f.0 f.1 f.2)) in
-      settled_or (slice_get (first_values s.firsts pool) field) (open_value (OfFirst pool field) (pool_span m pool field))
+      decided_or (slice_get (first_values s.firsts pool) field) (open_value (OfFirst pool field) (pool_span m pool field))
       (λ none. nothing_open (OfFirst pool field) (pool_span m pool field) (first_past pool field (first_values s.firsts pool) are none))
 
   uses_it : (a r : ℕ) (filled : Filled) → reference_at s.actions a r ≡ Some filled → (filled.flow ≡ StateIn) ⊎ (filled.flow ≡ StateOut) → Uses s a filled.pool
@@ -207,18 +207,18 @@ module _ (m : ModelTree) (s : Scenario) (sound : IsSound m) (scenario : IsScenar
 
   -- ---- links
 
-  by_link : (a r : ℕ) (filled : Filled) (to : Link) (field : ℕ) → reference_at s.actions a r ≡ Some filled → filled.link ≡ to → WantsObject filled.flow → IsSettled (linked_slot m s filled.pool to field)
+  by_link : (a r : ℕ) (filled : Filled) (to : Link) (field : ℕ) → reference_at s.actions a r ≡ Some filled → filled.link ≡ to → WantsObject filled.flow → IsDecided (linked_slot m s filled.pool to field)
   by_link a r filled link.Nothing field e is wants = absurd (no_link filled.flow wants (subst (IsLinkOf filled.flow) is (scenario.links a r filled e).kind))
   by_link a r filled link.Initial field e is wants = first a filled.pool field (uses_it a r filled e (of_state filled.flow (subst (IsLinkOf filled.flow) is (scenario.links a r filled e).kind)))
   by_link a r filled (link.Act b q) field e is wants =
       let from = supplied.sources a r b q filled e is in
       let at : output_values (reference_at s.actions b q) ≡ from.source.values = ap output_values from.is in
       let output = source_writes filled.flow from.source.flow wants from.fits in
-      settled_or (slice_get (output_values (reference_at s.actions b q)) field) (open_value (OfOutput b q field) (pool_span m filled.pool field))
+      decided_or (slice_get (output_values (reference_at s.actions b q)) field) (open_value (OfOutput b q field) (pool_span m filled.pool field))
       (λ none. nothing_open (OfOutput b q field) (pool_span m filled.pool field)
       (subst (λ p. pool_span m p field ≡ None) from.pool (written_past b q from.source field from.is output (ap (λ vs. slice_get vs field) (sym at) ∙ none))))
 
-  linked : (a r : ℕ) (filled : Filled) (field : ℕ) → reference_at s.actions a r ≡ Some filled → WantsObject filled.flow → IsSettled (linked_slot m s filled.pool filled.link field)
+  linked : (a r : ℕ) (filled : Filled) (field : ℕ) → reference_at s.actions a r ≡ Some filled → WantsObject filled.flow → IsDecided (linked_slot m s filled.pool filled.link field)
   linked a r filled field e wants = by_link a r filled filled.link field e refl wants
 
   -- ---- actions
@@ -230,20 +230,20 @@ module _ (m : ModelTree) (s : Scenario) (sound : IsSound m) (scenario : IsScenar
     at_it : (r : ℕ) (filled : Filled) → slice_get act.references r ≡ Some filled → reference_at s.actions a r ≡ Some filled
     at_it r filled has = ap (option_and_then (λ (x : Act). slice_get x.references r)) there ∙ has
 
-    own : (field : ℕ) → IsSettled (act_slot m s a act (Own field))
+    own : (field : ℕ) → IsDecided (act_slot m s a act (Own field))
     own field =
-        settled_or (slice_get act.fields field) (open_value (OfAct a field) (field_span (action_field m act.action field)))
+        decided_or (slice_get act.fields field) (open_value (OfAct a field) (field_span (action_field m act.action field)))
         (λ none. nothing_open (OfAct a field) (field_span (action_field m act.action field))
         (no_span (action_field m act.action field) (ap (option_and_then (λ (x : ActionTree). slice_get x.fields field)) typed.is ∙ zip_past IsValueOf typed.type.fields act.fields field typed.fields none)))
 
-    flow : (r field : ℕ) (filled : Option Filled) → slice_get act.references r ≡ filled → IsSettled (flow_slot m s a r filled field)
+    flow : (r field : ℕ) (filled : Option Filled) → slice_get act.references r ≡ filled → IsDecided (flow_slot m s a r filled field)
     flow r field None is = tt
     flow r field (Some filled) is =
         either (is_output filled.flow) (written_slot m a r filled field) (linked_slot m s filled.pool filled.link field)
         (λ output. written a r filled field (at_it r filled is) output)
         (λ input. linked a r filled field (at_it r filled is) (wants_input filled.flow input))
 
-    by_flow : (f : Flow) (to : Link) → IsLinkOf f to → IsSettled (initial_by f to)
+    by_flow : (f : Flow) (to : Link) → IsLinkOf f to → IsDecided (initial_by f to)
     by_flow StateIn link.Nothing kind = kind
     by_flow StateIn link.Initial kind = tt
     by_flow StateIn (link.Act b q) kind = tt
@@ -253,7 +253,7 @@ module _ (m : ModelTree) (s : Scenario) (sound : IsSound m) (scenario : IsScenar
     by_flow StreamIn to kind = tt
     by_flow StreamOut to kind = tt
 
-    initial : (r : ℕ) (filled : Option Filled) → slice_get act.references r ≡ filled → IsSettled (initial_slot filled)
+    initial : (r : ℕ) (filled : Option Filled) → slice_get act.references r ≡ filled → IsDecided (initial_slot filled)
     initial r None is = tt
     initial r (Some filled) is = by_flow filled.flow filled.link (scenario.links a r filled (at_it r filled is)).kind
 
@@ -286,9 +286,9 @@ module _ (m : ModelTree) (s : Scenario) (sound : IsSound m) (scenario : IsScenar
         let unserved : served_claim m act.action act.instance claim ≡ None = ap (option_and_then (λ (x : ActionTree). served m act.action act.instance (length x.references + claim))) typed.is ∙ none in
         ap (λ o. hull (instances_in (option_and_then (λ pool. slice_get m.pools pool) o))) unserved
 
-    pub claim : (c : ℕ) → IsSettled (claim_slot m a act c)
+    pub claim : (c : ℕ) → IsDecided (claim_slot m a act c)
     claim c =
-        settled_or (option_map (λ (claimed : Claimed). pos claimed.instance) (slice_get act.claims c)) (open_value (Instance a c) (hull (claim_instances m act c)))
+        decided_or (option_map (λ (claimed : Claimed). pos claimed.instance) (slice_get act.claims c)) (open_value (Instance a c) (hull (claim_instances m act c)))
         (λ none. nothing_open (Instance a c) (hull (claim_instances m act c)) (by_claimed c (slice_get act.claims c) refl none))
 
     claim_past : (c field : ℕ) (claimed : Option Claimed) → slice_get act.claims c ≡ claimed → slice_get (claim_values claimed) field ≡ None → claim_field m act.action c field ≡ None
@@ -301,12 +301,12 @@ module _ (m : ModelTree) (s : Scenario) (sound : IsSound m) (scenario : IsScenar
         ap (option_and_then (λ (x : Claim). object_field m x.object field)) (ap (option_and_then (λ (x : ActionTree). slice_get x.claims c)) typed.is ∙ of.1)
         ∙ past_fields (slice_get m.objects of.0.object) claimed.values field whole_claim.values none
 
-    pub claim_value : (c field : ℕ) → IsSettled (claim_field_slot m a act c field)
+    pub claim_value : (c field : ℕ) → IsDecided (claim_field_slot m a act c field)
     claim_value c field =
-        settled_or (slice_get (claim_values (slice_get act.claims c)) field) (open_value (OfClaim a c field) (field_span (claim_field m act.action c field)))
+        decided_or (slice_get (claim_values (slice_get act.claims c)) field) (open_value (OfClaim a c field) (field_span (claim_field m act.action c field)))
         (λ none. nothing_open (OfClaim a c field) (field_span (claim_field m act.action c field)) (no_span (claim_field m act.action c field) (claim_past c field (slice_get act.claims c) refl none)))
 
-    pub of_act : (slot : SlotTree) → IsSettled (act_slot m s a act slot)
+    pub of_act : (slot : SlotTree) → IsDecided (act_slot m s a act slot)
     of_act (Own field) = own field
     of_act (Object reference field) = flow reference field (slice_get act.references reference) refl
     of_act (Initial-of reference) = initial reference (slice_get act.references reference) refl
@@ -320,7 +320,7 @@ module _ (m : ModelTree) (s : Scenario) (sound : IsSound m) (scenario : IsScenar
     of_act (Through handle slot) = tt
     of_act (Outer slot) = tt
 
-    pub of_resource : (c : ℕ) (slot : SlotTree) → IsSettled (resource_slot m a act c slot)
+    pub of_resource : (c : ℕ) (slot : SlotTree) → IsDecided (resource_slot m a act c slot)
     of_resource c (Own field) = claim_value c field
     of_resource c Id = claim c
     of_resource c (Object reference field) = tt
@@ -347,7 +347,7 @@ module _ (m : ModelTree) (s : Scenario) (sound : IsSound m) (scenario : IsScenar
       state_flow w.of.reference.output filled.flow (subst (λ k. flow_of k w.of.reference.output ≡ Some filled.flow) kind flow_is)
 
   pub of_output : (a r : ℕ) (filled : Filled) (object : ObjectTree) → reference_at s.actions a r ≡ Some filled → is_output filled.flow ≡ true → pool_object m filled.pool ≡ Some object
-      → (slot : SlotTree) → IsObjectSlot object slot → IsSettled (output_slot m s a r filled slot)
+      → (slot : SlotTree) → IsObjectSlot object slot → IsDecided (output_slot m s a r filled slot)
   of_output a r filled object e output of (Own field) is = written a r filled field e output
   of_output a r filled object e output of (Prev field) is = linked a r filled field e (wants_state filled.flow (by_kind a r filled object e of is.0))
   of_output a r filled object e output of IsFirst is = tt
@@ -371,7 +371,7 @@ module _ (m : ModelTree) (s : Scenario) (sound : IsSound m) (scenario : IsScenar
       go Resource e = absurd (false≢true e)
 
   pub of_first : (a r : ℕ) (filled : Filled) (object : ObjectTree) → reference_at s.actions a r ≡ Some filled → is_state_pool m filled.pool ≡ true → pool_object m filled.pool ≡ Some object
-      → (slot : SlotTree) → IsSettled (first_object_slot m s filled.pool slot)
+      → (slot : SlotTree) → IsDecided (first_object_slot m s filled.pool slot)
   of_first a r filled object e state of (Own field) =
       first a filled.pool field (uses_it a r filled e (by_kind a r filled object e of (is_state_kind object (ap (has_kind State) (sym of) ∙ state))))
   of_first a r filled object e state of IsFirst = tt

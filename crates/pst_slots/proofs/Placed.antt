@@ -19,7 +19,7 @@ use Rattle.pst_legal.specs.Types.{action_field, pool_object, flow_of, is_output}
 use Rattle.pst_legal.specs.Blanks.{Blank, OfFirst, OfAct, OfOutput, OfClaim, Instance, claim_instances, claim_field}
 use Rattle.pst_legal.specs.Standing.{Standing, value_or, open_value, hull, field_span}
 use Rattle.pst_legal.specs.Slots.{pool_span, first_values, first_slot, written_slot, output_values, linked_slot, flow_slot, initial_by, initial_slot, claim_slot, claim_values, claim_field_slot, act_slot, output_slot, resource_slot, first_object_slot}
-use Rattle.pst_slots.specs.Settled.{IsPlaced, IsReadThrough}
+use Rattle.pst_slots.specs.Decided.{IsPlaced, IsReadThrough}
 use Rattle.pst_slots.proofs.Owned.{WantsObject, wants_input, no_link, state_flow, wants_state}
 
 placed_or : (o : Option ℤ) (other : Standing) → IsPlaced other → IsPlaced (value_or o other)

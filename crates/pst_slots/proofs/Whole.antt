@@ -30,8 +30,8 @@ use Rattle.pst_legal.specs.Statements.{handle_node, node_on, way_in, StandsFor}
 use Rattle.pst_legal.specs.Constraints.{HasConstraint, OfCompound, OfAct, OfOutput, OfClaim, OfFirst, Inline}
 use Rattle.pst_built.proofs.SoundActs.{all_get, some_and}
 use Rattle.pst_statements.proofs.Kept.{stands_at}
-use Rattle.pst_slots.specs.Settled.{IsSettled}
-use Rattle.pst_slots.proofs.Lists.{settled_or, nothing_unread, zip_past}
+use Rattle.pst_slots.specs.Decided.{IsDecided}
+use Rattle.pst_slots.proofs.Lists.{decided_or, nothing_unread, zip_past}
 use Rattle.pst_slots.proofs.Owned.{no_span}
 use Rattle.pst_slots.proofs.Parts.{PartOf, grows}
 use Rattle.pst_slots.proofs.Stood.{IsStood, whole_stood}
@@ -63,8 +63,8 @@ of_action objects type (Outer slot) is = tt
 pool_of : {P : Type 0} (m : ModelTree) (pool : ℕ) (object : ObjectTree) → pool_object m pool ≡ Some object → ((k : ℕ) → slice_get m.objects k ≡ Some object → P) → P
 pool_of m pool object e go = option_and_then_some (λ (p : Pool). slice_get m.objects p.object) (slice_get m.pools pool) object e (λ p is has. go p.object has)
 
--- What holds of what is settled, and of the slots of atomic actions and of objects, holds of each slot of each constraint.
-module _ (m : ModelTree) (root : ℕ) (s : Scenario) (sound : IsSound m) (tree : FillsRoot m root s) (P : Standing → Type 0) (settled_is : (x : Standing) → IsSettled x → P x)
+-- What holds of what is decided, and of the slots of atomic actions and of objects, holds of each slot of each constraint.
+module _ (m : ModelTree) (root : ℕ) (s : Scenario) (sound : IsSound m) (tree : FillsRoot m root s) (P : Standing → Type 0) (decided_is : (x : Standing) → IsDecided x → P x)
     (acts : (a : ℕ) (act : Act) → slice_get s.actions a ≡ Some act → (slot : SlotTree) → P (act_slot m s a act slot))
     (outputs : (a r : ℕ) (filled : Filled) (object : ObjectTree) → reference_at s.actions a r ≡ Some filled → is_output filled.flow ≡ true → pool_object m filled.pool ≡ Some object
     → (slot : SlotTree) → IsObjectSlot object slot → P (output_slot m s a r filled slot))
@@ -72,12 +72,12 @@ module _ (m : ModelTree) (root : ℕ) (s : Scenario) (sound : IsSound m) (tree :
     (firsts : (a r : ℕ) (filled : Filled) (object : ObjectTree) → reference_at s.actions a r ≡ Some filled → is_state_pool m filled.pool ≡ true → pool_object m filled.pool ≡ Some object
     → (slot : SlotTree) → P (first_object_slot m s filled.pool slot)) where
   lacking : P Lacking
-  lacking = settled_is Lacking tt
+  lacking = decided_is Lacking tt
 
   -- the number of a turn, if there is one
   numbered : (o : Option ℕ) → P (number_or_lacking o)
   numbered None = lacking
-  numbered (Some n) = settled_is (Known (pos n)) tt
+  numbered (Some n) = decided_is (Known (pos n)) tt
 
   part : PartOf m most_levels (Action root None) None 0 s.nodes
   part =
@@ -102,7 +102,7 @@ module _ (m : ModelTree) (root : ℕ) (s : Scenario) (sound : IsSound m) (tree :
   by_compound : (n : ℕ) (node : Node) (action instance : ℕ) (fields : List ℤ) (slot : SlotTree) → slice_get s.nodes n ≡ Some node → node.fill ≡ fill.Compound action instance fields → P (compound_slot m action fields slot)
   by_compound n node action instance fields (Own field) is of =
       let whole = whole_at n node action instance fields is of in
-      settled_is (value_or (slice_get fields field) (unread (field_span (action_field m action field)))) (settled_or (slice_get fields field) (unread (field_span (action_field m action field)))
+      decided_is (value_or (slice_get fields field) (unread (field_span (action_field m action field)))) (decided_or (slice_get fields field) (unread (field_span (action_field m action field)))
       (λ none. nothing_unread (field_span (action_field m action field))
       (no_span (action_field m action field) (ap (option_and_then (λ (x : ActionTree). slice_get x.fields field)) whole.is ∙ zip_past IsValueOf whole.type.fields fields field whole.values none))))
   by_compound n node action instance fields (Object reference field) is of = lacking

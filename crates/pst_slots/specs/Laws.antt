@@ -9,14 +9,14 @@ use Rattle.pst_legal.specs.Fits.{Fits}
 use Rattle.pst_legal.specs.Supplied.{Supplied}
 use Rattle.pst_legal.specs.Standing.{Standing}
 use Rattle.pst_legal.specs.Constraints.{HasConstraint}
-use Rattle.pst_slots.specs.Settled.{IsSettled, IsPlaced, IsReadThrough}
+use Rattle.pst_slots.specs.Decided.{IsDecided, IsPlaced, IsReadThrough}
 
 -- In a scenario of a sound model that fits and whose needs have their sources, each slot of each constraint has a value, or
 -- stands for nothing that ever has one: none is open, and none isn't read.
-abbrev pub SlotsAreSettled : Type 0
-SlotsAreSettled =
+abbrev pub SlotsAreDecided : Type 0
+SlotsAreDecided =
     (m : ModelTree) (root : ℕ) (s : Scenario) → IsSound m → IsScenario s → Fits m root s → Supplied m s
-    → (k : ConstraintTree) (standing : SlotTree → Standing) → HasConstraint m s k standing → (slot : SlotTree) → Contains k.slots slot → IsSettled (standing slot)
+    → (k : ConstraintTree) (standing : SlotTree → Standing) → HasConstraint m s k standing → (slot : SlotTree) → Contains k.slots slot → IsDecided (standing slot)
 
 -- In a scenario of a sound model whose activity and sources are read, each slot of each constraint has a value, stands for
 -- nothing that ever has one, or is an open value whose place is known: none isn't read.

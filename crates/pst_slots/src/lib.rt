@@ -6,4 +6,4 @@
 
 mod laws;
 
-pub use laws::{slots_are_placed, slots_are_settled};
+pub use laws::{slots_are_decided, slots_are_placed};

@@ -12,7 +12,7 @@ use Rattle.pst_scen.specs.declared.tree.Fill.TheVariants as fill
 use Rattle.pst_scen.specs.Tree.{IsChild}
 use Rattle.pst_legal.specs.Types.{action_activity}
 use Rattle.pst_legal.specs.Statements.{StandsFor, AtTop, Below, InTurn, children_of, step_below}
-use Rattle.pst_statements.specs.Stated.{Stated, parent_of, place_in, at_place, part_at, repeated, in_turn, below, below_node, stated_within}
+use Rattle.pst_statements.specs.Stated.{Stated, parent_of, place_in, at_place, part_at, repeated, repeated_in, below, below_node, stated_within}
 use Rattle.pst_statements.proofs.Children.{behind, at_its_place}
 
 repeated_is : (step body : StepTree) → repeated step ≡ Some body → (count : ConstraintTree) × (step ≡ Repeat count body)
@@ -55,9 +55,9 @@ module _ (m : ModelTree) (nodes : List Node) where
 
   turn : (n parent index : ℕ) (node : Node) (stated : ℕ → Option Stated) (x : Stated) → slice_get nodes parent ≡ Some node → node.fill ≡ fill.Turn index → parent_of nodes n ≡ Some parent
       → ((k : ℕ) (y : Stated) → stated k ≡ Some y → Stands k y)
-      → option_and_then (in_turn index) (option_and_then stated (parent_of nodes parent)) ≡ Some x → Stands n x
+      → option_and_then (repeated_in index) (option_and_then stated (parent_of nodes parent)) ≡ Some x → Stands n x
   turn n parent index node stated x is of in_it each e =
-      option_and_then_some (in_turn index) (option_and_then stated (parent_of nodes parent)) x e
+      option_and_then_some (repeated_in index) (option_and_then stated (parent_of nodes parent)) x e
       (λ above up got. option_and_then_some stated (parent_of nodes parent) above up
       (λ over in_over at.
       let b = behind (λ body. record { top = above.top; step = body; indices = above.indices ++ index ∷ [] }) (repeated above.step) x got in

@@ -10,7 +10,7 @@ use Rattle.pst_scen.specs.declared.tree.Fill.{Fill}
 use Rattle.pst_scen.specs.declared.tree.Fill.TheVariants as fill
 use Rattle.pst_scen.specs.Tree.{IsChild}
 use Rattle.pst_legal.specs.Statements.{StandsFor, AtTop, Below, InTurn, IsBranch, step_below}
-use Rattle.pst_statements.specs.Stated.{Stated, parent_of, place_in, at_place, part_at, in_turn, below, below_node, stated_within, statement_of}
+use Rattle.pst_statements.specs.Stated.{Stated, parent_of, place_in, at_place, part_at, repeated_in, below, below_node, stated_within, statement_of}
 use Rattle.pst_statements.proofs.Children.{kid_at}
 
 parent_is : (nodes : List Node) (n parent : ℕ) → IsChild nodes n parent → parent_of nodes n ≡ Some parent
@@ -70,8 +70,8 @@ module _ (m : ModelTree) (nodes : List Node) where
         let one = less n turn in_turn_of in
         let two = less turn parent in_parent in
         up_one levels n turn node (fill.Turn index) (parent_is nodes n turn in_turn_of) is of
-        ∙ ap (λ o. option_and_then (in_turn index) (option_and_then (stated_within m nodes levels) o)) (parent_is nodes turn parent in_parent)
-        ∙ ap (option_and_then (in_turn index)) (kept levels top over (omega (arith, l, one, two)))
+        ∙ ap (λ o. option_and_then (repeated_in index) (option_and_then (stated_within m nodes levels) o)) (parent_is nodes turn parent in_parent)
+        ∙ ap (option_and_then (repeated_in index)) (kept levels top over (omega (arith, l, one, two)))
 
 -- the node that stands for a statement
 pub stands_at : (m : ModelTree) (nodes : List Node) (top : ℕ) {n : ℕ} {step : StepTree} {indices : List ℕ} → StandsFor m nodes top n step indices → (node : Node) × (slice_get nodes n ≡ Some node)

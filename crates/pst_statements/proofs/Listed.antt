@@ -24,7 +24,7 @@ use Rattle.pst_legal.specs.Statements.{StandsFor}
 use Rattle.pst_legal.specs.Constraints.{HasConstraint, OfCompound, OfAct, OfOutput, OfClaim, OfFirst, Inline}
 use Rattle.pst_built.proofs.Members.{In, in_get, in_if, in_append, to_left, to_right, in_map, to_map, in_flat_map, to_flat_map, in_numbered, to_numbered, in_filter, any_found, any_from, to_filter, to_contains, from_contains}
 use Rattle.pst_statements.specs.Stated.{Stated, statement_of}
-use Rattle.pst_statements.specs.Listed.{Stating, stating, action_constraints, object_constraints, of_fill, of_step, of_stated, of_node, of_output, of_claim, of_act, of_first, constraints_of}
+use Rattle.pst_statements.specs.Listed.{Stating, stating, action_constraints, object_constraints, of_fill, of_step, of_stated, of_node, of_output, of_claim, of_act, of_first_object, constraints_of}
 
 pub in_contains : {A : Type 0} (xs : List A) (x : A) → Contains xs x → In x xs
 in_contains xs x c = from_contains xs x c.0 c.1 c.2
@@ -96,10 +96,10 @@ module _ (m : ModelTree) (s : Scenario) where
       to_right (flat_map (of_node m s) (enumerate_from 0 s.nodes)) _ one
       (to_left (flat_map (of_act m s) (enumerate_from 0 s.actions)) _ one (to_flat_map (of_act m s) (enumerate_from 0 s.actions) (a, act) one (to_numbered s.actions a act is) has))
 
-  by_pool : (pool : ℕ) (one : Stating) → In pool (used_state_pools m s.actions) → In one (of_first m s pool) → In one (constraints_of m s)
+  by_pool : (pool : ℕ) (one : Stating) → In pool (used_state_pools m s.actions) → In one (of_first_object m s pool) → In one (constraints_of m s)
   by_pool pool one there has =
       to_right (flat_map (of_node m s) (enumerate_from 0 s.nodes)) _ one
-      (to_right (flat_map (of_act m s) (enumerate_from 0 s.actions)) _ one (to_flat_map (of_first m s) (used_state_pools m s.actions) pool one there has))
+      (to_right (flat_map (of_act m s) (enumerate_from 0 s.actions)) _ one (to_flat_map (of_first_object m s) (used_state_pools m s.actions) pool one there has))
 
   of_type_in : (standing : SlotTree → Standing) (action : ℕ) (type : ActionTree) (k : ConstraintTree) → type_of m action ≡ Some type → Contains type.constraints k
       → In (stating standing k) (map (stating standing) (action_constraints (type_of m action)))
@@ -213,7 +213,7 @@ module _ (m : ModelTree) (s : Scenario) where
       (in_append (outputs a act) (claimed a act) one more))
       (in_append (own a act) (outputs a act ++ claimed a act) one has)
 
-  first_has : (pool : ℕ) (one : Stating) → In pool (used_state_pools m s.actions) → In one (of_first m s pool) → Has one
+  first_has : (pool : ℕ) (one : Stating) → In pool (used_state_pools m s.actions) → In one (of_first_object m s pool) → Has one
   first_has pool one there has =
       let by = refers_by pool there in
       of_object_has (first_object_slot m s pool) (pool_object m pool) one
@@ -226,9 +226,9 @@ module _ (m : ModelTree) (s : Scenario) where
       (λ of_nodes. let r = in_flat_map (of_node m s) (enumerate_from 0 s.nodes) one of_nodes in node_has r.0 (in_numbered s.nodes r.0 r.1) r.2)
       (λ more. ⊎_elim
       (λ of_acts. let r = in_flat_map (of_act m s) (enumerate_from 0 s.actions) one of_acts in act_has r.0.0 r.0.1 one (in_numbered s.actions r.0 r.1) r.2)
-      (λ of_firsts. let r = in_flat_map (of_first m s) (used_state_pools m s.actions) one of_firsts in first_has r.0 one r.1 r.2)
-      (in_append (flat_map (of_act m s) (enumerate_from 0 s.actions)) (flat_map (of_first m s) (used_state_pools m s.actions)) one more))
-      (in_append (flat_map (of_node m s) (enumerate_from 0 s.nodes)) (flat_map (of_act m s) (enumerate_from 0 s.actions) ++ flat_map (of_first m s) (used_state_pools m s.actions)) one has)
+      (λ of_firsts. let r = in_flat_map (of_first_object m s) (used_state_pools m s.actions) one of_firsts in first_has r.0 one r.1 r.2)
+      (in_append (flat_map (of_act m s) (enumerate_from 0 s.actions)) (flat_map (of_first_object m s) (used_state_pools m s.actions)) one more))
+      (in_append (flat_map (of_node m s) (enumerate_from 0 s.nodes)) (flat_map (of_act m s) (enumerate_from 0 s.actions) ++ flat_map (of_first_object m s) (used_state_pools m s.actions)) one has)
     where
       stated_has : (n : ℕ) (t : Option Stated) → statement_of m s.nodes n ≡ t → In one (of_stated m s n t) → Has one
       stated_has n None is inside = absurd inside

@@ -65,10 +65,10 @@ of_act m s e =
     ++ (flat_map (of_output m s e.0) (enumerate_from 0 e.1.references) ++ flat_map (of_claim m e.0 e.1) (enumerate_from 0 (claims_of (type_of m e.1.action))))
 
 -- those of the first object of a pool
-abbrev pub of_first : ModelTree → Scenario → ℕ → List Stating
-of_first m s pool = map (stating (first_object_slot m s pool)) (object_constraints (pool_object m pool))
+abbrev pub of_first_object : ModelTree → Scenario → ℕ → List Stating
+of_first_object m s pool = map (stating (first_object_slot m s pool)) (object_constraints (pool_object m pool))
 
 -- The constraints by node, then by action, then those of the first objects by pool.
 abbrev pub constraints_of : ModelTree → Scenario → List Stating
 constraints_of m s =
-    flat_map (of_node m s) (enumerate_from 0 s.nodes) ++ (flat_map (of_act m s) (enumerate_from 0 s.actions) ++ flat_map (of_first m s) (used_state_pools m s.actions))
+    flat_map (of_node m s) (enumerate_from 0 s.nodes) ++ (flat_map (of_act m s) (enumerate_from 0 s.actions) ++ flat_map (of_first_object m s) (used_state_pools m s.actions))

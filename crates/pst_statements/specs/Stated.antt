@@ -19,13 +19,13 @@ abbrev pub parent_of : List Node → ℕ → Option ℕ
 parent_of nodes n = option_and_then (λ node. node.parent) (slice_get nodes n)
 
 -- the first place of a number in a list
-abbrev pub place_of : ℕ → List ℕ → Option ℕ
-place_of n [] = None
-place_of n (x ∷ xs) = if nat_eq x n then Some 0 else option_map suc (place_of n xs)
+abbrev pub position_of : ℕ → List ℕ → Option ℕ
+position_of n [] = None
+position_of n (x ∷ xs) = if nat_eq x n then Some 0 else option_map suc (position_of n xs)
 
 -- the place of a node among those that stand directly in its parent
 abbrev pub place_in : List Node → ℕ → ℕ → Option ℕ
-place_in nodes parent n = place_of n (children_of nodes parent)
+place_in nodes parent n = position_of n (children_of nodes parent)
 
 -- the statement at a place of the activity of the compound action of node `top`
 abbrev pub at_place : ModelTree → ℕ → ℕ → ℕ → Option Stated
@@ -41,13 +41,13 @@ repeated (Repeat count body) = Some body
 repeated _ = None
 
 -- what a repetition repeats, in the turn of that number
-abbrev pub in_turn : ℕ → Stated → Option Stated
-in_turn index above = option_map (λ body. record { top = above.top; step = body; indices = above.indices ++ index ∷ [] }) (repeated above.step)
+abbrev pub repeated_in : ℕ → Stated → Option Stated
+repeated_in index above = option_map (λ body. record { top = above.top; step = body; indices = above.indices ++ index ∷ [] }) (repeated above.step)
 
 -- the statement of a node that stands directly in another one with this fill; `stated` gives those of the nodes above
 abbrev pub below : ModelTree → List Node → (ℕ → Option Stated) → ℕ → ℕ → Fill → Option Stated
 below m nodes stated n parent (fill.Compound action instance fields) = option_and_then (at_place m parent action) (place_in nodes parent n)
-below m nodes stated n parent (fill.Turn index) = option_and_then (in_turn index) (option_and_then stated (parent_of nodes parent))
+below m nodes stated n parent (fill.Turn index) = option_and_then (repeated_in index) (option_and_then stated (parent_of nodes parent))
 below m nodes stated n parent other = option_and_then (λ above. option_and_then (part_at other above) (place_in nodes parent n)) (stated parent)
 
 abbrev pub below_node : ModelTree → List Node → (ℕ → Option Stated) → ℕ → ℕ → Option Stated

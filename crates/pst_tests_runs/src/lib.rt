@@ -4,6 +4,8 @@
 #[cfg(test)]
 mod built;
 #[cfg(test)]
+mod machine;
+#[cfg(test)]
 mod models;
 #[cfg(test)]
 mod plans;
@@ -13,3 +15,7 @@ mod rows;
 mod runs;
 #[cfg(test)]
 mod scenarios;
+#[cfg(test)]
+mod slots;
+#[cfg(test)]
+mod statements;

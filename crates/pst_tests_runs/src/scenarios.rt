@@ -252,3 +252,12 @@ pub fn in_sequence(alloc: Global, count: usize) -> Result<Scenario, NoMemory> {
     let actions = Vec::from_elem(alloc, nothing, count)?;
     scenario_of(alloc, rows.as_slice(), actions.as_slice())
 }
+
+fn may_cross<T: Send + Sync>() {}
+
+// A scenario, and with it each of its parts.
+#[test]
+fn scenarios_cross_threads() -> Result<(), Fail> {
+    may_cross::<Scenario>();
+    Ok(())
+}

@@ -9,11 +9,11 @@ use Rattle.pst_legal.specs.Standing.{Standing, Known, Lacking, Open, Unread}
 use Rattle.pst_legal.specs.Fits.{FillsRoot}
 
 -- a value, or nothing that ever has one
-abbrev pub IsSettled : Standing → Type 0
-IsSettled (Known v) = Unit {0}
-IsSettled Lacking = Unit {0}
-IsSettled (Open blank span) = ⊥
-IsSettled (Unread span) = ⊥
+abbrev pub IsDecided : Standing → Type 0
+IsDecided (Known v) = Unit {0}
+IsDecided Lacking = Unit {0}
+IsDecided (Open blank span) = ⊥
+IsDecided (Unread span) = ⊥
 
 -- that, or an open value whose place is known
 abbrev pub IsPlaced : Standing → Type 0
