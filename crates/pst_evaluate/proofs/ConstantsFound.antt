@@ -12,7 +12,7 @@ use Rattle.pst_scope.specs.Uses.{Use, expr_uses}
 use Rattle.pst_constants.specs.Constants.{IsConstant, HasValue, item_of_use, value_by}
 use Rattle.pst_evaluate.specs.Kept.{constant_by}
 use Rattle.pst_evaluate.specs.Laws.{ConstantsAreFound}
-use Rattle.pst_evaluate.specs.Named.{Named, named, are_items}
+use Rattle.pst_named_items.specs.Named.{Named, named, are_items}
 use Rattle.pst_evaluate.specs.Settled.{AreItemValues}
 use Rattle.pst_evaluate.proofs.Growing.{to_grow, from_grow, by_grows}
 use Rattle.pst_evaluate.proofs.Numbered.{none_is_some}

@@ -2,5 +2,4 @@ mod Rows
 mod Growing
 mod Numbered
 mod Settling
-mod Others
 mod ConstantsFound

@@ -7,7 +7,7 @@ use Rattle.pst_scope.specs.declared.environment.Environment.{Environment}
 use Rattle.pst_scope.specs.Uses.{expr_uses}
 use Rattle.pst_constants.specs.Constants.{value_by}
 use Rattle.pst_evaluate.specs.Known.{known_by}
-use Rattle.pst_evaluate.specs.Named.{are_items}
+use Rattle.pst_named_items.specs.Named.{are_items}
 
 -- the places of the items' names, and the value of each that has one
 pub record Kept : Type 0 where

@@ -9,10 +9,10 @@ use crate::evaluated::Evaluated;
 use crate::expression::value_of;
 use crate::items::ItemValues;
 use crate::knowledge::Knowledge;
-use crate::named_items::items_in;
 use pst_ast::ExprNode;
 use pst_base::{Names, NoMemory};
 use pst_index::Index;
+use pst_named_items::items_in;
 use pst_scope::Environment;
 use std::alloc::Global;
 

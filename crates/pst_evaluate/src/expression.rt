@@ -8,11 +8,11 @@ ghost use Rattle.pst_evaluate.specs.Listed.{as_range};
 
 use crate::evaluated::{Evaluated, evaluated_binary, evaluated_unary};
 use crate::knowledge::Knowledge;
-use crate::named::item_of_path;
 use crate::operators::{binary_op, unary_op};
 use pst_ast::{ExprNode, NextRange, PathNode, PrimaryNode, RangeNode, RangesNode, UnaryNode};
 use pst_base::NoMemory;
 use pst_expr::BinaryOp;
+use pst_named_items::item_of_path;
 use pst_scope::Environment;
 
 // The value of a path: that of the item that it names.

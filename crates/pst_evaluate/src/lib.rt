@@ -9,8 +9,6 @@ mod items;
 mod knowledge;
 mod laws;
 mod listing;
-mod named;
-mod named_items;
 mod operators;
 mod order;
 mod settled;

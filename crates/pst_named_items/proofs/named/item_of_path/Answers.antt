@@ -4,8 +4,8 @@ use Rattle.pst_ast.specs.declared.expression.PathNode.{PathNode}
 use Rattle.pst_ast.specs.ExpressionView.{view_path}
 use Rattle.pst_scope.specs.declared.declaration.Declaration.{Declaration}
 use Rattle.pst_constants.specs.Constants.{item_of_path}
-use Rattle.pst_evaluate.proofs.Rows.{dotted_names}
-use Rattle.pst_evaluate.proofs.named.item_of_path.Goals as goal
+use Rattle.pst_named_items.proofs.Names.{dotted_names}
+use Rattle.pst_named_items.proofs.named.item_of_path.Goals as goal
 
 pub returns-in_ok-parts-in-Dotted : goal.returns-in_ok-parts-in-Dotted
 returns-in_ok-parts-in-Dotted c =

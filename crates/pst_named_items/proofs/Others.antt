@@ -10,7 +10,7 @@ use Rattle.pst_ast.specs.SharedTree.{NamesTree, MakeNames}
 use Rattle.pst_scope.specs.declared.declaration.Declaration.{Declaration}
 use Rattle.pst_scope.specs.Declarations.{names_of}
 use Rattle.pst_scope.specs.Uses.{Joins, target_by}
-use Rattle.pst_evaluate.specs.Named.{Named, named}
+use Rattle.pst_named_items.specs.Named.{Named, named}
 
 joins_stay : (ds : List Declaration) (names : List (List ℕ)) (labels : List NameId) (joined : List Name)
     → fold named (record { ds = ds; names = names; only = false }) (map (Joins labels) joined) ≡ record { ds = ds; names = names; only = false }

@@ -2,7 +2,7 @@
 ghost use Rattle.std.specs.Prelude.{◌≡◌, true, false, IfOk, OnOk};
 ghost use Rattle.pst_ast.specs.ExpressionView.{view_expr};
 ghost use Rattle.pst_scope.specs.Uses.{expr_uses};
-ghost use Rattle.pst_evaluate.specs.Named.{are_items, named, with_found};
+ghost use Rattle.pst_named_items.specs.Named.{are_items, named, with_found};
 
 use crate::named::item_read;
 use pst_ast::{
@@ -40,7 +40,7 @@ struct NamedItems<'a> {
 }
 
 impl<'a> Model for NamedItems<'a> {
-    ghost use Rattle.pst_evaluate.specs.Named.{Named};
+    ghost use Rattle.pst_named_items.specs.Named.{Named};
 
     ghost Value = { Named };
 
