@@ -8,8 +8,8 @@ use Rattle.pst_ast.specs.DeclarationTree.{UnitTree}
 use Rattle.pst_scope.specs.declared.declaration.Declaration.{Declaration}
 use Rattle.pst_scope.specs.Declarations.{declarations}
 use Rattle.pst_scope.specs.Sorts.{is_action, same_place}
-use Rattle.pst_types.specs.Members.{those_that}
-use Rattle.pst_types.specs.Sites.{action_at}
+use Rattle.pst_type_rules.specs.Members.{those_that}
+use Rattle.pst_type_rules.specs.Sites.{action_at}
 use Rattle.pst_inherited.specs.Bases.{needs_of}
 use Rattle.pst_inherited.specs.Contents.{is_compound}
 use Rattle.pst_bind.specs.declared.pool_map.Served.{Served}

@@ -11,7 +11,7 @@ use Rattle.pst_ast.specs.DeclarationTree.{UnitTree, ItemTree, ItemObject, Compon
 use Rattle.pst_scope.specs.declared.declaration.Declaration.{Declaration}
 use Rattle.pst_scope.specs.declared.declaration.Sort.TheVariants as sort
 use Rattle.pst_scope.specs.Declarations.{declarations, action_declared, member}
-use Rattle.pst_types.specs.TriedMore.{activity}
+use Rattle.pst_type_rules.specs.TriedMore.{activity}
 use Rattle.pst_tree.specs.Instances.{AreInstances}
 use Rattle.pst_tree.specs.Tried.{on, name, mark, type, alone, two_names, members, component, unit, id, instance}
 use Rattle.pst_inherited.specs.Tried.{an_action, base_named}

@@ -12,10 +12,10 @@ use Rattle.pst_scope.specs.Breaches.{IsLeast}
 use Rattle.pst_scope.specs.NameRules.{NameBreach}
 use Rattle.pst_scope.proofs.Least.{least_is_one}
 use Rattle.pst_constants.specs.Laws.{TypesHaveOneDomain}
-use Rattle.pst_types.specs.declared.typed.ConstantValue.{ConstantValue}
-use Rattle.pst_types.specs.Laws.{ConstantsAreOne}
-use Rattle.pst_types.specs.Sites.{DeclaredField, fields}
-use Rattle.pst_types.specs.TypeRules.{TypeBreach}
+use Rattle.pst_type_rules.specs.declared.typed.ConstantValue.{ConstantValue}
+use Rattle.pst_type_rules.specs.Laws.{ConstantsAreOne}
+use Rattle.pst_type_rules.specs.Sites.{DeclaredField, fields}
+use Rattle.pst_type_rules.specs.TypeRules.{TypeBreach}
 use Rattle.pst_tree.specs.Instances.{AreInstances}
 use Rattle.pst_tree.specs.Laws.{InstancesAreOne}
 use Rattle.pst_elab.specs.Spans.{AreDomains, NoDomain, MoreDomains}

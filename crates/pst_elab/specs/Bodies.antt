@@ -12,7 +12,7 @@ use Rattle.pst_scope.specs.declared.referent.Referent.TheVariants.{Declared}
 use Rattle.pst_scope.specs.Declarations.{in_body}
 use Rattle.pst_scope.specs.Lookups.{type_here, stands_for}
 use Rattle.pst_scope.specs.Uses.{arguments_of, behind_statement}
-use Rattle.pst_types.specs.Limits.{is_local}
+use Rattle.pst_type_rules.specs.Limits.{is_local}
 use Rattle.pst_inherited.specs.Bases.{number_in, function_number}
 use Rattle.pst_terms.specs.Sources.{Sources, declared_in}
 use Rattle.pst_terms.specs.Readings.{Setting, expression_of}

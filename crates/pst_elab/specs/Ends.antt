@@ -12,8 +12,8 @@ use Rattle.pst_scope.specs.Declarations.{declarations}
 use Rattle.pst_scope.specs.Sorts.{is_action}
 use Rattle.pst_scope.specs.Lookups.{declared_at, is_text}
 use Rattle.pst_scope.specs.NameRules.{NameBreach}
-use Rattle.pst_types.specs.Members.{those_that}
-use Rattle.pst_types.specs.TypeRules.{TypeBreach}
+use Rattle.pst_type_rules.specs.Members.{those_that}
+use Rattle.pst_type_rules.specs.TypeRules.{TypeBreach}
 use Rattle.pst_tree.specs.Instances.{AreInstances}
 use Rattle.pst_bind.specs.Needs.{is_concrete, homes_of}
 use Rattle.pst_bind.specs.PoolRules.{PoolBreach}

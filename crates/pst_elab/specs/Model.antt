@@ -12,9 +12,9 @@ use Rattle.pst_model.specs.declared.model.Serve.{Serve}
 use Rattle.pst_model.specs.ModelTree.{ModelTree}
 use Rattle.pst_scope.specs.declared.declaration.Declaration.{Declaration}
 use Rattle.pst_scope.specs.Sorts.{same_place}
-use Rattle.pst_types.specs.declared.typed.ConstantValue.{ConstantValue}
-use Rattle.pst_types.specs.Sites.{items_of, fields}
-use Rattle.pst_types.specs.Typed.{AreConstants}
+use Rattle.pst_type_rules.specs.declared.typed.ConstantValue.{ConstantValue}
+use Rattle.pst_type_rules.specs.Sites.{items_of, fields}
+use Rattle.pst_type_rules.specs.Typed.{AreConstants}
 use Rattle.pst_tree.specs.Instances.{AreInstances, parts_of}
 use Rattle.pst_bind.specs.declared.pool_map.Served.{Served}
 use Rattle.pst_bind.specs.Pools.{pools}

@@ -17,10 +17,10 @@ use Rattle.pst_model.specs.ConstraintTree.{ConstraintTree, SlotTree, Own, Index,
 use Rattle.pst_model.specs.ActivityTree.{StepTree, Traverse, Select, Repeat, Match, NoBranches, MoreBranches, NoArms, MoreArms, NoStep, MakeBranch as Branch, MakeArm as Arm}
 use Rattle.pst_model.specs.ModelTree.{ContentTree, Atomic, Compound, ActionTree, ModelTree}
 use Rattle.pst_constants.specs.Domains.{span}
-use Rattle.pst_types.specs.declared.typed.ConstantValue.{ConstantValue}
-use Rattle.pst_types.specs.Tried.{on, name, number, component_with}
-use Rattle.pst_types.specs.TriedRules.{mark, type, path, field, action, one_range}
-use Rattle.pst_types.specs.TriedMore.{activity}
+use Rattle.pst_type_rules.specs.declared.typed.ConstantValue.{ConstantValue}
+use Rattle.pst_type_rules.specs.Tried.{on, name, number, component_with}
+use Rattle.pst_type_rules.specs.TriedRules.{mark, type, path, field, action, one_range}
+use Rattle.pst_type_rules.specs.TriedMore.{activity}
 use Rattle.pst_tree.specs.Tried.{id, instance}
 use Rattle.pst_elab.specs.Model.{IsModel, model_by, sources}
 use Rattle.pst_elab.specs.Ends.{RootBreach, root_number, root_place}

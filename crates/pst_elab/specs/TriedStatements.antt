@@ -21,10 +21,10 @@ use Rattle.pst_model.specs.ActivityTree.{StepTree, Traverse, Joined, StepRow, No
 use Rattle.pst_model.specs.BodyTree as body
 use Rattle.pst_model.specs.ModelTree.{Atomic, Compound, ModelTree}
 use Rattle.pst_constants.specs.Domains.{span, signed_span}
-use Rattle.pst_types.specs.declared.typed.ConstantValue.{ConstantValue}
-use Rattle.pst_types.specs.Tried.{on, name, number}
-use Rattle.pst_types.specs.TriedRules.{mark, type, alone, path, behind_dot, field, action, traverse}
-use Rattle.pst_types.specs.TriedMore.{activity, handle}
+use Rattle.pst_type_rules.specs.declared.typed.ConstantValue.{ConstantValue}
+use Rattle.pst_type_rules.specs.Tried.{on, name, number}
+use Rattle.pst_type_rules.specs.TriedRules.{mark, type, alone, path, behind_dot, field, action, traverse}
+use Rattle.pst_type_rules.specs.TriedMore.{activity, handle}
 use Rattle.pst_tree.specs.Tried.{id, component, unit}
 use Rattle.pst_inherited.specs.Tried.{an_action, base_named}
 use Rattle.pst_bind.specs.Tried.{pool, bind, all, output, input, lock}

@@ -29,8 +29,8 @@ use Rattle.pst_scope.specs.Declarations.{names_of}
 use Rattle.pst_scope.specs.Sorts.{is_action, is_object, same_place}
 use Rattle.pst_scope.specs.Lookups.{declared_at, type_of}
 use Rattle.pst_scope.specs.Uses.{environment}
-use Rattle.pst_types.specs.Members.{those_that}
-use Rattle.pst_types.specs.Sites.{DeclaredFunction, items_of, actions, action_at, functions, fields}
+use Rattle.pst_type_rules.specs.Members.{those_that}
+use Rattle.pst_type_rules.specs.Sites.{DeclaredFunction, items_of, actions, action_at, functions, fields}
 use Rattle.pst_inherited.specs.Bases.{with_bases, fields_of, references_of, claims_of, handles_of, action_number, object_number}
 use Rattle.pst_inherited.specs.Contents.{Content, Activity, Body, content_of}
 use Rattle.pst_terms.specs.Sources.{Sources, declared_in}

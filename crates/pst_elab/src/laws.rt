@@ -8,7 +8,7 @@ ghost use Rattle.pst_elab.specs.TriedStatements.{StatementsAreTried};
 pub fn models_are_one()
     ensures { ModelsAreOne }
 {
-    pst_types::constants_are_one();
+    pst_type_rules::constants_are_one();
     pst_constants::types_have_one_domain();
     pst_tree::instances_are_one();
 }

@@ -10,7 +10,7 @@ use Rattle.std.proofs.lemmas.Map.Steps.{length-le_from_distinct_below}
 use Rattle.std.proofs.lemmas.Option.{slice_get_within}
 use Rattle.pst_scope.specs.declared.declaration.Declaration.{Declaration}
 use Rattle.pst_scope.specs.Lookups.{base_of}
-use Rattle.pst_types.specs.Members.{own_members, AreMembers, WithoutBase, WithBase}
+use Rattle.pst_type_rules.specs.Members.{own_members, AreMembers, WithoutBase, WithBase}
 use Rattle.pst_inherited.specs.Bases.{bases_within, with_bases, members}
 use Rattle.pst_inherited.proofs.Declared.{some_is, is_missing, IsThere, is_there, base_there}
 

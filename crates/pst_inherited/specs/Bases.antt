@@ -6,7 +6,7 @@ use Rattle.pst_scope.specs.declared.declaration.Declaration.{Declaration}
 use Rattle.pst_scope.specs.declared.declaration.Sort.{Sort}
 use Rattle.pst_scope.specs.Sorts.{same_place, is_action, is_object, is_function, is_field, is_reference, is_claim, is_handle}
 use Rattle.pst_scope.specs.Lookups.{base_of}
-use Rattle.pst_types.specs.Members.{those_that, own_members}
+use Rattle.pst_type_rules.specs.Members.{those_that, own_members}
 
 -- ---- bases
 

@@ -7,7 +7,7 @@ use Rattle.pst_ast.specs.BodyTree.{BodyTree}
 use Rattle.pst_ast.specs.DeclarationTree.{UnitTree, ActionPartTree, ActionPartActivity, ActionPartBody}
 use Rattle.pst_scope.specs.declared.declaration.Declaration.{Declaration}
 use Rattle.pst_scope.specs.Declarations.{declarations}
-use Rattle.pst_types.specs.Sites.{DeclaredAction, action_at}
+use Rattle.pst_type_rules.specs.Sites.{DeclaredAction, action_at}
 use Rattle.pst_inherited.specs.Bases.{with_bases}
 
 -- with the action in whose text it stands

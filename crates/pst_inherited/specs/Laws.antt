@@ -2,7 +2,7 @@
 use Rattle.std.specs.Prelude.{◌≡◌, List}
 use Rattle.std.specs.List.{Contains}
 use Rattle.pst_scope.specs.declared.declaration.Declaration.{Declaration}
-use Rattle.pst_types.specs.Members.{AreMembers}
+use Rattle.pst_type_rules.specs.Members.{AreMembers}
 use Rattle.pst_inherited.specs.Bases.{members}
 
 -- where a declared type has a list of members by the rules of types, it is the one that is found here

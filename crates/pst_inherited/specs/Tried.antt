@@ -19,9 +19,9 @@ use Rattle.pst_ast.specs.DeclarationTree.{UnitTree, ComponentPartTree, Component
 use Rattle.pst_scope.specs.declared.declaration.Declaration.{Declaration}
 use Rattle.pst_scope.specs.Declarations.{declarations, action_declared, member}
 use Rattle.pst_scope.specs.declared.declaration.Sort.TheVariants as sort
-use Rattle.pst_types.specs.Tried.{on, name, component_with}
-use Rattle.pst_types.specs.TriedRules.{mark, type, alone, field, bit, traverse}
-use Rattle.pst_types.specs.TriedMore.{handle}
+use Rattle.pst_type_rules.specs.Tried.{on, name, component_with}
+use Rattle.pst_type_rules.specs.TriedRules.{mark, type, alone, field, bit, traverse}
+use Rattle.pst_type_rules.specs.TriedMore.{handle}
 use Rattle.pst_inherited.specs.Bases.{with_bases, fields_of, needs_of, handles_of, reference_number, handle_number, action_number}
 use Rattle.pst_inherited.specs.Contents.{Activity, Body, content_of, is_compound}
 

@@ -11,10 +11,10 @@ use Rattle.pst_scope.specs.NameRules.{NameBreach, OfDeclaration, OfUse, NoRoot, 
 use Rattle.pst_scope.specs.Uses.{uses}
 use Rattle.pst_loops.specs.First.{IsOnLoop, IsFirstOnLoop, IsNotAfter}
 use Rattle.pst_name_rules.specs.Own.{own_finding, is_reserved}
-use Rattle.pst_names.specs.Leasts.{NoLater, IsLeastOf, IsIn}
+use Rattle.pst_name_rules.specs.Leasts.{NoLater, IsLeastOf, IsIn}
 use Rattle.pst_names.specs.Resolved.{IsBreach, IsRootless}
 use Rattle.pst_names.proofs.Elements.{none_in, cons_cases, cons_first, cons_rest}
-use Rattle.pst_names.proofs.Leasts.{same_some, some_is_none}
+use Rattle.pst_name_rules.proofs.Leasts.{same_some, some_is_none}
 
 -- something found is found at an element
 pub in_found : {X : Type 0} (found : X → Option Finding) (xs : List X) (f : Finding) → IsIn found xs f → (x : X) × Contains xs x × (found x ≡ Some f)

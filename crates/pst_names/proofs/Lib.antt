@@ -1,5 +1,4 @@
 mod Elements
-mod Leasts
 mod Judging
 mod Walked
 mod Rootless

@@ -18,10 +18,10 @@ use Rattle.pst_loops.specs.First.{IsFirstOnLoop}
 use Rattle.pst_numbers.specs.Meanings.{Means, AreMeanings}
 use Rattle.pst_name_rules.specs.Earlier.{earlier}
 use Rattle.pst_name_rules.specs.Own.{own_finding}
-use Rattle.pst_names.specs.Leasts.{NoLater, IsLeastOf, IsIn, least_at}
+use Rattle.pst_name_rules.specs.Leasts.{NoLater, IsLeastOf, IsIn, least_at}
 use Rattle.pst_names.specs.Resolved.{IsBreach, IsRootless, root_finding}
 use Rattle.pst_names.proofs.Elements.{in_flat_map, flat_map_cases}
-use Rattle.pst_names.proofs.Leasts.{goes_on, least_of_both, told, least_in}
+use Rattle.pst_name_rules.proofs.Leasts.{goes_on, least_of_both, told, least_in}
 use Rattle.pst_names.proofs.Rootless.{least_rootless}
 use Rattle.pst_names.proofs.Breaking.{IsLoop, IsFound, least_loop, found_breaks, breaks_covered}
 

@@ -10,9 +10,9 @@ use Rattle.pst_ast.specs.DeclarationView.{view_unit}
 use Rattle.pst_scope.specs.declared.referent.Finding.{Finding}
 use Rattle.pst_scope.specs.Declarations.{declarations}
 use Rattle.pst_scope.specs.NameRules.{is_root_component, finish_of}
-use Rattle.pst_names.specs.Leasts.{IsLeastOf}
+use Rattle.pst_name_rules.specs.Leasts.{IsLeastOf}
 use Rattle.pst_names.specs.Resolved.{IsRootless, last_finish, root_finding}
-use Rattle.pst_names.proofs.Leasts.{same_some}
+use Rattle.pst_name_rules.proofs.Leasts.{same_some}
 
 got_mapped : {X Y : Type 0} (f : X → Y) (xs : List X) (i : ℕ) → slice_get (map f xs) i ≡ option_map f (slice_get xs i)
 got_mapped f [] i = refl

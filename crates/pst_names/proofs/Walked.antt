@@ -10,7 +10,7 @@ use Rattle.pst_scope.specs.Scopes.{use_meant}
 use Rattle.pst_scope.specs.Uses.{Use}
 use Rattle.pst_name_rules.specs.Earlier.{earlier}
 use Rattle.pst_names.specs.Judged.{Judged, judged}
-use Rattle.pst_names.specs.Leasts.{least_at}
+use Rattle.pst_name_rules.specs.Leasts.{least_at}
 
 module _ (ds : List Declaration) (names : List (List ℕ)) where
   abbrev judge : Option Finding → List Meant → Judged

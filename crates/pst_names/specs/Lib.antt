@@ -1,4 +1,3 @@
-pub mod Leasts
 pub mod Judged
 pub mod Labels
 pub mod Resolved

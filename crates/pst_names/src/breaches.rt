@@ -6,7 +6,7 @@ ghost use Rattle.pst_scope.specs.Declarations.{declarations};
 ghost use Rattle.pst_scope.specs.NameRules.{is_root_component, use_finding};
 ghost use Rattle.pst_scope.specs.Uses.{uses};
 ghost use Rattle.pst_name_rules.specs.Own.{own_finding as the_own};
-ghost use Rattle.pst_names.specs.Leasts.{IsLeastOf, least_at};
+ghost use Rattle.pst_name_rules.specs.Leasts.{IsLeastOf, least_at};
 ghost use Rattle.pst_names.specs.Resolved.{IsBreach, root_finding as the_root};
 
 use pst_ast::Unit;

@@ -6,7 +6,7 @@ ghost use Rattle.pst_scope.specs.Declarations.{declarations as the_declarations}
 ghost use Rattle.pst_scope.specs.NameRules.{use_finding};
 ghost use Rattle.pst_scope.specs.Scopes.{use_meant};
 ghost use Rattle.pst_scope.specs.Uses.{uses};
-ghost use Rattle.pst_names.specs.Leasts.{least_at};
+ghost use Rattle.pst_name_rules.specs.Leasts.{least_at};
 ghost use Rattle.pst_names.specs.Resolved.{AreResolved, IsJudged, IsUnresolved};
 
 use crate::breaches::least_breach;

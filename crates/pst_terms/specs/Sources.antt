@@ -10,8 +10,8 @@ use Rattle.pst_scope.specs.declared.declaration.Declaration.{Declaration}
 use Rattle.pst_scope.specs.Declarations.{declarations}
 use Rattle.pst_scope.specs.Sorts.{same_place}
 use Rattle.pst_constants.specs.Enums.{DeclaredItem, enums}
-use Rattle.pst_types.specs.declared.typed.ConstantValue.{ConstantValue}
-use Rattle.pst_types.specs.Places.{expr_place}
+use Rattle.pst_type_rules.specs.declared.typed.ConstantValue.{ConstantValue}
+use Rattle.pst_type_rules.specs.Places.{expr_place}
 
 -- the trees of the sources, the texts of their names, and the values of their constant expressions
 pub record Sources : Type 0 where

@@ -1,6 +1,6 @@
 use Rattle.std.proofs.Common.{refl}
 use Rattle.pst_scope.specs.Lookups.{look_up, base_of}
-use Rattle.pst_types.specs.Sites.{action_at}
+use Rattle.pst_type_rules.specs.Sites.{action_at}
 use Rattle.pst_inherited.specs.Bases.{with_bases}
 use Rattle.pst_inherited.proofs.laws.bases_are_tried.Goals as goal
 

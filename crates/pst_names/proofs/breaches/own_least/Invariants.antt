@@ -1,7 +1,7 @@
 use Rattle.std.proofs.Common.{◌≡◌, drop}
 use Rattle.std.specs.Prelude.{None}
 use Rattle.pst_name_rules.specs.Own.{own_finding}
-use Rattle.pst_names.specs.Leasts.{least_at}
+use Rattle.pst_name_rules.specs.Leasts.{least_at}
 use Rattle.pst_names.proofs.breaches.own_least.Given as goal
 
 abbrev pub invariant-loop-declaration : goal.invariant-loop-declaration

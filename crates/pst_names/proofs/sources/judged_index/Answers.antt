@@ -1,6 +1,6 @@
 use Rattle.std.proofs.Common.{map, subst, ◌∙◌}
 use Rattle.pst_ast.specs.DeclarationView.{view_unit}
-use Rattle.pst_names.specs.Leasts.{IsLeastOf}
+use Rattle.pst_name_rules.specs.Leasts.{IsLeastOf}
 use Rattle.pst_names.specs.Resolved.{IsBreach}
 use Rattle.pst_names.proofs.Resolving.{is_none, are_scopes}
 use Rattle.pst_names.proofs.sources.judged_index.Goals as goal
