@@ -8,5 +8,5 @@ mod words;
 
 pub use ends::PathFor;
 pub use paths::{is_ambiguous, read_path};
-pub use values::{handled, stands_for, value_named};
+pub use values::{handled, stands_for, traversed, traversed_member, value_named};
 pub use words::is_text;

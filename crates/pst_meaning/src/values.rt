@@ -78,9 +78,9 @@ fn if_action(found: Declaration) -> Option<Declaration>
     }
 }
 
-// The type of the action that a traversal is of.
+/// The type of the action that a traversal is of.
 #[tactic(auto, unfolding(pst_scope::specs::Lookups::traversed))]
-fn traversed(
+pub fn traversed(
     index: &Index,
     names: &Names,
     at: &Environment,
@@ -99,8 +99,8 @@ fn traversed(
     }
 }
 
-// The member of the traversed action, in an inline constraint.
-fn traversed_member(
+/// The member of the traversed action, in an inline constraint.
+pub fn traversed_member(
     index: &Index,
     names: &Names,
     at: &Environment,
