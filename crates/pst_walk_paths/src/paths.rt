@@ -18,12 +18,13 @@ use pst_walk_parts::{Role, Visitor, Wanted};
 use std::alloc::Global;
 
 // Shows a visitor of paths the uses that are paths.
-struct Paths<V> {
+#[derive(Drop)]
+struct Paths<V: Drop> {
     alloc: Global,
     visitor: V,
 }
 
-impl<V: PathVisitor> Visitor for Paths<V> {
+impl<V: PathVisitor + Drop> Visitor for Paths<V> {
     ghost step = { λ s u. record s { visitor = by_paths V.path_step s.visitor u } };
 
     fn judges(&mut self, _at: &Environment, _role: Role, _expr: &ExprNode) -> Result<(), NoMemory> {
@@ -170,7 +171,7 @@ impl<V: PathVisitor> Visitor for Paths<V> {
 
 
 /// Shows a visitor each path in an expression, in the order of the text, and gives it back.
-pub fn show_paths<V: PathVisitor>(
+pub fn show_paths<V: PathVisitor + Drop>(
     alloc: Global,
     visitor: V,
     at: &Environment,
