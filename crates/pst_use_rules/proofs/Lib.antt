@@ -1,0 +1,3 @@
+mod LeastOf
+mod InnerRows
+mod Reading

@@ -1,0 +1,15 @@
+//! What is known of the sources.
+use pst_base::Names;
+use pst_index::Index;
+use std::alloc::Global;
+
+/// What is known of the sources where a use is judged.
+#[derive(Clone, Copy)]
+pub struct Facts<'a> {
+    /// Where memory comes from.
+    pub alloc: Global,
+    /// What the sources declare.
+    pub index: &'a Index,
+    /// The texts of names.
+    pub names: &'a Names,
+}
