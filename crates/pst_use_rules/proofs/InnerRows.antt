@@ -6,7 +6,7 @@ use Rattle.pst_base.specs.declared.position.Place.{Place}
 use Rattle.pst_ast.specs.declared.expression.PathNode.{Row_of-NextPart, end_of-NextPart, more_of-NextPart, items-the_row-NextPart, items_hidden-the_row-NextPart-0}
 use Rattle.pst_ast.specs.declared.expression.PathNode.TheVariants as the_path
 use Rattle.pst_ast.specs.declared.expression.PartNode.{PartNode}
-use Rattle.pst_ast.specs.declared.expression.NextPart.{NextPart, NextPart'}
+use Rattle.pst_ast.specs.declared.expression.NextPart.{NextPart, NextPart', out-NextPart}
 use Rattle.pst_ast.specs.declared.expression.ExprNode.TheBlock.{hidden-the_row-NextPart-0, items-the_row-NextRange, items_shown-the_row-NextRange-1}
 use Rattle.pst_ast.specs.declared.expression.RangesNode.{RangesNode, RangesNode', out-RangesNode, Row_of-NextRange, end_of-NextRange, more_of-NextRange}
 use Rattle.pst_ast.specs.declared.expression.NextRange.{NextRange}
@@ -19,6 +19,10 @@ module _ (within : Bool) where
 
   abbrev in_range : NextRange → List Place
   in_range next = comma_range_ins within (view_next_range next)
+
+  pub dotted_is : (next : NextPart) → part_ins within (view_part (out-NextPart next).part) ≡ dotted_ins within (view_next_part next)
+  unfolding out-NextPart denote.Hole.Carrier.out
+  dotted_is (NextPart' dot part) = refl
 
   parts_row : {n : _} (k : Row_of-NextPart n) → next_part_ins within (view_next_part_row k) ≡ flat_map in_part (items-the_row-NextPart n k)
   parts_row end_of-NextPart = refl

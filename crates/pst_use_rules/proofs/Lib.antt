@@ -1,3 +1,9 @@
 mod LeastOf
 mod InnerRows
 mod Reading
+mod Told
+mod ExpressionsJudged
+mod CountsJudged
+mod CallsJudged
+mod BindsJudged
+mod Uniques

@@ -5,6 +5,7 @@ use Rattle.pst_base.specs.declared.position.Place.{Place}
 use Rattle.pst_ast.specs.declared.leaf.Name.{Name}
 use Rattle.pst_ast.specs.declared.activity.EndNode.{EndNode}
 use Rattle.pst_ast.specs.ExpressionTree.{ExprTree}
+use Rattle.pst_ast.specs.DeclarationTree.{UnitTree, AnswerTree, AnswerVoid, AnswerPlain}
 use Rattle.pst_expr.specs.declared.ranges.Span.{Span}
 use Rattle.pst_model.specs.Limits.{most_branches}
 use Rattle.pst_scope.specs.declared.declaration.Declaration.{Declaration}
@@ -14,12 +15,15 @@ use Rattle.pst_scope.specs.declared.referent.Checked.TheVariants.{Is, Breaks}
 use Rattle.pst_scope.specs.declared.referent.Finding.{Finding}
 use Rattle.pst_scope.specs.declared.referent.Referent.{Referent}
 use Rattle.pst_scope.specs.declared.referent.Target.{Target}
+use Rattle.pst_scope.specs.declared.referent.Traversal.{Traversal}
 use Rattle.pst_scope.specs.contracts.declaration.DeclarationPartialEq.TheImpl as declaration
 use Rattle.pst_scope.specs.Sorts.{same_name, is_pool, is_resource}
-use Rattle.pst_scope.specs.Lookups.{type_named, type_of, stands_for}
+use Rattle.pst_scope.specs.Lookups.{type_here, type_named, type_of, stands_for, traversed}
+use Rattle.pst_scope.specs.Declarations.{declarations}
 use Rattle.pst_scope.specs.NameRules.{finding, unless, named_in, target_of}
 use Rattle.pst_scope.specs.Uses.{Use, Reads, Role, PoolSize, Condition, expr_uses}
 use Rattle.pst_type_rules.specs.Places.{expr_place, ins}
+use Rattle.pst_type_rules.specs.Sites.{DeclaredAction, DeclaredFunction, action_at, function_at}
 use Rattle.pst_type_rules.specs.Limits.{most_unique, limits_of, is_local}
 use Rattle.pst_type_rules.specs.Binds.{reference_at, is_output, is_input}
 use Rattle.pst_type_rules.specs.TypeRules.{is_constant, is_condition_sort, is_declared, first_name}
@@ -123,3 +127,25 @@ may_be_assigned None = true
 
 abbrev pub assigns_found : List Declaration → List (List ℕ) → Environment → Name → Option Finding
 assigns_found ds names at name = unless (may_be_assigned (stands_for ds names at name.id)) name.place 21
+
+-- ---- traversals and calls
+
+abbrev pub performed_found : Place → Option DeclaredAction → Option Finding
+performed_found place None = None
+performed_found place (Some a) = unless (not a.is_abstract) place 17
+
+abbrev pub performs_found : List UnitTree → List (List ℕ) → Environment → Place → Traversal → Option Finding
+performs_found units names at place traversal = performed_found place (option_and_then (λ d. action_at units d.name.place) (traversed (declarations units) names at traversal))
+
+abbrev pub is_void : AnswerTree → Bool
+is_void (AnswerVoid place) = true
+is_void (AnswerPlain plain) = false
+
+-- as many arguments as parameters, and a value where one is needed
+abbrev pub passes_right : ℕ → Bool → Option DeclaredFunction → Bool
+passes_right arguments needed None = true
+passes_right arguments needed (Some f) = nat_eq arguments (length f.parameters) && not (needed && is_void f.answer)
+
+abbrev pub passes_found : List UnitTree → Option Place → Name → ℕ → Bool → Option Finding
+passes_found units component name arguments needed =
+    unless (passes_right arguments needed (option_and_then (λ d. function_at units d.name.place) (type_here (declarations units) component name.id))) name.place 21

@@ -1,5 +1,5 @@
 -- What is found of single uses is the least of what they break.
-use Rattle.std.specs.Prelude.{ℕ, ℤ, List, Option}
+use Rattle.std.specs.Prelude.{ℕ, ℤ, List, Bool, Option}
 use Rattle.pst_base.specs.declared.position.Place.{Place}
 use Rattle.pst_ast.specs.declared.leaf.Name.{Name}
 use Rattle.pst_ast.specs.declared.activity.EndNode.{EndNode}
@@ -7,13 +7,14 @@ use Rattle.pst_ast.specs.ExpressionTree.{ExprTree}
 use Rattle.pst_ast.specs.DeclarationTree.{UnitTree}
 use Rattle.pst_scope.specs.declared.environment.Environment.{Environment}
 use Rattle.pst_scope.specs.declared.referent.Finding.{Finding}
+use Rattle.pst_scope.specs.declared.referent.Traversal.{Traversal}
 use Rattle.pst_scope.specs.Declarations.{declarations}
-use Rattle.pst_scope.specs.Uses.{Use, Judges, Uniques, Branches, Ties, Targets, Assigns, Role}
+use Rattle.pst_scope.specs.Uses.{Use, Judges, Uniques, Branches, Ties, Targets, Assigns, Performs, Passes, Role}
 use Rattle.pst_evaluate.specs.Kept.{constant_by}
 use Rattle.pst_evaluate.specs.Settled.{AreItemValues}
 use Rattle.pst_type_rules.specs.TypeRules.{UseBreaks}
 use Rattle.pst_name_rules.specs.Leasts.{IsLeastOf}
-use Rattle.pst_use_rules.specs.Found.{judged_found, unique_found, branches_found, ties_found, targets_found, assigns_found}
+use Rattle.pst_use_rules.specs.Found.{judged_found, unique_found, branches_found, ties_found, targets_found, assigns_found, performs_found, passes_found}
 
 -- a use breaks that rule there
 abbrev pub IsBroken : List UnitTree → List (List ℕ) → Use → Finding → Type 0
@@ -41,3 +42,9 @@ BindsAreJudged =
 abbrev pub AssignmentsAreJudged : Type 0
 AssignmentsAreJudged =
     (units : List UnitTree) (names : List (List ℕ)) (at : Environment) (name : Name) → IsLeastOf (IsBroken units names (Assigns at name)) (assigns_found (declarations units) names at name)
+
+abbrev pub CallsAreJudged : Type 0
+CallsAreJudged =
+    (units : List UnitTree) (names : List (List ℕ))
+    → ((at : Environment) (place : Place) (traversal : Traversal) → IsLeastOf (IsBroken units names (Performs at place traversal)) (performs_found units names at place traversal))
+    × ((component : Option Place) (name : Name) (arguments : ℕ) (needed : Bool) → IsLeastOf (IsBroken units names (Passes component name arguments needed)) (passes_found units component name arguments needed))

@@ -17,8 +17,8 @@ use pst_name_rules::{earlier, end_named, pool_in, target_of, unless};
 use pst_scope::{Checked, Declaration, Environment, Finding, Referent, Sort, Target};
 
 // The reference that an end names.
-fn reference_at(facts: Facts<'_>, at: &Environment, end: &EndNode) -> Option<Declaration>
-    ensures { result ≡ Binds.reference_at facts.index.now facts.names.now at.now end.now }
+fn reference_at(facts: &Facts<'_>, at: &Environment, end: &EndNode) -> Option<Declaration>
+    ensures { result ≡ Binds.reference_at facts.now.index.now facts.now.names.now at.now end.now }
 {
     end_named(facts.index, facts.names, at, end.handle, end.name.id)
 }
@@ -49,12 +49,12 @@ fn are_ends(index: &Index, one: &Option<Declaration>, other: &Option<Declaration
 
 // Rule 20 at an end that the first is joined with.
 fn end_finding(
-    facts: Facts<'_>,
+    facts: &Facts<'_>,
     at: &Environment,
     first: &EndNode,
     other: &EndNode,
 ) -> Option<Finding>
-    ensures { result ≡ Found.end_found facts.index.now facts.names.now at.now first.now other.now }
+    ensures { result ≡ Found.end_found facts.now.index.now facts.now.names.now at.now first.now other.now }
 {
     let (one, another) = (reference_at(facts, at, first), reference_at(facts, at, other));
     let good = are_ends(facts.index, &one, &another) && first.handle.id != other.handle.id;
@@ -63,13 +63,13 @@ fn end_finding(
 
 // The least of what is found at ends behind others.
 fn next_ends_finding(
-    facts: Facts<'_>,
+    facts: &Facts<'_>,
     at: &Environment,
     first: &EndNode,
     before: Option<Finding>,
     rest: &[NextEnd],
 ) -> Option<Finding>
-    ensures { result ≡ least_at (Found.end_found facts.index.now facts.names.now at.now first.now) (map (λ n. n.end) rest.now) before }
+    ensures { result ≡ least_at (Found.end_found facts.now.index.now facts.now.names.now at.now first.now) (map (λ n. n.end) rest.now) before }
 {
     let mut least = before;
     for next in rest {
@@ -80,12 +80,12 @@ fn next_ends_finding(
 
 /// Rule 20 at the ends of a bind of an activity, each by itself.
 pub fn ties_finding(
-    facts: Facts<'_>,
+    facts: &Facts<'_>,
     at: &Environment,
     first: &EndNode,
     others: &OtherEnds,
 ) -> Option<Finding>
-    ensures { result ≡ Found.ties_found facts.index.now facts.names.now at.now first.now (other_ends (view_other_ends others.now)) }
+    ensures { result ≡ Found.ties_found facts.now.index.now facts.now.names.now at.now first.now (other_ends (view_other_ends others.now)) }
 {
     match others {
         OtherEnds::One(other) => earlier(None, end_finding(facts, at, first, other)),
@@ -159,8 +159,8 @@ fn may_be_assigned(found: &Option<Referent>) -> bool
 }
 
 /// Rule 21 at what a value is assigned to.
-pub fn assigned_finding(facts: Facts<'_>, at: &Environment, name: Name) -> Option<Finding>
-    ensures { result ≡ Found.assigns_found facts.index.now facts.names.now at.now name }
+pub fn assigned_finding(facts: &Facts<'_>, at: &Environment, name: Name) -> Option<Finding>
+    ensures { result ≡ Found.assigns_found facts.now.index.now facts.now.names.now at.now name }
 {
     let found = stands_for(facts.index, facts.names, at, name.id);
     unless(may_be_assigned(&found), name.place, 21)

@@ -86,11 +86,11 @@ impl<'a> PathVisitor for Condition<'a> {
 /// Rule 19 in a condition: the least finding of the names in it.
 #[tactic(auto, using(crate::proofs::Reading::read_all))]
 pub fn condition_least(
-    facts: Facts<'_>,
+    facts: &Facts<'_>,
     at: &Environment,
     expr: &ExprNode,
 ) -> Result<Option<Finding>, NoMemory>
-    ensures { IfOk result (λ r. r ≡ least_at (read_found facts.index.now facts.names.now) (expr_uses at.now (view_expr expr.now)) None) }
+    ensures { IfOk result (λ r. r ≡ least_at (read_found facts.now.index.now facts.now.names.now) (expr_uses at.now (view_expr expr.now)) None) }
 {
     let condition = Condition {
         index: facts.index,

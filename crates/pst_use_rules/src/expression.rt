@@ -130,12 +130,12 @@ fn constant_finding(role: Role, place: Place, value: Option<i64>) -> Option<Find
 
 // Rule 19 at an expression.
 fn condition_finding(
-    facts: Facts<'_>,
+    facts: &Facts<'_>,
     at: &Environment,
     role: Role,
     expr: &ExprNode,
 ) -> Result<Option<Finding>, NoMemory>
-    ensures { IfOk result (λ r. r ≡ Found.condition_found facts.index.now facts.names.now at.now (view_role role) (view_expr expr.now)) }
+    ensures { IfOk result (λ r. r ≡ Found.condition_found facts.now.index.now facts.now.names.now at.now (view_role role) (view_expr expr.now)) }
 {
     match role {
         Role::Condition => condition_least(facts, at, expr),
@@ -145,13 +145,13 @@ fn condition_finding(
 
 /// What an outermost expression breaks, given its value as a constant.
 pub fn expression_finding(
-    facts: Facts<'_>,
+    facts: &Facts<'_>,
     at: &Environment,
     role: Role,
     expr: &ExprNode,
     value: Option<i64>,
 ) -> Result<Option<Finding>, NoMemory>
-    ensures { IfOk result (λ r. r ≡ Found.judged_found facts.index.now facts.names.now at.now (view_role role) (view_expr expr.now) value) }
+    ensures { IfOk result (λ r. r ≡ Found.judged_found facts.now.index.now facts.now.names.now at.now (view_role role) (view_expr expr.now) value) }
 {
     let place = expr_place(expr);
     let inner = inner_of_expr(None, false, expr);
@@ -176,13 +176,13 @@ fn joined_finding(branches: u64, place: Place, value: Option<i64>) -> Option<Fin
 /// What the count of branches breaks that a block with so many joins, given its value as a
 /// constant.
 pub fn count_finding(
-    facts: Facts<'_>,
+    facts: &Facts<'_>,
     at: &Environment,
     branches: u64,
     expr: &ExprNode,
     value: Option<i64>,
 ) -> Option<Finding>
-    ensures { result ≡ Found.judged_found facts.index.now facts.names.now at.now (JoinCount branches) (view_expr expr.now) value }
+    ensures { result ≡ Found.judged_found facts.now.index.now facts.now.names.now at.now (JoinCount branches) (view_expr expr.now) value }
 {
     let inner = inner_of_expr(None, false, expr);
     let constant = joined_finding(branches, expr_place(expr), value);

@@ -1,6 +1,7 @@
 //! What is known of the sources.
 use pst_base::Names;
 use pst_index::Index;
+use pst_sites::Sites;
 use std::alloc::Global;
 
 /// What is known of the sources where a use is judged.
@@ -12,4 +13,6 @@ pub struct Facts<'a> {
     pub index: &'a Index,
     /// The texts of names.
     pub names: &'a Names,
+    /// The sources, by places.
+    pub sites: &'a Sites<'a>,
 }

@@ -1,5 +1,5 @@
 //! Laws of the definitions: each function here does nothing, and its contract is a law.
-ghost use Rattle.pst_use_rules.specs.Laws.{AssignmentsAreJudged, BindsAreJudged, CountsAreJudged, ExpressionsAreJudged};
+ghost use Rattle.pst_use_rules.specs.Laws.{AssignmentsAreJudged, BindsAreJudged, CallsAreJudged, CountsAreJudged, ExpressionsAreJudged};
 
 /// What is found of an expression is the least of what it breaks, where the values of items are
 /// known.
@@ -27,4 +27,9 @@ pub fn binds_are_judged()
 /// What is found of an assignment is the least of what it breaks.
 pub fn assignments_are_judged()
     ensures { AssignmentsAreJudged }
+{}
+
+/// What is found of a traversal, and of a call, is the least of what it breaks.
+pub fn calls_are_judged()
+    ensures { CallsAreJudged }
 {}
