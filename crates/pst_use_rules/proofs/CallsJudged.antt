@@ -76,8 +76,8 @@ module _ (units : List UnitTree) (names : List (List ℕ)) (here : Environment) 
   broken_abstract : (p : Place) (rule : ℕ) → UseBreaks units names (Performs here place traversal) p rule → Abstract (at p rule)
   broken_abstract p rule (AbstractTraversed env q t d a is found yet) = (a, is_then found_action (traversed (declarations units) names here traversal) d a is found, yet, refl)
 
-  pub performs : IsLeastOf (IsBroken units names (Performs here place traversal)) (performs_found units names here place traversal)
-  performs = retold Abstract (IsBroken units names (Performs here place traversal)) (performs_found units names here place traversal) abstract_broken (λ f has. broken_abstract f.place f.rule has) (by_action action refl)
+  pub performs : IsLeastOf (IsBroken units names (Performs here place traversal)) (performs_found units (declarations units) names here place traversal)
+  performs = retold Abstract (IsBroken units names (Performs here place traversal)) (performs_found units (declarations units) names here place traversal) abstract_broken (λ f has. broken_abstract f.place f.rule has) (by_action action refl)
     where
       retold : (P Q : Finding → Type 0) (found : Option Finding) → ((f : Finding) → P f → Q f) → ((f : Finding) → Q f → P f) → IsLeastOf P found → IsLeastOf Q found
       retold P Q None to from least = λ f has. least f (from f has)
@@ -125,7 +125,7 @@ module _ (units : List UnitTree) (names : List (List ℕ)) (component : Option P
   call_told needed place rule (WrongArguments c n a b d f is found never) = (off_by needed d f is found (inl (not_equal arguments (length f.parameters) never)), refl)
   call_told needed place rule (NoAnswer c n a d f void is found answer) = (off_by true d f is found (inr (ap is_void answer)), refl)
 
-  pub passes : (needed : Bool) → IsLeastOf (IsBroken units names (Passes component name arguments needed)) (passes_found units component name arguments needed)
+  pub passes : (needed : Bool) → IsLeastOf (IsBroken units names (Passes component name arguments needed)) (passes_found units (declarations units) component name arguments needed)
   passes needed =
       of_one (IsBroken units names (Passes component name arguments needed)) (passes_right arguments needed function) name.place 21 (broken needed) (λ f has. call_told needed f.place f.rule has)
 

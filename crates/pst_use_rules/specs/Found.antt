@@ -19,7 +19,6 @@ use Rattle.pst_scope.specs.declared.referent.Traversal.{Traversal}
 use Rattle.pst_scope.specs.contracts.declaration.DeclarationPartialEq.TheImpl as declaration
 use Rattle.pst_scope.specs.Sorts.{same_name, is_pool, is_resource}
 use Rattle.pst_scope.specs.Lookups.{type_here, type_named, type_of, stands_for, traversed}
-use Rattle.pst_scope.specs.Declarations.{declarations}
 use Rattle.pst_scope.specs.NameRules.{finding, unless, named_in, target_of}
 use Rattle.pst_scope.specs.Uses.{Use, Reads, Role, PoolSize, Condition, expr_uses}
 use Rattle.pst_type_rules.specs.Places.{expr_place, ins}
@@ -134,8 +133,8 @@ abbrev pub performed_found : Place → Option DeclaredAction → Option Finding
 performed_found place None = None
 performed_found place (Some a) = unless (not a.is_abstract) place 17
 
-abbrev pub performs_found : List UnitTree → List (List ℕ) → Environment → Place → Traversal → Option Finding
-performs_found units names at place traversal = performed_found place (option_and_then (λ d. action_at units d.name.place) (traversed (declarations units) names at traversal))
+abbrev pub performs_found : List UnitTree → List Declaration → List (List ℕ) → Environment → Place → Traversal → Option Finding
+performs_found units ds names at place traversal = performed_found place (option_and_then (λ d. action_at units d.name.place) (traversed ds names at traversal))
 
 abbrev pub is_void : AnswerTree → Bool
 is_void (AnswerVoid place) = true
@@ -146,6 +145,6 @@ abbrev pub passes_right : ℕ → Bool → Option DeclaredFunction → Bool
 passes_right arguments needed None = true
 passes_right arguments needed (Some f) = nat_eq arguments (length f.parameters) && not (needed && is_void f.answer)
 
-abbrev pub passes_found : List UnitTree → Option Place → Name → ℕ → Bool → Option Finding
-passes_found units component name arguments needed =
-    unless (passes_right arguments needed (option_and_then (λ d. function_at units d.name.place) (type_here (declarations units) component name.id))) name.place 21
+abbrev pub passes_found : List UnitTree → List Declaration → Option Place → Name → ℕ → Bool → Option Finding
+passes_found units ds component name arguments needed =
+    unless (passes_right arguments needed (option_and_then (λ d. function_at units d.name.place) (type_here ds component name.id))) name.place 21

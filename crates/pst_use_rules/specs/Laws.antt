@@ -46,5 +46,5 @@ AssignmentsAreJudged =
 abbrev pub CallsAreJudged : Type 0
 CallsAreJudged =
     (units : List UnitTree) (names : List (List ℕ))
-    → ((at : Environment) (place : Place) (traversal : Traversal) → IsLeastOf (IsBroken units names (Performs at place traversal)) (performs_found units names at place traversal))
-    × ((component : Option Place) (name : Name) (arguments : ℕ) (needed : Bool) → IsLeastOf (IsBroken units names (Passes component name arguments needed)) (passes_found units component name arguments needed))
+    → ((at : Environment) (place : Place) (traversal : Traversal) → IsLeastOf (IsBroken units names (Performs at place traversal)) (performs_found units (declarations units) names at place traversal))
+    × ((component : Option Place) (name : Name) (arguments : ℕ) (needed : Bool) → IsLeastOf (IsBroken units names (Passes component name arguments needed)) (passes_found units (declarations units) component name arguments needed))

@@ -3,7 +3,6 @@ ghost use Rattle.std.specs.Prelude.{◌≡◌, length, map};
 ghost use Rattle.std.specs.Option.{option_map};
 ghost use Rattle.pst_ast.specs.BodyView.{view_arguments};
 ghost use Rattle.pst_ast.specs.DeclarationView.{view_answer, view_function, view_unit};
-ghost use Rattle.pst_scope.specs.Declarations.{declarations};
 ghost use Rattle.pst_scope.specs.Uses.{arguments_of};
 ghost use Rattle.pst_type_rules.specs.Sites.{function_of};
 ghost use Rattle.pst_use_rules.specs.Found;
@@ -65,8 +64,7 @@ pub fn call_finding(
     arguments: &Option<ArgumentsNode>,
     needed: bool,
 ) -> Option<Finding>
-    requires declared { facts.now.index.now ≡ declarations (map view_unit facts.now.sites.now) }
-    ensures { result ≡ Found.passes_found (map view_unit facts.now.sites.now) component name (length (arguments_of (option_map view_arguments arguments.now))) needed }
+    ensures { result ≡ Found.passes_found (map view_unit facts.now.sites.now) facts.now.index.now component name (length (arguments_of (option_map view_arguments arguments.now))) needed }
 {
     let arguments = count_of_arguments(arguments);
     match facts.index.type_here(component, name.id) {

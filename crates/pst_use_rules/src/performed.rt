@@ -2,7 +2,6 @@
 ghost use Rattle.std.specs.Prelude.{◌≡◌, map};
 ghost use Rattle.std.specs.Option.{option_map};
 ghost use Rattle.pst_ast.specs.DeclarationView.{view_action, view_unit};
-ghost use Rattle.pst_scope.specs.Declarations.{declarations};
 ghost use Rattle.pst_type_rules.specs.Sites.{action_of};
 ghost use Rattle.pst_use_rules.specs.Found;
 
@@ -30,8 +29,7 @@ pub fn performed_finding(
     place: Place,
     traversal: &Traversal,
 ) -> Option<Finding>
-    requires declared { facts.now.index.now ≡ declarations (map view_unit facts.now.sites.now) }
-    ensures { result ≡ Found.performs_found (map view_unit facts.now.sites.now) facts.now.names.now at.now place traversal.now }
+    ensures { result ≡ Found.performs_found (map view_unit facts.now.sites.now) facts.now.index.now facts.now.names.now at.now place traversal.now }
 {
     match traversed(facts.index, facts.names, at, traversal) {
         None => None,
