@@ -1,0 +1,9 @@
+use Rattle.std.proofs.Common.{◌≡◌, ◌++◌, drop, map}
+use Rattle.pst_range_rules.specs.Facts.{constant_at}
+use Rattle.pst_range_rules.specs.Spans.{as_range, range_span}
+use Rattle.pst_range_rules.proofs.span.add_rest.Given as goal
+
+abbrev pub invariant-loop-next : goal.invariant-loop-next
+invariant-loop-next l =
+    l.found.items ++ map (range_span (constant_at l.facts l.at)) (map as_range (drop l.next-index l.ranges))
+    ≡ l.initial.found.items ++ map (range_span (constant_at l.facts l.at)) (map as_range l.ranges)

@@ -1,0 +1,6 @@
+pub mod Facts
+pub mod Spans
+pub mod Widths
+pub mod Meetings
+pub mod Found
+pub mod Laws

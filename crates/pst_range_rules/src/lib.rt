@@ -1,0 +1,16 @@
+//! What widths, domains and the ranges of matches break.
+#![tactic(auto)]
+
+mod arms;
+mod facts;
+mod laws;
+mod meeting;
+mod place;
+mod plain;
+mod reversed;
+mod span;
+
+pub use arms::arms_finding;
+pub use facts::RangeFacts;
+pub use laws::{arms_are_judged, plain_types_are_judged};
+pub use plain::plain_finding;
