@@ -12,16 +12,19 @@ use pst_name_rules::{binds_finding, instance_within, pool_in, target_of, targets
 use pst_scope::{Checked, Declaration};
 use std::alloc::Global;
 
-// A target, read from its end.
+/// A target, read from its end.
 #[derive(Drop)]
-struct TargetRead {
-    instances: Vec<Name>,
-    action: Name,
-    reference: Name,
+pub struct TargetRead {
+    /// The instances along which it goes.
+    pub instances: Vec<Name>,
+    /// The action type.
+    pub action: Name,
+    /// The reference or claim.
+    pub reference: Name,
 }
 
-// Reads a target from its end: a reference or claim, an action type, and instances.
-fn read_target(alloc: Global, target: &TargetNode) -> Result<TargetRead, NoMemory>
+/// Reads a target from its end: a reference or claim, an action type, and instances.
+pub fn read_target(alloc: Global, target: &TargetNode) -> Result<TargetRead, NoMemory>
     ensures { IfOk result (λ read. (component : Place) (pool : Name) → target_use component pool (view_target target.now) ≡ Targets component pool read.instances.items read.action read.reference) }
 {
     let mut instances = Vec::new(alloc);

@@ -11,4 +11,5 @@ mod judge_uses;
 mod sources;
 
 pub use end::RuleEnd;
+pub use judge_targets::{TargetRead, read_target};
 pub use sources::resolve;

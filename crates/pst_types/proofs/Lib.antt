@@ -1,0 +1,4 @@
+mod BehindPlaces
+mod InOrder
+mod Walked
+mod Least

@@ -1,0 +1,9 @@
+//! The rules of types, and the values of constants.
+#![tactic(auto)]
+
+mod in_order;
+mod judge;
+mod judge_uses;
+mod uses;
+
+pub use pst_type_rules::{ConstantValue, Typed};
