@@ -44,3 +44,7 @@ from_meet (Some s) (Some t) e =
 
 pub to_meet : (s t : Span) (v : ℤ) → IsInSpan v s → IsInSpan v t → have_common s t ≡ true
 to_meet s t v p q = le_test (int_max s.low t.low) (int_min s.high t.high) (between_both s.low t.low s.high t.high v p.0 q.0 p.1 q.1)
+
+pub from_common : (s t : Span) → have_common s t ≡ true → (v : ℤ) × IsInSpan v s × IsInSpan v t
+from_common s t e =
+    let le = by_le (int_max s.low t.low) (int_min s.high t.high) e in (int_max s.low t.low, in_first s.low t.low s.high t.high le, in_second s.low t.low s.high t.high le)

@@ -3,5 +3,11 @@ mod Tests
 mod Fronts
 mod Commons
 mod Apart
+mod Bounds
 mod WidthsJudged
 mod ArmsJudged
+mod Emptiness
+mod PlainEmpty
+mod EnumEmpty
+mod RowEmpty
+mod TypesJudged

@@ -7,4 +7,4 @@ use Rattle.pst_range_rules.specs.declared.facts.RangeFacts.{RangeFacts}
 
 -- the value of a constant
 abbrev pub constant_at : RangeFacts → Environment → ExprTree → Option ℤ
-constant_at f at expr = constant_by f.index.now f.names.now (known_in f.values.now) at expr
+constant_at f at expr = constant_by f.index.now f.names.now (known_in f.enums.now.items) at expr

@@ -1,17 +1,19 @@
 -- Laws of the definitions.
-use Rattle.std.specs.Prelude.{ℕ, ℤ, List, Option}
+use Rattle.std.specs.Prelude.{ℕ, ℤ, List, map, Option}
 use Rattle.pst_base.specs.declared.position.Place.{Place}
-use Rattle.pst_ast.specs.SharedTree.{PlainTree}
+use Rattle.pst_ast.specs.SharedTree.{PlainTree, TypeTree}
 use Rattle.pst_ast.specs.ActivityTree.{ArmLabelTree}
 use Rattle.pst_ast.specs.DeclarationTree.{UnitTree}
 use Rattle.pst_scope.specs.Declarations.{declarations}
 use Rattle.pst_scope.specs.declared.environment.Environment.{Environment}
 use Rattle.pst_scope.specs.declared.referent.Finding.{Finding}
-use Rattle.pst_scope.specs.Uses.{Use, HasPlain, Arms}
+use Rattle.pst_scope.specs.Uses.{Use, HasPlain, HasType, Arms}
+use Rattle.pst_constants.specs.Enums.{enums}
 use Rattle.pst_type_rules.specs.TypeRules.{UseBreaks}
 use Rattle.pst_name_rules.specs.Leasts.{IsLeastOf}
 use Rattle.pst_evaluate.specs.Settled.{AreItemValues}
-use Rattle.pst_range_rules.specs.Found.{plain_found, arms_found}
+use Rattle.pst_enum_values.specs.Gathered.{enum_places}
+use Rattle.pst_range_rules.specs.Found.{arms_found, plain_found, type_found}
 
 -- a use breaks the rule at the place
 abbrev pub IsBrokenBy : List UnitTree → List (List ℕ) → Use → Finding → Type 0
@@ -28,3 +30,9 @@ abbrev pub ArmsAreJudged : Type 0
 ArmsAreJudged =
     (units : List UnitTree) (names : List (List ℕ)) (known : Place → Option ℤ) (at : Environment) (labels : List ArmLabelTree)
     → AreItemValues units names known → IsLeastOf (IsBrokenBy units names (Arms at labels)) (arms_found (declarations units) names known at labels)
+
+-- what is found at the type of a field is the first of what it breaks
+abbrev pub TypesAreJudged : Type 0
+TypesAreJudged =
+    (units : List UnitTree) (names : List (List ℕ)) (known : Place → Option ℤ) (at : Environment) (type : TypeTree)
+    → AreItemValues units names known → IsLeastOf (IsBrokenBy units names (HasType at type)) (type_found (declarations units) (map enum_places (enums units)) names known at type)

@@ -107,7 +107,7 @@ pub fn arms_finding(
     first: &ArmNode,
     rest: &[ArmNode],
 ) -> Result<Option<Finding>, NoMemory>
-    ensures { IfOk result (λ r. r ≡ arms_found facts.now.index.now facts.now.names.now (known_in facts.now.values.now) at.now (arm_label (view_arm first.now) ∷ map (λ a. arm_label (view_arm a)) rest.now)) }
+    ensures { IfOk result (λ r. r ≡ arms_found facts.now.index.now facts.now.names.now (known_in facts.now.enums.now.items) at.now (arm_label (view_arm first.now) ∷ map (λ a. arm_label (view_arm a)) rest.now)) }
 {
     let ranges = ranges_of(facts, at, first, rest)?;
     let reversed = reversed_in(ranges.as_slice());

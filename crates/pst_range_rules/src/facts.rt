@@ -5,7 +5,8 @@ ghost use Rattle.pst_range_rules.specs.Facts.{constant_at};
 
 use pst_ast::ExprNode;
 use pst_base::{Names, NoMemory};
-use pst_evaluate::{ItemValues, constant_value};
+use pst_enum_values::EnumTable;
+use pst_evaluate::constant_value;
 use pst_index::Index;
 use pst_scope::Environment;
 use std::alloc::Global;
@@ -19,8 +20,8 @@ pub struct RangeFacts<'a> {
     pub index: &'a Index,
     /// The texts of names.
     pub names: &'a Names,
-    /// The values of the enum items of the sources.
-    pub values: &'a ItemValues,
+    /// The enums of the sources, with the values of their items.
+    pub enums: &'a EnumTable<'a>,
 }
 
 impl<'a> RangeFacts<'a> {
@@ -28,6 +29,13 @@ impl<'a> RangeFacts<'a> {
     pub fn constant(&self, at: &Environment, expr: &ExprNode) -> Result<Option<i64>, NoMemory>
         ensures { IfOk result (λ r. r ≡ constant_at self.now at.now (view_expr expr.now)) }
     {
-        constant_value(self.alloc, self.index, self.names, self.values, at, expr)
+        constant_value(
+            self.alloc,
+            self.index,
+            self.names,
+            self.enums.values(),
+            at,
+            expr,
+        )
     }
 }

@@ -12,8 +12,8 @@ use pst_name_rules::earlier;
 use pst_scope::Finding;
 use std::alloc::Global;
 
-// Whether two spans have a number in common.
-fn have_common(a: Span, b: Span) -> bool
+/// Whether two spans have a number in common.
+pub fn have_common(a: Span, b: Span) -> bool
     ensures { result ≡ have_common a b }
 {
     a.low.max(b.low) <= a.high.min(b.high)

@@ -114,7 +114,7 @@ pub fn plain_finding(
     at: &Environment,
     plain: &PlainNode,
 ) -> Result<Option<Finding>, NoMemory>
-    ensures { IfOk result (λ r. r ≡ plain_found facts.now.index.now facts.now.names.now (known_in facts.now.values.now) at.now (view_plain plain.now)) }
+    ensures { IfOk result (λ r. r ≡ plain_found facts.now.index.now facts.now.names.now (known_in facts.now.enums.now.items) at.now (view_plain plain.now)) }
 {
     match plain {
         PlainNode::Int { int, width } => width_finding(facts, at, 2, *int, width),

@@ -1,0 +1,9 @@
+use Rattle.std.proofs.Common.{◌≡◌, ℤ, int_lt, pos, true, subst}
+use Rattle.std.proofs.lemmas.Int.{to_z-of_z}
+use Rattle.pst_range_rules.proofs.Bounds.{signed_wide}
+use Rattle.pst_range_rules.proofs.Tests.{by_lt}
+use Rattle.pst_range_rules.proofs.base.signed_bounds.Goals as goal
+
+pub returns-then-width-gt63 : goal.returns-then-width-gt63
+returns-then-width-gt63 c =
+    signed_wide c.args.width (by_lt (pos 63) c.args.width (subst (λ (z : ℤ). int_lt (pos 63) z ≡ true) (to_z-of_z _ c.args.width c.ranges.width) c.if-width-gt63.true))
