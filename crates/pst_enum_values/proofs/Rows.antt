@@ -1,5 +1,5 @@
 -- The row of an enum, by the place of its name.
-use Rattle.std.proofs.Common.{◌≡◌, ℕ, zero, suc, Bool, true, false, List, [], ◌∷◌, ◌++◌, ◌+◌, ◌<◌, length, take, get_or, map, Option, refl, sym, ap, subst, ◌∙◌}
+use Rattle.std.proofs.Common.{◌≡◌, ℕ, suc, Bool, true, false, List, [], ◌∷◌, ◌++◌, ◌+◌, ◌<◌, length, take, get_or, map, Option, refl, sym, ap, subst, ◌∙◌}
 use Rattle.std.specs.Prelude.{ℤ, Some, None, slice_get, if◌then◌else◌}
 use Rattle.std.specs.List.{AllZip, find}
 use Rattle.std.specs.List.Sorted.{IsPermutation}
@@ -45,7 +45,7 @@ module _ (k : Kept) (p : Place) where
   found_if : (e : EnumSite) (es : List EnumSite) (row : EnumRow) (rows : List EnumRow) (b : Bool) → IsRowOf k e row
       → IsFound (known_in k) (find (λ (d : EnumPlaces). same_place d.name p) (map places_of_site es)) (option_and_then (slice_get rows) (number_from 0 (map (λ (s : EnumSite). s.node.now.name.place) es) p))
       → IsFound (known_in k) (if b then Some (places_of_site e) else find (λ (d : EnumPlaces). same_place d.name p) (map places_of_site es))
-        (option_and_then (slice_get (row ∷ rows)) (if b then Some 0 else number_from 1 (map (λ (s : EnumSite). s.node.now.name.place) es) p))
+      (option_and_then (slice_get (row ∷ rows)) (if b then Some 0 else number_from 1 (map (λ (s : EnumSite). s.node.now.name.place) es) p))
   found_if e es row rows true here later = here
   found_if e es row rows false here later =
       subst (λ (o : Option EnumRow). IsFound (known_in k) (find (λ (d : EnumPlaces). same_place d.name p) (map places_of_site es)) o)

@@ -1,6 +1,6 @@
 -- The values of the items of enums, by those that are known.
 use Rattle.std.specs.Prelude.{◌≡◌, ℕ, ◌≤◌, ◌<◌, ℤ, ◌≤ℤ◌, int_le, Bool, ◌&&◌, List, ◌∷◌, map, length, Option, is_some, slice_index_or}
-use Rattle.std.specs.List.{flat_map, list_all, list_any}
+use Rattle.std.specs.List.{flat_map, list_all}
 use Rattle.std.specs.List.Sorted.{IsPermutation}
 use Rattle.std.specs.Option.{option_to_list}
 use Rattle.pst_base.specs.declared.position.Place.{Place}

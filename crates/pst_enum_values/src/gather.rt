@@ -11,11 +11,7 @@ use pst_base::{NoMemory, Place};
 use pst_evaluate::ItemValues;
 
 // Adds the value of an item, and says whether it has one.
-fn add_value(
-    values: &ItemValues,
-    found: &mut Vec<i64>,
-    place: Place,
-) -> Result<bool, NoMemory>
+fn add_value(values: &ItemValues, found: &mut Vec<i64>, place: Place) -> Result<bool, NoMemory>
     ensures added { OnOk result (found.new.items ≡ found.old.items ++ option_to_list (known_in values.now place)) }
     ensures known { IfOk result (λ known. known ≡ is_some (known_in values.now place)) }
 {

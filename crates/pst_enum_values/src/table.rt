@@ -64,11 +64,7 @@ fn rows_of(
 }
 
 // The row with the number of a place.
-fn row_at<'a>(
-    rows: &'a [EnumValues],
-    places: &PlaceList,
-    place: Place,
-) -> Option<&'a EnumValues>
+fn row_at<'a>(rows: &'a [EnumValues], places: &PlaceList, place: Place) -> Option<&'a EnumValues>
     ensures { option_map (λ r. r.now) result ≡ option_and_then (slice_get rows.now) (number_in places.now place) }
 {
     let number = places.number(place)?;

@@ -1,4 +1,4 @@
-use Rattle.std.proofs.Common.{◌≡◌, rules, arith, sym, int_le, get_or, pos, w64, FitsSigned}
+use Rattle.std.proofs.Common.{rules, arith, sym, get_or, pos, w64, FitsSigned}
 use Rattle.std.proofs.lemmas.Int.{to_z-of_z}
 use Rattle.pst_enum_values.proofs.Ascending.{any_inside, none_inside}
 use Rattle.pst_enum_values.proofs.row.has_inside.Goals as goal

@@ -1,4 +1,4 @@
-use Rattle.std.proofs.Common.{List, Option, ap, subst, ◌∙◌}
+use Rattle.std.proofs.Common.{List, ap, subst, ◌∙◌}
 use Rattle.std.specs.Prelude.{slice_get}
 use Rattle.std.specs.Option.{option_and_then, option_map}
 use Rattle.pst_places.specs.Numbers.{number_in}
