@@ -1,7 +1,14 @@
 //! What enums and declarations break of the rules of types.
 #![tactic(auto)]
 
+mod counted;
 mod enums;
+mod fields;
 mod first_place;
+mod grouped;
+mod member;
+mod shape;
+mod sources;
+mod tally;
 
 pub use enums::enums_finding;
