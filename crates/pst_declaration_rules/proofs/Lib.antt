@@ -1,3 +1,10 @@
 mod SameSeen
 mod Judged
 mod EnumsJudged
+mod Grouping
+mod Tallying
+mod Judging
+mod Overrun
+mod FieldsCounted
+mod BasesFound
+mod Needs

@@ -6,3 +6,5 @@ pub mod Grouped
 pub mod Shapes
 pub mod Tallies
 pub mod Tallied
+pub mod Findings
+pub mod Judged

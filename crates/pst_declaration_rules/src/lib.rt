@@ -4,11 +4,13 @@
 mod counted;
 mod enums;
 mod fields;
+mod findings;
 mod first_place;
 mod grouped;
 mod member;
 mod shape;
 mod sources;
+mod tallies;
 mod tally;
 
 pub use enums::enums_finding;
