@@ -17,11 +17,11 @@ use Rattle.pst_declaration_rules.proofs.Tallying.{none_is_some, some_is}
 
 find_in : (p : Declaration → Bool) (xs : List Declaration) (x : Declaration) → find p xs ≡ Some x → Contains xs x
 find_in p [] x e = absurd (none_is_some x e)
-find_in p (y ∷ ys) x e = by (p y) e
+find_in p (y ∷ ys) x e = by (find_in p ys x) (p y) e
   where
-    by : (b : Bool) → cond b (Some y) (find p ys) ≡ Some x → Contains (y ∷ ys) x
-    by true is = subst (Contains (y ∷ ys)) (some_is y x is) (cons_first y ys)
-    by false is = cons_rest y x ys (find_in p ys x is)
+    by : (find p ys ≡ Some x → Contains ys x) → (b : Bool) → cond b (Some y) (find p ys) ≡ Some x → Contains (y ∷ ys) x
+    by rest true is = subst (Contains (y ∷ ys)) (some_is y x is) (cons_first y ys)
+    by rest false is = cons_rest y x ys (rest is)
 
 or_cases : (a b : Option Declaration) (x : Declaration) → option_or a b ≡ Some x → (a ≡ Some x) ⊎ (b ≡ Some x)
 or_cases None b x e = inr e

@@ -22,7 +22,7 @@ use Rattle.pst_declaration_rules.proofs.Tallying.{none_is_some, some_is}
 
 -- ---- a type has one list of members
 
-members_one : (ds : List Declaration) (d e : Declaration) (ms ns : List Declaration) → AreMembers ds d ms → AreMembers ds e ns → d ≡ e → ms ≡ ns
+pub members_one : (ds : List Declaration) (d e : Declaration) (ms ns : List Declaration) → AreMembers ds d ms → AreMembers ds e ns → d ≡ e → ms ≡ ns
 members_one ds _ _ _ _ (WithoutBase d a) (WithoutBase e b) same = ap (own_members ds) same
 members_one ds _ _ _ _ (WithoutBase d a) (WithBase e base ns b has) same = absurd (none_is_some base (sym a ∙ (ap (base_of ds) same ∙ b)))
 members_one ds _ _ _ _ (WithBase d base ms a has) (WithoutBase e b) same = absurd (none_is_some base (sym b ∙ (ap (base_of ds) (sym same) ∙ a)))

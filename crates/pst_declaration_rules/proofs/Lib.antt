@@ -4,7 +4,11 @@ mod EnumsJudged
 mod Grouping
 mod Tallying
 mod Judging
+mod Splits
 mod Overrun
 mod FieldsCounted
 mod BasesFound
 mod Needs
+mod OwnBreaks
+mod BreaksFound
+mod DeclarationsJudged

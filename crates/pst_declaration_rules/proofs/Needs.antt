@@ -50,12 +50,12 @@ module _ (kd : Kind) (k : TypeSources) (one : (d : Declaration) → weight kd (a
   -- where one is among them, there is one
   pub one_there : (ds : List Declaration) (m : Declaration) → Contains ds m → is_of kd m.sort ≡ true → is_positive (total kd (Some 0) (map (adding k) ds)) ≡ true
   one_there [] m among is = absurd (none_in m among)
-  one_there (d ∷ ds) m among is = by (is_of kd d.sort) refl
+  one_there (d ∷ ds) m among is = by (λ there. one_there ds m there is) (is_of kd d.sort) refl
     where
-      by : (b : Bool) → is_of kd d.sort ≡ b → is_positive (total kd (plus (most_of kd) (Some 0) (weight kd (adding k d))) (map (adding k) ds)) ≡ true
-      by true here = ap is_positive (sym (after_step d ds true here)) ∙ positive_of _ (grows 1 ds)
-      by false here = ap is_positive (sym (after_step d ds false here)) ∙ one_there ds m
-          (⊎_elim (λ same. absurd (true≢false (sym is ∙ (ap (λ (x : Declaration). is_of kd x.sort) (sym same) ∙ here)))) (λ there. there) (cons_cases d m ds among)) is
+      by : (Contains ds m → is_positive (total kd (Some 0) (map (adding k) ds)) ≡ true) → (b : Bool) → is_of kd d.sort ≡ b → is_positive (total kd (plus (most_of kd) (Some 0) (weight kd (adding k d))) (map (adding k) ds)) ≡ true
+      by rest true here = ap is_positive (sym (after_step d ds true here)) ∙ positive_of _ (grows 1 ds)
+      by rest false here = ap is_positive (sym (after_step d ds false here)) ∙ rest
+          (⊎_elim (λ same. absurd (true≢false (sym is ∙ (ap (λ (x : Declaration). is_of kd x.sort) (sym same) ∙ here)))) (λ there. there) (cons_cases d m ds among))
 
   pub record HasOne (ds : List Declaration) : Type 0 where
     pub m : Declaration
@@ -64,10 +64,10 @@ module _ (kd : Kind) (k : TypeSources) (one : (d : Declaration) → weight kd (a
 
   pub has_one : (ds : List Declaration) → is_positive (total kd (Some 0) (map (adding k) ds)) ≡ true → HasOne ds
   has_one [] e = absurd (true≢false (sym e))
-  has_one (d ∷ ds) e = by (is_of kd d.sort) refl
+  has_one (d ∷ ds) e = by (has_one ds) (is_of kd d.sort) refl
     where
-      by : (b : Bool) → is_of kd d.sort ≡ b → HasOne (d ∷ ds)
-      by true here = record { m = d; among = cons_first d ds; is = here }
-      by false here =
-          let r = has_one ds (ap is_positive (after_step d ds false here) ∙ e) in
+      by : (is_positive (total kd (Some 0) (map (adding k) ds)) ≡ true → HasOne ds) → (b : Bool) → is_of kd d.sort ≡ b → HasOne (d ∷ ds)
+      by rest true here = record { m = d; among = cons_first d ds; is = here }
+      by rest false here =
+          let r = rest (ap is_positive (after_step d ds false here) ∙ e) in
           record { m = r.m; among = cons_rest d r.m ds r.among; is = r.is }

@@ -11,6 +11,7 @@ use Rattle.pst_declaration_rules.specs.declared.member.Member.{Member}
 use Rattle.pst_declaration_rules.specs.declared.sources.TypeSources.{TypeSources}
 use Rattle.pst_declaration_rules.specs.Counted.{exceeds, is_of, most_of, one_or_none, over, plus, total, weight}
 use Rattle.pst_declaration_rules.specs.Tallied.{adding}
+use Rattle.pst_declaration_rules.proofs.Splits.{was_split}
 use Rattle.pst_declaration_rules.proofs.Tallying.{none_is_some, some_is}
 
 -- ---- tests
@@ -220,62 +221,10 @@ module _ (kd : Kind) where
       pub many_of_split : (ds : List Declaration) (g : Finding) → IsSplit (Some 0) ds g → IsMany ds g
       many_of_split ds g s = many_by ds g s (test s.m) refl
 
-      -- ---- back
-
-      record WasSplit (ds front : List Declaration) (m : Declaration) : Type 0 where
-        before : List Declaration
-        behind : List Declaration
-        split : ds ≡ before ++ m ∷ behind
-        kept : filter test before ≡ front
-        passes : test m ≡ true
-
-      head_or : Declaration → List Declaration → Declaration
-      head_or d [] = d
-      head_or d (x ∷ xs) = x
-
-      tail_of : List Declaration → List Declaration
-      tail_of [] = []
-      tail_of (x ∷ xs) = xs
-
-      abbrev Back : List Declaration → Type 0
-      Back ds = (front more : List Declaration) (m : Declaration) → filter test ds ≡ front ++ m ∷ more → WasSplit ds front m
-
-      was_first : (d : Declaration) (ds : List Declaration) → Back ds → (front more : List Declaration) (m : Declaration) → test d ≡ true → d ∷ filter test ds ≡ front ++ m ∷ more → WasSplit (d ∷ ds) front m
-      unfolding head_or tail_of
-      was_first d ds back [] more m is e =
-          let same : d ≡ m = ap (head_or d) e in
-          record { before = []; behind = ds; split = ap (λ x. x ∷ ds) same; kept = refl; passes = subst (λ x. test x ≡ true) same is }
-      was_first d ds back (x ∷ front) more m is e =
-          let r = back front more m (ap tail_of e) in
-          let same : d ≡ x = ap (head_or d) e in
-          record {
-            before = d ∷ r.before; behind = r.behind; split = ap (λ xs. d ∷ xs) r.split;
-            kept = ap (λ (b : Bool). cond b (d ∷ filter test r.before) (filter test r.before)) is ∙ (ap (λ xs. d ∷ xs) r.kept ∙ ap (λ y. y ∷ front) same);
-            passes = r.passes;
-          }
-
-      was_by : (d : Declaration) (ds : List Declaration) → Back ds → (front more : List Declaration) (m : Declaration) (b : Bool) → test d ≡ b → cond b (d ∷ filter test ds) (filter test ds) ≡ front ++ m ∷ more → WasSplit (d ∷ ds) front m
-      was_by d ds back front more m true is e = was_first d ds back front more m is e
-      was_by d ds back front more m false is e =
-          let r = back front more m e in
-          record {
-            before = d ∷ r.before; behind = r.behind; split = ap (λ xs. d ∷ xs) r.split;
-            kept = ap (λ (b : Bool). cond b (d ∷ filter test r.before) (filter test r.before)) is ∙ r.kept;
-            passes = r.passes;
-          }
-
-      nothing_split : (front more : List Declaration) (m : Declaration) → [] ≡ front ++ m ∷ more → ⊥
-      nothing_split [] more m e = absurd (omega (arith, ap length e))
-      nothing_split (x ∷ front) more m e = absurd (omega (arith, ap length e))
-
-      was_split : (ds : List Declaration) → Back ds
-      was_split [] front more m e = absurd (nothing_split front more m e)
-      was_split (d ∷ ds) front more m e = was_by d ds (was_split ds) front more m (test d) refl e
-
       -- with the first behind as many as there may be, there are too many
       pub too_many : (ds front more : List Declaration) (m : Declaration) → filter test ds ≡ front ++ m ∷ more → length front ≡ most_of kd → over kd (Some 0) (map (adding k) ds) ≡ finding m.name.place 12
       too_many ds front more m e count =
-          let r = was_split ds front more m e in
+          let r = was_split test ds front more m e in
           let few : length (filter test r.before) ≡ most_of kd = ap length r.kept ∙ count in
           ap (λ xs. over kd (Some 0) (map (adding k) xs)) r.split
           ∙ finds (Some 0) r.before r.behind m (record {

@@ -54,11 +54,11 @@ pub total_append : (k : Kind) (sum : Option ℕ) (xs ys : List Member) → total
 total_append k sum [] ys = refl
 total_append k sum (x ∷ xs) ys = total_append k (plus (most_of k) sum (weight k x)) xs ys
 
-map_both : {X Y : Type 0} (f : X → Y) (xs ys : List X) → map f (xs ++ ys) ≡ map f xs ++ map f ys
+pub map_both : {X Y : Type 0} (f : X → Y) (xs ys : List X) → map f (xs ++ ys) ≡ map f xs ++ map f ys
 map_both f [] ys = refl
 map_both f (x ∷ xs) ys = ap (λ zs. f x ∷ zs) (map_both f xs ys)
 
-total_of_both : (k : Kind) (f : Declaration → Member) (start : Option ℕ) (xs ys : List Declaration) → start ≡ total k (Some 0) (map f xs) → total k start (map f ys) ≡ total k (Some 0) (map f (xs ++ ys))
+pub total_of_both : (k : Kind) (f : Declaration → Member) (start : Option ℕ) (xs ys : List Declaration) → start ≡ total k (Some 0) (map f xs) → total k start (map f ys) ≡ total k (Some 0) (map f (xs ++ ys))
 total_of_both k f start xs ys is =
     ap (λ (n : Option ℕ). total k n (map f ys)) is
     ∙ (sym (total_append k (Some 0) (map f xs) (map f ys)) ∙ ap (total k (Some 0)) (sym (map_both f xs ys)))
@@ -118,7 +118,7 @@ module _ (k : TypeSources) (known : AreKnown k) (d : Declaration) (inherited : B
 -- ---- one type more
 
 module _ (k : TypeSources) (known : AreKnown k) (d : Declaration) (t : Tally) (start : IsStart k d t) where
-  members_by : (members : List Declaration) → AreInherited k d members → AreMembers k.index.now d (members ++ own_members k.index.now d)
+  pub members_by : (members : List Declaration) → AreInherited k d members → AreMembers k.index.now d (members ++ own_members k.index.now d)
   members_by _ (NoBase is) = WithoutBase d is
   members_by _ (OfBase base members is are) = WithBase d base members is are
 

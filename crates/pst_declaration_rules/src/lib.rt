@@ -2,6 +2,7 @@
 #![tactic(auto)]
 
 mod counted;
+mod declarations;
 mod enums;
 mod fields;
 mod findings;
@@ -13,4 +14,5 @@ mod sources;
 mod tallies;
 mod tally;
 
+pub use declarations::declarations_finding;
 pub use enums::enums_finding;
