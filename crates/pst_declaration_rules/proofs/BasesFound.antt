@@ -1,18 +1,17 @@
 -- Bases are among the declarations.
-use Rattle.std.proofs.Common.{◌≡◌, ◌⊎◌, inl, inr, ⊎_elim, Bool, true, false, ◌&&◌, cond, List, [], ◌∷◌, Option, refl, sym, ap, subst, ◌∙◌}
+use Rattle.std.proofs.Common.{◌≡◌, ◌⊎◌, inl, inr, ⊎_elim, Bool, true, false, ◌&&◌, cond, List, [], ◌∷◌, Option, refl, subst}
 use Rattle.std.specs.Prelude.{Some, None, Contains, if◌then◌else◌}
 use Rattle.std.specs.List.{find}
 use Rattle.std.specs.Option.{option_and_then, option_or}
 use Rattle.pst_base.specs.declared.position.Place.{Place}
 use Rattle.pst_base.specs.declared.table.NameId.{NameId}
 use Rattle.pst_ast.specs.declared.leaf.Name.{Name}
-use Rattle.pst_ast.specs.declared.shared.TypeName.{TypeName}
 use Rattle.pst_scope.specs.declared.declaration.Declaration.{Declaration}
 use Rattle.pst_scope.specs.declared.declaration.Scope.{Scope}
 use Rattle.pst_scope.specs.declared.declaration.Scope.TheVariants.{Files, Part}
 use Rattle.pst_scope.specs.Lookups.{action_beside, base_in, base_of, component_named, look_up, second_of, type_by, type_here, type_named}
 use Rattle.pst_scope.specs.Sorts.{is_action, same_name, same_scope}
-use Rattle.pst_declaration_rules.proofs.Judged.{cons_first, cons_rest, none_in}
+use Rattle.pst_declaration_rules.proofs.Judged.{cons_first, cons_rest}
 use Rattle.pst_declaration_rules.proofs.Tallying.{none_is_some, some_is}
 
 find_in : (p : Declaration → Bool) (xs : List Declaration) (x : Declaration) → find p xs ≡ Some x → Contains xs x

@@ -1,6 +1,6 @@
 -- What a declaration breaks is found, of it or of one of its bases.
-use Rattle.std.proofs.Common.{◌≡◌, ◌⊎◌, inl, inr, ⊎_elim, ℕ, zero, suc, ◌+◌, ◌<◌, ◌≤◌, Bool, true, false, ◌&&◌, ◌||◌, nat_lt, List, [], ◌∷◌, ◌++◌, map, length, Option, refl, sym, ap, subst, ◌∙◌, arith, true≢false}
-use Rattle.std.specs.Prelude.{Some, None, Contains, if◌then◌else◌, IsTrue}
+use Rattle.std.proofs.Common.{◌≡◌, ◌⊎◌, inl, inr, ⊎_elim, ℕ, ◌+◌, ◌<◌, ◌≤◌, Bool, true, false, ◌&&◌, ◌||◌, nat_lt, List, [], ◌∷◌, ◌++◌, map, length, Option, refl, sym, ap, subst, ◌∙◌, arith, true≢false}
+use Rattle.std.specs.Prelude.{Some, None, Contains, if◌then◌else◌}
 use Rattle.std.specs.Bool.{beq}
 use Rattle.std.specs.List.{filter}
 use Rattle.std.specs.Option.{option_map, option_map_or}
@@ -11,10 +11,10 @@ use Rattle.pst_scope.specs.declared.declaration.Sort.{Sort}
 use Rattle.pst_scope.specs.declared.declaration.Sort.TheVariants as sort
 use Rattle.pst_scope.specs.declared.referent.Finding.{Finding}
 use Rattle.pst_scope.specs.Declarations.{declarations}
-use Rattle.pst_scope.specs.Lookups.{base_of, type_in, type_of}
+use Rattle.pst_scope.specs.Lookups.{type_in, type_of}
 use Rattle.pst_scope.specs.NameRules.{finding}
 use Rattle.pst_scope.specs.Sorts.{is_claim, is_field, is_item, is_need, is_reference, is_resource, same_place}
-use Rattle.pst_type_rules.specs.Limits.{AddTogether, AddsFields, Claims, IsLimited, Items, Locals, Parameters, References, is_local, is_local_of, is_parameter, most_items}
+use Rattle.pst_type_rules.specs.Limits.{AddTogether, AddsFields, Claims, IsLimited, Items, Locals, Parameters, References, is_local, is_local_of, is_parameter}
 use Rattle.pst_type_rules.specs.Members.{AreMembers, WithoutBase, WithBase, activities_of, bodies_of, own_members, those_that}
 use Rattle.pst_type_rules.specs.Sites.{DeclaredAction, action_at}
 use Rattle.pst_type_rules.specs.TypeRules.{ActivityAndBody, ClaimOfNoResource, CompoundWithNeed, DeclarationBreaks, ManyFields, ReferenceOfResource, TooMany, TwoActivities, TwoBodies}
@@ -23,11 +23,10 @@ use Rattle.pst_evaluate.specs.Laws.{ConstantsAreFound}
 use Rattle.pst_name_rules.specs.Leasts.{IsIn}
 use Rattle.pst_declaration_rules.specs.declared.counted.Kind.{Kind}
 use Rattle.pst_declaration_rules.specs.declared.counted.Kind.TheVariants as kind
-use Rattle.pst_declaration_rules.specs.declared.shape.Shape.{Shape}
 use Rattle.pst_declaration_rules.specs.declared.sources.TypeSources.{TypeSources}
 use Rattle.pst_declaration_rules.specs.declared.tally.Tally.{Tally}
-use Rattle.pst_declaration_rules.specs.Counted.{most_of, over, total, weight}
-use Rattle.pst_declaration_rules.specs.Findings.{activity_finding, findings, is_positive, resource_by, resource_finding, unless_resource}
+use Rattle.pst_declaration_rules.specs.Counted.{over, total}
+use Rattle.pst_declaration_rules.specs.Findings.{activity_finding, findings, is_positive, resource_by, resource_finding}
 use Rattle.pst_declaration_rules.specs.Judged.{BreaksItself, findings_at, locals_of, own_of, shape_in}
 use Rattle.pst_declaration_rules.specs.Shapes.{is_twofold, shape_of}
 use Rattle.pst_declaration_rules.specs.Tallies.{with_own}
@@ -36,9 +35,9 @@ use Rattle.pst_declaration_rules.proofs.BasesFound.{base_there}
 use Rattle.pst_declaration_rules.proofs.FieldsCounted.{adds_from, apart}
 use Rattle.pst_declaration_rules.proofs.Judging.{inherited_one, members_one}
 use Rattle.pst_declaration_rules.proofs.Needs.{one_there}
-use Rattle.pst_declaration_rules.proofs.Overrun.{Exceeds, finds, lt_is, over_cases, too_many}
+use Rattle.pst_declaration_rules.proofs.Overrun.{finds, lt_is, over_cases, too_many}
 use Rattle.pst_declaration_rules.proofs.Splits.{filter_again, was_split}
-use Rattle.pst_declaration_rules.proofs.Tallying.{map_both, none_is_some, some_is, tallied}
+use Rattle.pst_declaration_rules.proofs.Tallying.{map_both, some_is, tallied}
 
 or_left : (a b : Bool) → a ≡ true → (a || b) ≡ true
 or_left true b e = refl

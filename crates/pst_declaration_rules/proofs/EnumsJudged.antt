@@ -2,14 +2,12 @@
 use Rattle.std.proofs.Common.{◌≡◌, ◌⊎◌, inl, inr, ⊎_elim, ℕ, Bool, true, false, ◌||◌, ◌&&◌, not, List, [], ◌∷◌, ◌++◌, append_assoc, Option, refl, sym, ap, subst, ◌∙◌, arith, true≢false}
 use Rattle.std.specs.Prelude.{ℤ, pos, ◌≤ℤ◌, int_lt, map, Some, None, Contains, is_some, if◌then◌else◌}
 use Rattle.std.specs.Option.{option_map, option_map_or}
-use Rattle.std.specs.Ordering.{int_eq}
 use Rattle.std.proofs.lemmas.Int.{ints}
 use Rattle.std.proofs.lemmas.Bool.Decides.{Decides-int_eq}
 use Rattle.std.proofs.lemmas.List.Elements.{Contains-append_left, Contains-append_right, Contains-push, Contains-push_cases}
 use Rattle.pst_base.specs.declared.position.Place.{Place}
 use Rattle.pst_base.specs.Laws.{BeforeGoesOn}
 use Rattle.pst_ast.specs.declared.leaf.Name.{Name}
-use Rattle.pst_ast.specs.ExpressionTree.{ExprTree}
 use Rattle.pst_ast.specs.DeclarationTree.{UnitTree, EnumTree, MakeEnum, EnumItemTree, MakeEnumItem, EnumValueTree}
 use Rattle.pst_ast.specs.DeclarationView.{view_enum}
 use Rattle.pst_expr.specs.Spans.{IsInSpan}
@@ -17,7 +15,6 @@ use Rattle.pst_scope.specs.declared.referent.Finding.{Finding}
 use Rattle.pst_scope.specs.Declarations.{next_item}
 use Rattle.pst_scope.specs.NameRules.{finding}
 use Rattle.pst_constants.specs.Enums.{DeclaredEnum, DeclaredItem, enum_of, enums, expr_in, items_behind}
-use Rattle.pst_constants.specs.Constants.{IsItemValue}
 use Rattle.pst_type_rules.specs.Limits.{enum_values}
 use Rattle.pst_type_rules.specs.Places.{expr_place}
 use Rattle.pst_type_rules.specs.TypeRules.{EnumBreaks, ItemOutside, SameValue, item_place}
@@ -28,7 +25,7 @@ use Rattle.pst_name_rules.proofs.Leasts.{least_in, same_some, some_is_none, told
 use Rattle.pst_sites.specs.declared.site.EnumSite.{EnumSite}
 use Rattle.pst_sites.specs.Sited.{view_enum_site}
 use Rattle.pst_declaration_rules.specs.Breaches.{IsEnumBreach}
-use Rattle.pst_declaration_rules.specs.Enums.{enum_least, has_value, is_outside, is_value, least_of_items, name_place, place_of_tree, place_of_value, seen_finding, tree_finding}
+use Rattle.pst_declaration_rules.specs.Enums.{enum_least, is_outside, is_value, least_of_items, name_place, place_of_value, seen_finding}
 use Rattle.pst_declaration_rules.proofs.Judged.{cons_cases, cons_first, cons_rest, least_of_each, none_in}
 
 -- ---- tests

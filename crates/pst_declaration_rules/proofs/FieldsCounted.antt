@@ -1,14 +1,12 @@
 -- The fields that declarations add, as they are counted.
-use Rattle.std.proofs.Common.{◌≡◌, ◌⊎◌, inl, inr, ⊎_elim, ◌↔◌, ℕ, ◌+◌, ◌<◌, ◌≤◌, Bool, true, false, ◌&&◌, nat_le, cond, List, [], ◌∷◌, ◌++◌, map, length, Option, refl, sym, ap, subst, ◌∙◌, arith, true≢false}
+use Rattle.std.proofs.Common.{◌≡◌, ⊎_elim, ℕ, ◌+◌, ◌≤◌, Bool, true, false, ◌&&◌, nat_le, cond, List, [], ◌∷◌, map, length, Option, refl, sym, ap, subst, ◌∙◌, arith, true≢false}
 use Rattle.std.specs.Prelude.{ℤ, pos, negsuc, Some, None, if◌then◌else◌}
-use Rattle.std.specs.List.{filter}
 use Rattle.std.specs.Option.{option_map}
 use Rattle.std.proofs.lemmas.Bool.{leb-true}
 use Rattle.pst_ast.specs.ExpressionTree.{ExprTree}
 use Rattle.pst_model.specs.Limits.{most_elements, most_fields}
 use Rattle.pst_scope.specs.declared.declaration.Declaration.{Declaration}
 use Rattle.pst_scope.specs.declared.environment.Environment.{Environment}
-use Rattle.pst_scope.specs.Declarations.{declarations}
 use Rattle.pst_scope.specs.Sorts.{is_field}
 use Rattle.pst_constants.specs.Constants.{IsConstant}
 use Rattle.pst_type_rules.specs.Limits.{AddsFields, One, Array, WrongArray, AddTogether, Nothing, More}
@@ -174,7 +172,8 @@ module _ (k : TypeSources) (known : AreKnown k) (law : ConstantsAreFound) where
   unfolding head_or tail_of
   more_of d ds _ _ Nothing e = absurd (omega (arith, ap length e))
   more_of d ds _ _ (More x xs n m adds rest) e = record {
-    first = n; rest = m;
+    first = n;
+    rest = m;
     adds = subst (λ (y : Declaration). Adds y n) (ap (head_or d) e) adds;
     together_rest = subst (λ (ys : List Declaration). Together ys m) (ap tail_of e) rest;
     sum = refl;

@@ -12,9 +12,7 @@ use Rattle.pst_scope.specs.declared.declaration.Scope.{Scope}
 use Rattle.pst_scope.specs.declared.declaration.Scope.TheVariants.{Files, Part}
 use Rattle.pst_scope.specs.Sorts.{same_place, same_scope}
 use Rattle.pst_type_rules.specs.Limits.{is_local, is_local_of}
-use Rattle.pst_type_rules.specs.Members.{own_members}
 use Rattle.pst_declaration_rules.specs.declared.grouped.By.TheVariants.{OwnScope, OwnText}
-use Rattle.pst_declaration_rules.specs.declared.grouped.PlaceKey.{PlaceKey}
 use Rattle.pst_declaration_rules.specs.declared.member.Member.{Member}
 use Rattle.pst_declaration_rules.specs.declared.sources.TypeSources.{TypeSources}
 use Rattle.pst_declaration_rules.specs.Grouped.{has_key, items_at, key_of_scope, place_key, same_key}

@@ -1,6 +1,6 @@
 -- The least of what is found at the items of a list, where at each the least of its breaches is found.
 use Rattle.std.proofs.Common.{◌≡◌, ◌⊎◌, inl, inr, ⊎_elim, List, [], ◌∷◌, Option, sym, subst}
-use Rattle.std.specs.Prelude.{Some, None, Contains}
+use Rattle.std.specs.Prelude.{None, Contains}
 use Rattle.pst_base.specs.Laws.{BeforeGoesOn}
 use Rattle.pst_scope.specs.declared.referent.Finding.{Finding}
 use Rattle.pst_name_rules.specs.Earlier.{earlier}

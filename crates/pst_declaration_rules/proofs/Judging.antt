@@ -1,7 +1,7 @@
 -- The least of what declarations break, one after another.
 use Rattle.std.proofs.lemmas.List.{take_more}
-use Rattle.std.proofs.Common.{◌≡◌, ◌+◌, ◌<◌, arith, take, get_or, length, ◌⊎◌, inl, inr, ⊎_elim, Bool, true, false, List, [], ◌∷◌, ◌++◌, Option, refl, sym, ap, subst, ◌∙◌, true≢false}
-use Rattle.std.specs.Prelude.{ℕ, Some, None, Contains, IsTrue, map}
+use Rattle.std.proofs.Common.{◌≡◌, ◌+◌, ◌<◌, take, get_or, length, ◌⊎◌, inl, inr, ⊎_elim, Bool, true, false, List, [], ◌∷◌, ◌++◌, Option, refl, sym, ap, subst, ◌∙◌}
+use Rattle.std.specs.Prelude.{ℕ, Some, None, Contains, map}
 use Rattle.pst_declaration_rules.specs.declared.counted.Kind.TheVariants.{Claim, Field, Reference}
 use Rattle.pst_declaration_rules.specs.Counted.{total}
 use Rattle.std.proofs.lemmas.List.Elements.{Contains-append_left, Contains-push, Contains-push_cases}
@@ -16,7 +16,7 @@ use Rattle.pst_name_rules.proofs.Leasts.{least_in, least_of_both, told}
 use Rattle.pst_declaration_rules.specs.declared.sources.TypeSources.{TypeSources}
 use Rattle.pst_declaration_rules.specs.declared.tally.Tally.{Tally}
 use Rattle.pst_declaration_rules.specs.Judged.{BreaksItself, IsJudged, IsOwnFinding, findings_at, least_finding}
-use Rattle.pst_declaration_rules.specs.Tallied.{AreInherited, BaseHas, adding, IsStart, NoBase, OfBase}
+use Rattle.pst_declaration_rules.specs.Tallied.{AreInherited, adding, IsStart, NoBase, OfBase}
 use Rattle.pst_declaration_rules.proofs.Judged.{none_in}
 use Rattle.pst_declaration_rules.proofs.Tallying.{none_is_some, some_is}
 

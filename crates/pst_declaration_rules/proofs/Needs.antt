@@ -1,15 +1,14 @@
 -- Whether there is one of what is counted.
-use Rattle.std.proofs.Common.{◌≡◌, ◌⊎◌, inl, inr, ⊎_elim, ℕ, zero, suc, ◌+◌, ◌<◌, ◌≤◌, Bool, true, false, nat_lt, List, [], ◌∷◌, map, Option, refl, sym, ap, subst, ◌∙◌, arith, true≢false}
-use Rattle.std.specs.Prelude.{Some, None, Contains, if◌then◌else◌}
+use Rattle.std.proofs.Common.{◌≡◌, ⊎_elim, ℕ, ◌+◌, ◌≤◌, Bool, true, false, nat_lt, List, [], ◌∷◌, map, Option, refl, sym, ap, ◌∙◌, arith, true≢false}
+use Rattle.std.specs.Prelude.{Some, Contains, if◌then◌else◌}
 use Rattle.pst_scope.specs.declared.declaration.Declaration.{Declaration}
 use Rattle.pst_declaration_rules.specs.declared.counted.Kind.{Kind}
-use Rattle.pst_declaration_rules.specs.declared.member.Member.{Member}
 use Rattle.pst_declaration_rules.specs.declared.sources.TypeSources.{TypeSources}
 use Rattle.pst_declaration_rules.specs.Counted.{is_of, most_of, one_or_none, plus, total, weight}
 use Rattle.pst_declaration_rules.specs.Findings.{is_positive}
 use Rattle.pst_declaration_rules.specs.Tallied.{adding}
 use Rattle.pst_declaration_rules.proofs.Judged.{cons_cases, cons_first, cons_rest, none_in}
-use Rattle.pst_declaration_rules.proofs.Overrun.{few_or, lt_is, plus_is}
+use Rattle.pst_declaration_rules.proofs.Overrun.{lt_is, plus_is}
 
 module _ (kd : Kind) (k : TypeSources) (one : (d : Declaration) → weight kd (adding k d) ≡ one_or_none (is_of kd d.sort)) where
   record IsAtLeast (n : ℕ) (o : Option ℕ) : Type 0 where

@@ -1,5 +1,5 @@
 -- The first of which there are too many.
-use Rattle.std.proofs.Common.{◌≡◌, ◌⊎◌, inl, inr, ⊎_elim, ℕ, zero, suc, ◌+◌, ◌<◌, ◌≤◌, Bool, true, false, ◌&&◌, nat_lt, nat_le, cond, List, [], ◌∷◌, ◌++◌, map, length, Option, refl, sym, ap, subst, ◌∙◌, arith, true≢false}
+use Rattle.std.proofs.Common.{◌≡◌, ◌⊎◌, inl, inr, ⊎_elim, ℕ, ◌+◌, ◌<◌, ◌≤◌, Bool, true, false, ◌&&◌, nat_lt, nat_le, cond, List, [], ◌∷◌, ◌++◌, map, length, Option, refl, sym, ap, subst, ◌∙◌, arith, true≢false}
 use Rattle.std.specs.Prelude.{Some, None, if◌then◌else◌}
 use Rattle.std.specs.List.{filter}
 use Rattle.std.proofs.lemmas.Bool.{ltb-true, ltb-false, leb-true, leb-false}
@@ -117,7 +117,12 @@ module _ (kd : Kind) where
         → (over kd (plus (most_of kd) start (weight kd (adding k d))) (map (adding k) ds) ≡ Some g → IsSplit (plus (most_of kd) start (weight kd (adding k d))) ds g)
         → (if b then finding d.name.place 12 else over kd (plus (most_of kd) start (weight kd (adding k d))) (map (adding k) ds)) ≡ Some g → IsSplit start (d ∷ ds) g
     found_if start d ds g true is later e = record {
-      front = []; m = d; more = ds; split = refl; at = exceeds_so (most_of kd) start (weight kd (adding k d)) is; is = sym (some_is _ g e);
+      front = [];
+      m = d;
+      more = ds;
+      split = refl;
+      at = exceeds_so (most_of kd) start (weight kd (adding k d)) is;
+      is = sym (some_is _ g e);
     }
     found_if start d ds g false is later e =
         let r = later e in

@@ -1,14 +1,11 @@
 -- What is found of a declaration, it breaks.
-use Rattle.std.proofs.Common.{◌≡◌, ◌⊎◌, inl, inr, ⊎_elim, ℕ, zero, suc, ◌+◌, ◌<◌, ◌≤◌, Bool, true, false, ◌&&◌, ◌||◌, nat_lt, cond, List, [], ◌∷◌, ◌++◌, append_assoc, map, length, Option, refl, sym, ap, subst, ◌∙◌, arith, true≢false}
-use Rattle.std.specs.Prelude.{Some, None, Contains, if◌then◌else◌, IsTrue}
+use Rattle.std.proofs.Common.{◌≡◌, ◌⊎◌, inl, inr, ⊎_elim, ℕ, ◌<◌, Bool, true, false, ◌&&◌, ◌||◌, nat_lt, cond, List, [], ◌∷◌, ◌++◌, append_assoc, map, length, Option, refl, sym, ap, subst, ◌∙◌, arith, true≢false}
+use Rattle.std.specs.Prelude.{Some, None, if◌then◌else◌}
 use Rattle.std.specs.Bool.{beq}
 use Rattle.std.specs.List.{filter}
 use Rattle.std.specs.Option.{option_map, option_map_or}
 use Rattle.std.proofs.lemmas.Bool.{ltb-true}
 use Rattle.std.proofs.lemmas.List.Elements.{filter-append}
-use Rattle.pst_base.specs.declared.position.Place.{Place}
-use Rattle.pst_ast.specs.ActivityTree.{StatementTree}
-use Rattle.pst_ast.specs.BodyTree.{BodyTree}
 use Rattle.pst_ast.specs.declared.shared.TypeName.{TypeName}
 use Rattle.pst_scope.specs.declared.declaration.Declaration.{Declaration}
 use Rattle.pst_scope.specs.declared.declaration.Sort.{Sort}
@@ -19,18 +16,17 @@ use Rattle.pst_scope.specs.Lookups.{type_in, type_of}
 use Rattle.pst_scope.specs.NameRules.{finding}
 use Rattle.pst_scope.specs.Sorts.{is_claim, is_field, is_item, is_need, is_reference, is_resource, same_place}
 use Rattle.pst_type_rules.specs.Limits.{Claims, IsLimited, Items, Locals, Parameters, References, is_local, is_local_of, is_parameter, most_items}
-use Rattle.pst_type_rules.specs.Members.{AreMembers, IsCompound, activities_of, bodies_of, own_members, those_that}
+use Rattle.pst_type_rules.specs.Members.{AreMembers, activities_of, bodies_of, own_members, those_that}
 use Rattle.pst_type_rules.specs.Sites.{DeclaredAction, action_at}
 use Rattle.pst_type_rules.specs.TypeRules.{ActivityAndBody, ClaimOfNoResource, CompoundWithNeed, DeclarationBreaks, ManyFields, ReferenceOfResource, TooMany, TwoActivities, TwoBodies}
 use Rattle.pst_evaluate.specs.Laws.{ConstantsAreFound}
 use Rattle.pst_name_rules.specs.Leasts.{IsIn}
 use Rattle.pst_declaration_rules.specs.declared.counted.Kind.{Kind}
 use Rattle.pst_declaration_rules.specs.declared.counted.Kind.TheVariants as kind
-use Rattle.pst_declaration_rules.specs.declared.shape.Shape.{Shape}
 use Rattle.pst_declaration_rules.specs.declared.sources.TypeSources.{TypeSources}
 use Rattle.pst_declaration_rules.specs.declared.tally.Tally.{Tally}
 use Rattle.pst_declaration_rules.specs.Counted.{most_of, over, total, weight}
-use Rattle.pst_declaration_rules.specs.Findings.{activity_finding, findings, is_positive, resource_by, resource_finding, unless_resource}
+use Rattle.pst_declaration_rules.specs.Findings.{findings, is_positive, resource_by, resource_finding, unless_resource}
 use Rattle.pst_declaration_rules.specs.Judged.{findings_at, locals_of, own_of, shape_in}
 use Rattle.pst_declaration_rules.specs.Shapes.{is_twofold, shape_of}
 use Rattle.pst_declaration_rules.specs.Tallies.{with_own}
@@ -112,7 +108,9 @@ module _ (k : TypeSources) (known : AreKnown k) (law : ConstantsAreFound) (d : D
   whole kd first is f e =
       let s = found kd k first own f e in
       record {
-        front = start.members ++ s.front; m = s.m; more = s.more;
+        front = start.members ++ s.front;
+        m = s.m;
+        more = s.more;
         split = ap (λ (xs : List Declaration). start.members ++ xs) s.split ∙ sym (append_assoc start.members s.front (s.m ∷ s.more));
         at = subst (λ (o : Option ℕ). Exceeds (most_of kd) o (weight kd (adding k s.m))) (total_of_both kd (adding k) first start.members s.front is) s.at;
         is = s.is;

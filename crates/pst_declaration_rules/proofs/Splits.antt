@@ -31,7 +31,9 @@ module _ (test : Declaration → Bool) where
       let r = back front more m (ap tail_of e) in
       let same : d ≡ x = ap (head_or d) e in
       record {
-        before = d ∷ r.before; behind = r.behind; split = ap (λ xs. d ∷ xs) r.split;
+        before = d ∷ r.before;
+        behind = r.behind;
+        split = ap (λ xs. d ∷ xs) r.split;
         kept = ap (λ (b : Bool). cond b (d ∷ filter test r.before) (filter test r.before)) is ∙ (ap (λ xs. d ∷ xs) r.kept ∙ ap (λ y. y ∷ front) same);
         passes = r.passes;
       }
@@ -41,7 +43,9 @@ module _ (test : Declaration → Bool) where
   was_by d ds back front more m false is e =
       let r = back front more m e in
       record {
-        before = d ∷ r.before; behind = r.behind; split = ap (λ xs. d ∷ xs) r.split;
+        before = d ∷ r.before;
+        behind = r.behind;
+        split = ap (λ xs. d ∷ xs) r.split;
         kept = ap (λ (b : Bool). cond b (d ∷ filter test r.before) (filter test r.before)) is ∙ r.kept;
         passes = r.passes;
       }

@@ -1,28 +1,25 @@
 -- The counts of types with their bases.
-use Rattle.std.proofs.Common.{◌≡◌, ◌⊎◌, inl, inr, ⊎_elim, ℕ, zero, suc, ◌<◌, Bool, true, false, List, [], ◌∷◌, ◌++◌, map, length, nat_lt, set, get_or, Option, refl, sym, ap, subst, ◌∙◌, arith, true≢false}
+use Rattle.std.proofs.Common.{◌≡◌, ◌⊎◌, inl, inr, ⊎_elim, ℕ, suc, ◌<◌, Bool, true, false, List, [], ◌∷◌, ◌++◌, map, length, nat_lt, set, get_or, Option, refl, sym, ap, subst, ◌∙◌, arith, true≢false}
 use Rattle.std.specs.Prelude.{Some, None, is_some, slice_get, slice_index_or, IsTrue, if◌then◌else◌}
 use Rattle.std.specs.Option.{option_map, unwrap_or}
 use Rattle.std.proofs.lemmas.List.{get_or-set_same, get_or-set_other}
 use Rattle.std.proofs.lemmas.Bool.Decides.{eqb_tells}
 use Rattle.pst_ast.specs.ActivityTree.{StatementTree}
 use Rattle.pst_ast.specs.BodyTree.{BodyTree}
-use Rattle.pst_ast.specs.DeclarationTree.{UnitTree}
 use Rattle.pst_scope.specs.declared.declaration.Declaration.{Declaration}
-use Rattle.pst_scope.specs.Declarations.{declarations}
 use Rattle.pst_scope.specs.Lookups.{base_of}
-use Rattle.pst_type_rules.specs.Members.{AreMembers, WithoutBase, WithBase, IsCompound, Own, Inherited, own_members, activities_of, bodies_of}
+use Rattle.pst_type_rules.specs.Members.{AreMembers, WithoutBase, WithBase, Own, Inherited, own_members, activities_of, bodies_of}
 use Rattle.pst_type_rules.specs.Sites.{DeclaredAction, action_at}
 use Rattle.pst_declaration_rules.specs.declared.counted.Kind.{Kind}
 use Rattle.pst_declaration_rules.specs.declared.counted.Kind.TheVariants.{Claim, Field, Reference}
 use Rattle.pst_declaration_rules.specs.declared.member.Member.{Member}
-use Rattle.pst_declaration_rules.specs.declared.shape.Shape.{Shape}
 use Rattle.pst_declaration_rules.specs.declared.sources.TypeSources.{TypeSources}
 use Rattle.pst_declaration_rules.specs.declared.tally.Tally.{Tally}
 use Rattle.pst_declaration_rules.specs.Counted.{most_of, plus, total, weight}
 use Rattle.pst_declaration_rules.specs.Judged.{own_of, shape_in}
 use Rattle.pst_declaration_rules.specs.Shapes.{is_compound, shape_of}
 use Rattle.pst_declaration_rules.specs.Tallies.{nothing, with_own}
-use Rattle.pst_declaration_rules.specs.Tallied.{AreInherited, AreKnown, AreTallied, AreTotals, BaseHas, HasActivity, IsStart, IsTallied, NoBase, OfBase, adding, units_of}
+use Rattle.pst_declaration_rules.specs.Tallied.{AreInherited, AreKnown, AreTallied, BaseHas, HasActivity, IsStart, IsTallied, NoBase, OfBase, adding, units_of}
 
 pub some_is : {A : Type 0} (x y : A) → Some x ≡ Some y → x ≡ y
 some_is x y e = ap (λ o. unwrap_or o x) e

@@ -1,5 +1,5 @@
 -- The number of fields that declarations add to their types.
-use Rattle.std.specs.Prelude.{ℕ, ℤ, pos, nat_le, Bool, ◌&&◌, List, Option, Some, None, if◌then◌else◌}
+use Rattle.std.specs.Prelude.{ℕ, ℤ, pos, nat_le, ◌&&◌, List, Option, Some, None, if◌then◌else◌}
 use Rattle.std.specs.Option.{option_map}
 use Rattle.pst_base.specs.declared.position.Place.{Place}
 use Rattle.pst_ast.specs.ExpressionTree.{ExprTree}

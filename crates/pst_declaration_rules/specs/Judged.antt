@@ -1,5 +1,5 @@
 -- The least of what declarations break, each counted with its base.
-use Rattle.std.specs.Prelude.{◌≡◌, ℕ, List, map, Option, None}
+use Rattle.std.specs.Prelude.{◌≡◌, List, map, Option, None}
 use Rattle.std.specs.List.{Contains, filter}
 use Rattle.std.specs.Option.{option_map}
 use Rattle.pst_scope.specs.declared.declaration.Declaration.{Declaration}

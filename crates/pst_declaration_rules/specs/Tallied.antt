@@ -1,5 +1,5 @@
 -- The counts of the members of types with those of their bases.
-use Rattle.std.specs.Prelude.{◌≡◌, ◌⊎◌, ◌↔◌, ℕ, List, [], map, slice_get, slice_index_or, Option, Some, None, IsTrue}
+use Rattle.std.specs.Prelude.{◌≡◌, ◌↔◌, ℕ, List, [], map, slice_get, slice_index_or, Option, Some, None, IsTrue}
 use Rattle.std.specs.HashMap.{get}
 use Rattle.std.specs.List.{filter}
 use Rattle.pst_ast.specs.ActivityTree.{StatementTree}

@@ -1,5 +1,5 @@
 -- Counts of the members of types.
-use Rattle.std.specs.Prelude.{ℕ, nat_lt, Bool, false, List, Option, Some, None}
+use Rattle.std.specs.Prelude.{false, List, Option, Some}
 use Rattle.pst_declaration_rules.specs.declared.counted.Kind.TheVariants.{Claim, Field, Reference}
 use Rattle.pst_declaration_rules.specs.declared.member.Member.{Member}
 use Rattle.pst_declaration_rules.specs.declared.shape.Shape.{Shape}

@@ -118,14 +118,7 @@ fn finding_of(
     let own = group_at(known.scopes, place);
     let locals = group_at(known.texts, place);
     let shape = shape_at(known.sites, place);
-    Ok(finding_by(
-        known.index,
-        declaration,
-        &start,
-        own,
-        locals,
-        shape,
-    ))
+    Ok(finding_by(known.index, declaration, &start, own, locals, shape))
 }
 
 /// The least of what all declarations break.

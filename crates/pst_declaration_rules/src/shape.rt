@@ -73,8 +73,7 @@ pub fn is_twofold(shape: Option<Shape>) -> bool
     match shape {
         None => false,
         Some(shape) => {
-            shape.activities > 1
-                || (shape.bodies > 1 || (shape.activities > 0 && shape.bodies > 0))
+            shape.activities > 1 || (shape.bodies > 1 || (shape.activities > 0 && shape.bodies > 0))
         }
     }
 }

@@ -1,5 +1,4 @@
 use Rattle.std.proofs.lemmas.Result.{IfOk-weaker}
-use Rattle.pst_declaration_rules.specs.Judged.{IsJudged}
 use Rattle.pst_declaration_rules.proofs.DeclarationsJudged.{declarations_are_least}
 use Rattle.pst_declaration_rules.proofs.declarations.least_known.Goals as goal
 

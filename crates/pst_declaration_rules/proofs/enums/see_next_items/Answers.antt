@@ -1,4 +1,4 @@
-use Rattle.std.proofs.Common.{◌≡◌, ◌+◌, arith, drop, drop-cons, map, sym, ap, ◌∙◌, List, ◌∷◌}
+use Rattle.std.proofs.Common.{◌≡◌, ◌+◌, arith, drop, map, sym, ap, ◌∙◌, List, ◌∷◌}
 use Rattle.std.specs.HashSet.{contains}
 use Rattle.std.specs.Ordering.{int_eq}
 use Rattle.std.proofs.lemmas.Grind.{common_steps}
