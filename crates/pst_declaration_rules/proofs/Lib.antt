@@ -1,0 +1,14 @@
+mod SameSeen
+mod Judged
+mod EnumsJudged
+mod Grouping
+mod Tallying
+mod Judging
+mod Splits
+mod Overrun
+mod FieldsCounted
+mod BasesFound
+mod Needs
+mod OwnBreaks
+mod BreaksFound
+mod DeclarationsJudged
