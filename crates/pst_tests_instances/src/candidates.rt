@@ -222,3 +222,60 @@ pub const LEVELS: [(&str, u8); 26] = [
         23,
     ),
 ];
+
+/// The sources in `docs/LANGUAGE.md`.
+pub const DOCUMENTED: [(&str, u8); 14] = [
+    (
+        "component C { action A { input b @i; } } component pss_top { C c; pool b q; }",
+        22,
+    ),
+    (
+        "component C { action A { input b i; } pool b p; bind p *; } component pss_top { C c; pool b q; bind q *; }",
+        0,
+    ),
+    (
+        "component C { action A { input b i; } pool d p; bind p *; } component pss_top { C c; pool b q; bind q *; }",
+        0,
+    ),
+    (
+        "component C { action A { input b i; } pool b p; bind p *; } component pss_top { C c; pool b q; bind q c.A.i; }",
+        0,
+    ),
+    (
+        "component C { action A { input b i; } pool b p; bind p A.i; } component pss_top { C c; pool b q; bind q c.A.i; }",
+        0,
+    ),
+    (
+        "component C { action A { input b i; } pool b p; bind p *; bind p A.i; } component pss_top { C c; }",
+        0,
+    ),
+    (
+        "component C { action A { input b @i; } } component pss_top { C c; pool b q; pool b t; bind q *; bind t *; }",
+        23,
+    ),
+    (
+        "component C { action A { input b @i; } pool b p; bind p *; } component pss_top { C c; pool b q; pool b t; bind q c.A.i; bind t c.A.i; }",
+        23,
+    ),
+    (
+        "component C { action A { input b @i; } } component pss_top { C c; C e; pool b q; bind q e.A.i; }",
+        22,
+    ),
+    (
+        "component C { action A { input b @i; } action D : A { } } component pss_top { C c; pool b q; bind q c.A.i; }",
+        22,
+    ),
+    ("component pss_top { action A { input b @i; } }", 22),
+    (
+        "component pss_top { pool b p; bind p B.i; action B { input b @i; } action A : B { } }",
+        22,
+    ),
+    (
+        "component pss_top { pool b p; pool b q; bind p *; bind q *; action A { input b @i; } }",
+        23,
+    ),
+    (
+        "component C { action A { lock r @k; } } component pss_top { C c; pool r p; pool r q; bind p c.A.k; bind q c.A.k; }",
+        23,
+    ),
+];

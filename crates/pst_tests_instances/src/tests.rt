@@ -1,5 +1,5 @@
 //! What is answered on the instances and pools of the sources.
-use crate::candidates::{LEVELS, ONE_LEVEL};
+use crate::candidates::{DOCUMENTED, LEVELS, ONE_LEVEL};
 use crate::maps::{MAPS, Serving};
 use crate::needs::{LEAST, NEEDS};
 use crate::texts::{
@@ -111,6 +111,13 @@ fn least_breaches(rt: HostRuntime) -> Result<(), Fail> {
 #[test]
 fn binds_of_one_level(rt: HostRuntime) -> Result<(), Fail> {
     let wrong = wrong_rows(rt.alloc(), candidates::FRAME, &ONE_LEVEL)?;
+    assert_eq!(rt; wrong.as_slice(), NONE);
+    Ok(())
+}
+
+#[test]
+fn documented_sources(rt: HostRuntime) -> Result<(), Fail> {
+    let wrong = wrong_rows(rt.alloc(), candidates::FRAME, &DOCUMENTED)?;
     assert_eq!(rt; wrong.as_slice(), NONE);
     Ok(())
 }

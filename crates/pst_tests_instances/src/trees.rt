@@ -169,7 +169,7 @@ pub const SIZES: [(&str, &str, u32, Option<u32>); 16] = [
     (
         "component C { } component pss_top { $ }",
         "C c?; ",
-        20_000,
+        3_000,
         None,
     ),
     // in one another
@@ -186,9 +186,9 @@ pub const SIZES: [(&str, &str, u32, Option<u32>); 16] = [
         None,
     ),
     (
-        "component c0 { } $ component pss_top { c5000 c; }",
+        "component c0 { } $ component pss_top { c2000 c; }",
         "component c% { c? c; } ",
-        5_000,
+        2_000,
         None,
     ),
     // doubling
@@ -217,16 +217,16 @@ pub const SIZES: [(&str, &str, u32, Option<u32>); 16] = [
         None,
     ),
     (
-        "component pss_top { c1000 c; } component c0 { } $",
+        "component pss_top { c400 c; } component c0 { } $",
         "component c% { c? a, b, c; c0 d; } ",
-        1_000,
+        400,
         None,
     ),
     // too many only where they are instances
     (
         "component c0 { } $ component pss_top { c3 c; }",
         "component c% { c? a, b; } ",
-        1_000,
+        400,
         Some(16),
     ),
     (

@@ -166,3 +166,82 @@ pub const OWED: [(&str, u8); 5] = [
         0,
     ),
 ];
+
+/// The sources in `docs/LANGUAGE.md` that break a rule.
+pub const DOCUMENTED: [(&str, u8); 24] = [
+    ("component pss_top { action A { rand @bit[64] x; } }", 9),
+    (
+        "component pss_top { action A { rand bit[4] in [@3..1] x; } }",
+        10,
+    ),
+    (
+        "component pss_top { action A { rand @bit in [2..5] x; } }",
+        10,
+    ),
+    (
+        "component pss_top { action A { rand int x; constraint x @in [1] in [0]; } }",
+        10,
+    ),
+    (
+        "component pss_top { action A { rand int x; rand bit[@x] y; } }",
+        11,
+    ),
+    ("enum e { a = @1 / 0 } component pss_top { }", 11),
+    ("enum e { a = @c, b, c } component pss_top { }", 11),
+    (
+        "enum e { a = @f::c } enum f { b = a, c } component pss_top { }",
+        11,
+    ),
+    ("component pss_top { resource r { } pool [@1025] r p; }", 12),
+    ("enum e { a = 1, b = 0, @c } component pss_top { }", 12),
+    ("component pss_top { action A { rand bit x[64], @y; } }", 12),
+    (
+        "component pss_top { action A { rand int x; activity { match (x) { [1..3]: ; [@3..4]: ; } } } }",
+        13,
+    ),
+    ("component pss_top { buffer b { } pool [@2] b p; }", 14),
+    (
+        "component pss_top { buffer b { } action A { lock @b k; } }",
+        15,
+    ),
+    (
+        "component pss_top { action @A { activity { } exec body { } } }",
+        16,
+    ),
+    (
+        "component pss_top { buffer b { } action B { input b i; } action @A : B { activity { } } }",
+        16,
+    ),
+    (
+        "component pss_top { abstract action N { } action A { activity { @do N; } } }",
+        17,
+    ),
+    (
+        "component pss_top { action B { rand int x; } action A { B h; activity { select { h; } } constraint @h.x == 1; } }",
+        18,
+    ),
+    (
+        "component pss_top { action B { rand int x; } action D { B h; activity { h; } constraint @h.x == 1; } action A : D { activity { } } }",
+        18,
+    ),
+    (
+        "component pss_top { action B { rand int x; } action A { B h; activity { h; if (@h.x == 1) do B; } } }",
+        19,
+    ),
+    (
+        "component pss_top { buffer b { } action P { output b o; } action Q { input b i; } action A { P p; Q q; activity { p; q; bind q.i @p.o; } } }",
+        20,
+    ),
+    (
+        "component pss_top { buffer b { } buffer d { } pool d p; bind p @A.i; action A { input b i; } }",
+        20,
+    ),
+    (
+        "import function void f(); component pss_top { action A { exec body { int x = @f(); } } }",
+        21,
+    ),
+    (
+        "component pss_top { action A { rand int x; exec body { @x = 1; } } }",
+        21,
+    ),
+];

@@ -8,7 +8,7 @@ use crate::domains::{DOMAINS, INNER};
 use crate::handles::{INHERITED, TRAVERSED};
 use crate::limits::{NUMBERS, SIZES};
 use crate::matches::{ARMS, WITHIN};
-use crate::order::{KEPT, OWED, SEVERAL};
+use crate::order::{DOCUMENTED, KEPT, OWED, SEVERAL};
 use crate::texts::{Constant, Marked, checked, framed, read_marked, repeated};
 use crate::values::VALUES;
 use crate::{
@@ -272,6 +272,13 @@ fn functions_of_a_component(rt: HostRuntime) -> Result<(), Fail> {
 #[test]
 fn several_breaches(rt: HostRuntime) -> Result<(), Fail> {
     let wrong = wrong_rows(rt.alloc(), WHOLE, &SEVERAL)?;
+    assert_eq!(rt; wrong.as_slice(), NONE);
+    Ok(())
+}
+
+#[test]
+fn documented_sources(rt: HostRuntime) -> Result<(), Fail> {
+    let wrong = wrong_rows(rt.alloc(), WHOLE, &DOCUMENTED)?;
     assert_eq!(rt; wrong.as_slice(), NONE);
     Ok(())
 }
