@@ -7,7 +7,7 @@ use crate::texts::{
 };
 use crate::trees::{Row, SIZES, TREES};
 use crate::{candidates, needs};
-use pst_base::{Names, Place};
+use pst_base::{NameId, Names, Place};
 use pst_bind::PoolMap;
 use pst_names::RuleEnd;
 use pst_tree::{Tree, TreeEnd};
@@ -129,16 +129,28 @@ fn binds_of_several_levels(rt: HostRuntime) -> Result<(), Fail> {
     Ok(())
 }
 
+// The text of a name, or nothing where there is no such name.
+fn text_of(names: &Names, id: NameId) -> Option<&str> {
+    if id.0 < names.len() {
+        Some(names.text(id))
+    } else {
+        None
+    }
+}
+
 // Whether the instances are those of a source.
 fn has_rows(names: &Names, tree: &Tree, rows: &[Row]) -> bool {
     let instances = tree.instances.as_slice();
+    for (found, (name, component, parent, last)) in instances.iter().zip(rows) {
+        if found.parent != *parent
+            || found.last != *last
+            || text_of(names, found.name) != Some(*name)
+            || text_of(names, found.component) != Some(*component)
+        {
+            return false;
+        }
+    }
     instances.len() == rows.len()
-        && instances.iter().zip(rows).all(|(found, (name, component, parent, last))| {
-            found.parent == *parent
-                && found.last == *last
-                && names.text(found.name) == *name
-                && names.text(found.component) == *component
-        })
 }
 
 #[test]
@@ -190,26 +202,32 @@ fn numbers_of_instances(rt: HostRuntime) -> Result<(), Fail> {
     Ok(())
 }
 
-// Whether a source's pools are these, and serve these references and claims.
-fn has_map(
-    names: &Names,
-    map: &PoolMap,
-    pools: &[(u32, &'static str)],
-    served: &[Serving],
-) -> bool {
+// Whether a source's pools are these.
+fn has_pools(names: &Names, map: &PoolMap, pools: &[(u32, &'static str)]) -> bool {
     let found = map.pools.as_slice();
-    let serving = map.served.as_slice();
+    for (pool, (instance, name)) in found.iter().zip(pools) {
+        if pool.instance != *instance || text_of(names, pool.name) != Some(*name) {
+            return false;
+        }
+    }
     found.len() == pools.len()
-        && serving.len() == served.len()
-        && found.iter().zip(pools).all(|(pool, (instance, name))| {
-            pool.instance == *instance && names.text(pool.name) == *name
-        })
-        && serving.iter().zip(served).all(|(found, (action, instance, reference, pool))| {
-            found.action == *action
-                && found.instance == *instance
-                && found.reference == *reference
-                && found.pool == *pool
-        })
+}
+
+// Whether they serve these references and claims.
+fn has_served(map: &PoolMap, served: &[Serving]) -> bool {
+    let found = map.served.as_slice();
+    for (serves, wanted) in found.iter().zip(served) {
+        let serving = (
+            serves.action,
+            serves.instance,
+            serves.reference,
+            serves.pool,
+        );
+        if serving != *wanted {
+            return false;
+        }
+    }
+    found.len() == served.len()
 }
 
 #[test]
@@ -222,10 +240,8 @@ fn pools_that_serve(rt: HostRuntime) -> Result<(), Fail> {
                 Err(end) => assert_eq!(rt; Some(end), None, "{text}"),
                 Ok(None) => {}
                 Ok(Some(map)) => {
-                    assert!(rt;
-                        has_map(&resolved.sources.names, &map, owed, served),
-                        "{text}"
-                    )
+                    assert!(rt; has_pools(&resolved.sources.names, &map, owed), "{text}");
+                    assert!(rt; has_served(&map, served), "{text}")
                 }
             },
         }

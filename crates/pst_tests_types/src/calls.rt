@@ -8,7 +8,7 @@ pub const FRAME: &str =
     "enum e { k = 3 } resource r { } buffer b { rand int w; } import function void v(); import function void v2(int a, bit b); import function int f(); import target function bit[8] f1(int a); component pss_top { action B { rand int x; } action A { rand int x; rand int y[2]; input b i; lock r c; B h; exec body { int z; $ } } }";
 
 /// Statements of a body.
-pub const STATEMENTS: [(&str, u8); 46] = [
+pub const STATEMENTS: [(&str, u8); 45] = [
     // the number of arguments
     ("v(); v2(1, 2); f(); f1(1);", 0),
     ("@v(1);", 21),
@@ -48,7 +48,6 @@ pub const STATEMENTS: [(&str, u8); 46] = [
     ("{ int x; } @x = 1;", 21),
     ("@x = 1; int x;", 21),
     ("{ int k = k; k = k + 1; }", 0),
-    ("@h = 1;", 18),
     // wherever statements stand
     ("if (z) @v(1);", 21),
     ("if (z) ; else @x = 1;", 21),

@@ -54,7 +54,7 @@ pub const SORTS: [(&str, u8); 34] = [
 ];
 
 /// What actions consist of.
-pub const CONTENTS: [(&str, u8); 52] = [
+pub const CONTENTS: [(&str, u8); 51] = [
     ("action A { }", 0),
     ("action A { activity { } }", 0),
     ("action A { exec body { } }", 0),
@@ -144,11 +144,7 @@ pub const CONTENTS: [(&str, u8); 52] = [
         "action B { activity { } } action @A : B { exec body { } activity { } }",
         16,
     ),
-    // what a base has twice is inherited twice, unless there is something in its place
-    (
-        "action @A : B { } action B { activity { } activity { } }",
-        16,
-    ),
+    // an activity or body of its own in place of what a base has twice
     (
         "action A : B { exec body { } } action @B { activity { } activity { } }",
         16,

@@ -8,7 +8,7 @@ use crate::domains::{DOMAINS, INNER};
 use crate::handles::{INHERITED, TRAVERSED};
 use crate::limits::{NUMBERS, SIZES};
 use crate::matches::{ARMS, WITHIN};
-use crate::order::{DOCUMENTED, KEPT, OWED, SEVERAL};
+use crate::order::{DOCUMENTED, INHERITED_OR_ASSIGNED, KEPT, OWED, SEVERAL};
 use crate::texts::{Constant, Marked, checked, framed, read_marked, repeated};
 use crate::values::VALUES;
 use crate::{
@@ -279,6 +279,13 @@ fn several_breaches(rt: HostRuntime) -> Result<(), Fail> {
 #[test]
 fn documented_sources(rt: HostRuntime) -> Result<(), Fail> {
     let wrong = wrong_rows(rt.alloc(), WHOLE, &DOCUMENTED)?;
+    assert_eq!(rt; wrong.as_slice(), NONE);
+    Ok(())
+}
+
+#[test]
+fn inherited_or_assigned(rt: HostRuntime) -> Result<(), Fail> {
+    let wrong = wrong_rows(rt.alloc(), WHOLE, &INHERITED_OR_ASSIGNED)?;
     assert_eq!(rt; wrong.as_slice(), NONE);
     Ok(())
 }
