@@ -69,11 +69,11 @@ pub const TREES: [(&'static str, &'static [Row]); 15] = [
     (
         "component pss_top { C c; } component C { D d; } component D { E e; } component E { F f; } component F { }",
         &[
-            ("pss_top", "pss_top", None, 5),
-            ("c", "C", Some(0), 5),
-            ("d", "D", Some(1), 5),
-            ("e", "E", Some(2), 5),
-            ("f", "F", Some(3), 5),
+            ("pss_top", "pss_top", None, 4),
+            ("c", "C", Some(0), 4),
+            ("d", "D", Some(1), 4),
+            ("e", "E", Some(2), 4),
+            ("f", "F", Some(3), 4),
         ],
     ),
     // the last number below on the left and on the right

@@ -40,7 +40,7 @@ pub const SORTS: [(&str, u8); 34] = [
     ("action A { share @m k; }", 15),
     ("action A { lock @s k; }", 15),
     ("action A { lock C::q k; share @C::d l; }", 15),
-    ("action A { share r k; lock @b l; input @r i; }", 15),
+    ("action A { share r k; lock @b l; input r i; }", 15),
     ("abstract action A { share @b k; }", 15),
     ("buffer r { } action A { lock @r k; }", 15),
     // a breach of the base stands in the base alone
