@@ -8,7 +8,7 @@ pub const FRAME: &str =
     "enum e { k = 3 } resource r { } buffer b { rand int w; } import function void v(); import function void v2(int a, bit b); import function int f(); import target function bit[8] f1(int a); component pss_top { action B { rand int x; } action A { rand int x; rand int y[2]; input b i; lock r c; B h; exec body { int z; $ } } }";
 
 /// Statements of a body.
-pub const STATEMENTS: [(&str, u8); 45] = [
+pub const STATEMENTS: [(&str, u8); 48] = [
     // the number of arguments
     ("v(); v2(1, 2); f(); f1(1);", 0),
     ("@v(1);", 21),
@@ -39,6 +39,9 @@ pub const STATEMENTS: [(&str, u8); 45] = [
     ("@x = 1;", 21),
     ("@x = f();", 21),
     ("@x = v();", 21),
+    ("@y = 1;", 21),
+    ("@i = z;", 21),
+    ("@c = f();", 21),
     ("@k = 1;", 21),
     ("repeat (n : 3) z = n;", 0),
     ("repeat (n : 3) @n = z;", 21),

@@ -51,7 +51,7 @@ pub const FIELDS: [(&str, u8); 36] = [
 ];
 
 /// Widths at the other places where one can stand, and widths without a value.
-pub const PLACES: [(&str, u8); 28] = [
+pub const PLACES: [(&str, u8); 29] = [
     ("buffer b { rand @bit[64] x; }", 9),
     ("stream b { rand @int[1] x; }", 9),
     ("state b { rand @bit[0] x, y; }", 9),
@@ -75,6 +75,7 @@ pub const PLACES: [(&str, u8); 28] = [
     ("action A { rand bit[@1 / 0] x; }", 11),
     ("action A { rand bit[@1 / 0:0] x; }", 11),
     ("action A { rand bit[7:@1 / 0] x; }", 11),
+    ("action A { rand bit[63:@1 / 0] x; }", 11),
     ("action A { rand bit[@1 << 64] x; }", 11),
     ("action A { rand bit[@9223372036854775807 + 1] x; }", 11),
     ("import function bit[@1 % 0] f();", 11),
