@@ -2,34 +2,15 @@
 use crate::candidates::{DOCUMENTED, LEVELS, ONE_LEVEL};
 use crate::maps::{MAPS, Serving};
 use crate::needs::{LEAST, NEEDS};
-use crate::texts::{
-    Marked, Resolved, framed, instances_of, read_marked, repeated, resolve_files, served_by,
-};
+use crate::texts::{Answer, Made, Marked, answered, framed, read_marked, repeated};
 use crate::trees::{Row, SIZES, TREES};
 use crate::{candidates, needs};
 use pst_base::{NameId, Names, Place};
 use pst_bind::PoolMap;
 use pst_names::RuleEnd;
-use pst_tree::{Tree, TreeEnd};
+use pst_tree::Tree;
 use std::alloc::{AllocError, Global};
 use std::test::Fail;
-
-// What is answered on a source's instances: nothing where none are made.
-fn tree(alloc: Global, resolved: &Resolved) -> Result<Option<Tree>, RuleEnd> {
-    match instances_of(alloc, resolved) {
-        Ok(tree) => Ok(tree),
-        Err(TreeEnd::Many { .. }) => Ok(None),
-        Err(TreeEnd::NoMemory) => Err(RuleEnd::NoMemory),
-    }
-}
-
-// What is answered on a source's pools: nothing where none are judged.
-fn pools(alloc: Global, resolved: &Resolved) -> Result<Option<PoolMap>, RuleEnd> {
-    let Some(tree) = tree(alloc, resolved)? else {
-        return Ok(None);
-    };
-    served_by(alloc, resolved, &tree)
-}
 
 // A source that is answered otherwise than it must be.
 #[derive(Clone, Copy, Debug, PartialEq, Eq)]
@@ -53,21 +34,12 @@ fn owed(places: &[Place], rule: u8) -> Result<(), RuleEnd> {
     }
 }
 
-// How judging a source's pools ends, or nothing where no code judges them.
-fn judged(alloc: Global, source: &Marked) -> Result<Option<()>, RuleEnd> {
-    let resolved = resolve_files(alloc, source.files.as_slice())?;
-    match pools(alloc, &resolved)? {
-        None => Ok(None),
-        Some(_) => Ok(Some(())),
-    }
-}
-
 // Judges a source, and says where the answer isn't the one that is owed.
 fn wrong_source(alloc: Global, text: &'static str, source: &Marked, rule: u8) -> Option<Wrong> {
     let owed = owed(source.places.as_slice(), rule);
-    let answer = match judged(alloc, source) {
-        Ok(None) => return None,
-        Ok(Some(_)) => Ok(()),
+    let answer = match answered(alloc, source.files.as_slice()) {
+        Ok(Answer::Unmade) => return None,
+        Ok(_) => Ok(()),
         Err(end) => Err(end),
     };
     if answer == owed {
@@ -157,25 +129,25 @@ fn has_rows(names: &Names, tree: &Tree, rows: &[Row]) -> bool {
 fn instances_in_order(rt: HostRuntime) -> Result<(), Fail> {
     for (text, rows) in &TREES {
         let source = read_marked(rt.alloc(), text)?;
-        match resolve_files(rt.alloc(), source.files.as_slice()) {
-            Err(end) => assert_eq!(rt; Some(end), None, "{text}"),
-            Ok(resolved) => match instances_of(rt.alloc(), &resolved) {
-                Err(end) => assert_eq!(rt; Some(end), None, "{text}"),
-                Ok(None) => {}
-                Ok(Some(tree)) => {
-                    assert!(rt; has_rows(&resolved.sources.names, &tree, rows), "{text}")
-                }
-            },
-        }
+        let right = match answered(rt.alloc(), source.files.as_slice()) {
+            Ok(Answer::Unmade) => true,
+            Ok(Answer::Made(made)) => has_rows(&made.sources.names, &made.tree, rows),
+            _ => false,
+        };
+        assert!(rt; right, "{text}");
     }
     Ok(())
 }
 
-// The number of a source's instances; nothing where no code makes them.
-fn count(alloc: Global, resolved: &Resolved) -> Result<Option<usize>, TreeEnd> {
-    match instances_of(alloc, resolved)? {
-        None => Ok(None),
-        Some(tree) => Ok(Some(tree.instances.as_slice().len())),
+// Whether so many instances are answered, or that they are too many.
+fn has_number(answer: &Result<Answer, RuleEnd>, wanted: Option<u32>) -> bool {
+    match (answer, wanted) {
+        (Ok(Answer::Unmade), _) => true,
+        (Ok(Answer::Many { count }), None) => *count == 257,
+        (Ok(Answer::Made(made)), Some(number)) => {
+            made.tree.instances.as_slice().len() == number as usize
+        }
+        _ => false,
     }
 }
 
@@ -185,19 +157,8 @@ fn numbers_of_instances(rt: HostRuntime) -> Result<(), Fail> {
         let pieces = repeated(rt.alloc(), piece, *times)?;
         let whole = framed(rt.alloc(), text, pieces.as_str())?;
         let source = read_marked(rt.alloc(), whole.as_str())?;
-        match resolve_files(rt.alloc(), source.files.as_slice()) {
-            Err(end) => assert_eq!(rt; Some(end), None, "{text}"),
-            Ok(resolved) => {
-                let answer = count(rt.alloc(), &resolved);
-                let owed = match wanted {
-                    None => Err(TreeEnd::Many { count: 257 }),
-                    Some(number) => Ok(Some(*number as usize)),
-                };
-                if answer != Ok(None) {
-                    assert_eq!(rt; answer, owed, "{text} {times}");
-                }
-            }
-        }
+        let answer = answered(rt.alloc(), source.files.as_slice());
+        assert!(rt; has_number(&answer, *wanted), "{text} {times}");
     }
     Ok(())
 }
@@ -230,21 +191,21 @@ fn has_served(map: &PoolMap, served: &[Serving]) -> bool {
     found.len() == served.len()
 }
 
+// Whether a source has these pools, which serve so.
+fn has_map(made: &Made, pools: &[(u32, &'static str)], served: &[Serving]) -> bool {
+    has_pools(&made.sources.names, &made.map, pools) && has_served(&made.map, served)
+}
+
 #[test]
 fn pools_that_serve(rt: HostRuntime) -> Result<(), Fail> {
-    for (text, owed, served) in &MAPS {
+    for (text, pools, served) in &MAPS {
         let source = read_marked(rt.alloc(), text)?;
-        match resolve_files(rt.alloc(), source.files.as_slice()) {
-            Err(end) => assert_eq!(rt; Some(end), None, "{text}"),
-            Ok(resolved) => match pools(rt.alloc(), &resolved) {
-                Err(end) => assert_eq!(rt; Some(end), None, "{text}"),
-                Ok(None) => {}
-                Ok(Some(map)) => {
-                    assert!(rt; has_pools(&resolved.sources.names, &map, owed), "{text}");
-                    assert!(rt; has_served(&map, served), "{text}")
-                }
-            },
-        }
+        let right = match answered(rt.alloc(), source.files.as_slice()) {
+            Ok(Answer::Unmade) => true,
+            Ok(Answer::Made(made)) => has_map(&made, pools, served),
+            _ => false,
+        };
+        assert!(rt; right, "{text}");
     }
     Ok(())
 }

@@ -175,36 +175,44 @@ fn pools_of(
     Ok(None)
 }
 
-/// Sources with the meanings of their names.
+/// Sources, their instances, and their pools.
 #[derive(Drop)]
-pub struct Resolved {
+pub struct Made {
     /// The trees, and the names in them.
     pub sources: Sources,
-    /// The meanings.
-    pub scopes: Scopes,
+    /// The instances.
+    pub tree: Tree,
+    /// The pools, and what they serve.
+    pub map: PoolMap,
 }
 
-/// Reads some files and resolves their names.
-pub fn resolve_files(alloc: Global, files: &[String]) -> Result<Resolved, RuleEnd> {
+/// What is answered on sources that break no rule.
+#[derive(Drop)]
+pub enum Answer {
+    /// Nothing, where no code makes instances or judges pools.
+    Unmade,
+    /// There are too many instances.
+    Many {
+        /// The count that is answered.
+        count: u32,
+    },
+    /// The instances and pools.
+    Made(Made),
+}
+
+/// Reads some files, and makes their instances and pools.
+pub fn answered(alloc: Global, files: &[String]) -> Result<Answer, RuleEnd> {
     let sources = read_units(alloc, files)?;
-    let scopes = resolve(alloc, sources.units.as_slice(), &sources.names)?;
-    Ok(Resolved { sources, scopes })
-}
-
-/// The component instances of resolved sources, or nothing where they aren't made.
-pub fn instances_of(alloc: Global, resolved: &Resolved) -> Result<Option<Tree>, TreeEnd> {
-    let sources = &resolved.sources;
     let units = sources.units.as_slice();
-    tree_of(alloc, units, &sources.names, &resolved.scopes)
-}
-
-/// The pools of resolved sources, or nothing where they aren't judged.
-pub fn served_by(
-    alloc: Global,
-    resolved: &Resolved,
-    tree: &Tree,
-) -> Result<Option<PoolMap>, RuleEnd> {
-    let sources = &resolved.sources;
-    let units = sources.units.as_slice();
-    pools_of(alloc, units, &sources.names, &resolved.scopes, tree)
+    let scopes = resolve(alloc, units, &sources.names)?;
+    let tree = match tree_of(alloc, units, &sources.names, &scopes) {
+        Ok(Some(tree)) => tree,
+        Ok(None) => return Ok(Answer::Unmade),
+        Err(TreeEnd::Many { count }) => return Ok(Answer::Many { count }),
+        Err(TreeEnd::NoMemory) => return Err(RuleEnd::NoMemory),
+    };
+    let Some(map) = pools_of(alloc, units, &sources.names, &scopes, &tree)? else {
+        return Ok(Answer::Unmade);
+    };
+    Ok(Answer::Made(Made { sources, tree, map }))
 }
