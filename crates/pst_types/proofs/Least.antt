@@ -17,17 +17,17 @@ use Rattle.pst_use_rules.specs.Laws.{IsBroken, ExpressionsAreJudged, CountsAreJu
 use Rattle.pst_types.specs.Found.{use_found}
 use Rattle.pst_types.specs.Checked.{IsUseBreach}
 
-none_in : {X : Type 0} (x : X) → Contains [] x → ⊥
+pub none_in : {X : Type 0} (x : X) → Contains [] x → ⊥
 none_in x h = absurd (omega (arith, h.1))
 
-cons_cases : {X : Type 0} (y x : X) (xs : List X) → Contains (y ∷ xs) x → (y ≡ x) ⊎ Contains xs x
+pub cons_cases : {X : Type 0} (y x : X) (xs : List X) → Contains (y ∷ xs) x → (y ≡ x) ⊎ Contains xs x
 cons_cases y x xs h =
     ⊎_elim (λ c. ⊎_elim (λ d. absurd (none_in x d)) (λ e. inl e) (Contains-push_cases [] y x c)) (λ d. inr d) (Contains-append_cases (y ∷ []) xs x h)
 
-cons_first : {X : Type 0} (x : X) (xs : List X) → Contains (x ∷ xs) x
+pub cons_first : {X : Type 0} (x : X) (xs : List X) → Contains (x ∷ xs) x
 cons_first x xs = Contains-append_left (x ∷ []) xs x (Contains-push [] x)
 
-cons_rest : {X : Type 0} (y x : X) (xs : List X) → Contains xs x → Contains (y ∷ xs) x
+pub cons_rest : {X : Type 0} (y x : X) (xs : List X) → Contains xs x → Contains (y ∷ xs) x
 cons_rest y x xs h = Contains-append_right (y ∷ []) xs x h
 
 -- ---- the least of what each element breaks

@@ -2,3 +2,4 @@ mod BehindPlaces
 mod InOrder
 mod Walked
 mod Least
+mod ConstantsListed

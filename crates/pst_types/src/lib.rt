@@ -7,3 +7,4 @@ mod judge_uses;
 mod uses;
 
 pub use pst_type_rules::{ConstantValue, Typed};
+pub use uses::uses_finding;
