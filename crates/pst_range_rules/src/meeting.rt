@@ -116,6 +116,9 @@ fn apart_in_front(alloc: Global, ranges: &[RangeSpan]) -> Result<usize, NoMemory
     let mut apart = 0;
     let mut meeting = ranges.len();
     for _step in 0..64 {
+        if meeting - apart <= 1 {
+            break;
+        }
         let middle = apart + (meeting - apart) / 2;
         if are_apart(alloc, &ranges[..middle])? {
             apart = middle;
