@@ -23,7 +23,7 @@ use std::marker::Model;
 
 /// The actions, functions, fields and enums of the sources, each by the place of its name.
 ///
-/// Contracts see the trees of the sources. A look-up takes expected constant time.
+/// Contracts see the sources. A look-up takes expected constant time.
 #[derive(Drop)]
 pub struct Sites<'a> {
     units: &'a [Unit],
