@@ -1,0 +1,3 @@
+pub mod EndKeys
+pub mod Twice
+pub mod Broken
