@@ -1,0 +1,3 @@
+mod SameSeen
+mod Judged
+mod EnumsJudged
