@@ -1,0 +1,4 @@
+mod Joined
+mod Rows
+pub mod Within
+mod Counted
