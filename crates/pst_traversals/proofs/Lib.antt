@@ -2,3 +2,4 @@ mod Joined
 mod Rows
 pub mod Within
 mod Counted
+pub mod Alone

@@ -3,9 +3,11 @@
 #![tactic(auto)]
 
 mod listing;
+mod once;
 mod own;
 mod tally;
 
 pub use listing::{Traversed, list_traversals};
+pub use once::is_steady;
 pub use own::{has_body, own_activity};
 pub use tally::{TallyKey, tallies};
