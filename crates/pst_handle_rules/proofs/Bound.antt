@@ -67,7 +67,7 @@ module _ (ds : List Declaration) (names : List (List ℕ)) where
 finding : Place → ℕ → Finding
 finding place rule = record { place = place; rule = rule }
 
-is_finding : (f : Finding) (place : Place) (rule : ℕ) → f.place ≡ place → f.rule ≡ rule → f ≡ record { place = place; rule = rule }
+pub is_finding : (f : Finding) (place : Place) (rule : ℕ) → f.place ≡ place → f.rule ≡ rule → f ≡ record { place = place; rule = rule }
 unfolding finding
 is_finding f place rule p r = ap (λ (x : Place). finding x f.rule) p ∙ ap (λ (n : ℕ). finding place n) r
 

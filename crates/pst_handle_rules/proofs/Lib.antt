@@ -1,3 +1,5 @@
 mod Elements
 mod Firsts
 mod Bound
+mod Steady
+mod Named

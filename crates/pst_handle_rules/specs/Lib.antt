@@ -1,3 +1,4 @@
 pub mod EndKeys
 pub mod Twice
 pub mod Broken
+pub mod Judged

@@ -4,7 +4,9 @@
 
 mod bound_twice;
 mod end_key;
+mod findings;
 mod same;
 mod twice;
+mod unsteady;
 
-pub use bound_twice::bound_twice_in;
+pub use findings::{bound_twice_finding, unsteady_finding};

@@ -22,6 +22,7 @@ use std::alloc::Global;
 use std::collections::HashMap;
 
 /// What is known of the activities of all actions.
+#[derive(Clone, Copy)]
 pub struct Lineage<'a> {
     /// For memory.
     pub alloc: Global,
