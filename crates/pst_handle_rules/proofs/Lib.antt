@@ -3,3 +3,4 @@ mod Firsts
 mod Bound
 mod Steady
 mod Named
+mod Derived

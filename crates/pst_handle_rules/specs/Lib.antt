@@ -2,3 +2,4 @@ pub mod EndKeys
 pub mod Twice
 pub mod Broken
 pub mod Judged
+pub mod Based

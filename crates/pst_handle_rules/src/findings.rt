@@ -10,6 +10,7 @@ ghost use Rattle.pst_steady.specs.Seeded.{AreSeeds};
 ghost use Rattle.pst_handle_rules.specs.Broken.{IsBoundTwice, IsUnsteady};
 ghost use Rattle.pst_handle_rules.specs.Judged.{IsBrokenBefore};
 
+use crate::based::base_places;
 use crate::bound_twice::bound_twice_in;
 use crate::unsteady::unsteady_among;
 use pst_ast::ActionNode;
@@ -68,6 +69,7 @@ fn unsteady_by_seeds(
     ensures { IfOk result (IsLeastOf (IsBrokenBefore (map view_unit sites.now) judgings.now (length judgings.now))) }
 {
     let alloc = declared.alloc;
+    let base_places = base_places(alloc, declared.index)?;
     let order = order_of(alloc, declared.bases)?;
     let values = reached(alloc, seeds, declared.bases, order.as_slice())?;
     let tallies = tallies(alloc, actions)?;
@@ -80,7 +82,7 @@ fn unsteady_by_seeds(
         tallies: &tallies,
         order: order.as_slice(),
     };
-    unsteady_among(sites, &lineage, judgings)
+    unsteady_among(sites, &lineage, &base_places, judgings)
 }
 
 // The least finding, where bases are known by their numbers.

@@ -2,6 +2,7 @@
 //! ends that are bound twice.
 #![tactic(auto)]
 
+mod based;
 mod bound_twice;
 mod end_key;
 mod findings;
