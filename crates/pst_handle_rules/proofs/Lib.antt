@@ -1,0 +1,6 @@
+mod Elements
+mod Firsts
+mod Bound
+mod Steady
+mod Named
+mod Derived

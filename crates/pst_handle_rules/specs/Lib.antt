@@ -1,0 +1,5 @@
+pub mod EndKeys
+pub mod Twice
+pub mod Broken
+pub mod Judged
+pub mod Based

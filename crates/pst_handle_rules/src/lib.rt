@@ -1,0 +1,13 @@
+//! What the sources break of the rules of handles: handles that aren't traversed exactly once, and
+//! ends that are bound twice.
+#![tactic(auto)]
+
+mod based;
+mod bound_twice;
+mod end_key;
+mod findings;
+mod same;
+mod twice;
+mod unsteady;
+
+pub use findings::{bound_twice_finding, unsteady_finding};

@@ -1,0 +1,4 @@
+pub mod Numbered
+pub mod Reached
+pub mod Seeded
+pub mod Lined

@@ -1,0 +1,5 @@
+mod Joined
+mod Rows
+pub mod Within
+mod Counted
+pub mod Alone
