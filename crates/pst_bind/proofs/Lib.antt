@@ -1,2 +1,5 @@
 mod PoolsTried
 pub mod Serves
+mod Above
+mod Giving
+mod GivingDefaults

@@ -5,3 +5,9 @@ pub mod Needs
 pub mod PoolRules
 pub mod Laws
 pub mod Tried
+pub mod Children
+pub mod Tables
+pub mod ListedPools
+pub mod FoundBinds
+pub mod BindRows
+pub mod KeptBinds

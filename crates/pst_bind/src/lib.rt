@@ -2,10 +2,21 @@
 //! definitions on what the sources declare.
 #![tactic(auto)]
 
+mod bound;
+mod default_rows;
+mod explicit_rows;
+mod found_binds;
+mod instance_table;
 mod laws;
 mod pool_map;
+mod pool_table;
 
+pub use default_rows::DefaultRows;
+pub use explicit_rows::ExplicitRows;
+pub use found_binds::{FoundBind, FoundDefault};
+pub use instance_table::InstanceTable;
 pub use laws::{
     needs_are_served, pool_breaches_have_one_least, pool_maps_are_one, pools_are_tried,
 };
 pub use pool_map::{PoolMap, PoolPlace, Served};
+pub use pool_table::{PoolTable, component_of};
