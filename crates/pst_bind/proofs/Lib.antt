@@ -3,3 +3,5 @@ pub mod Serves
 mod Above
 mod Giving
 mod GivingDefaults
+mod NearestRows
+mod Collected

@@ -11,3 +11,4 @@ pub mod ListedPools
 pub mod FoundBinds
 pub mod BindRows
 pub mod KeptBinds
+pub mod Nearest

@@ -3,15 +3,20 @@
 #![tactic(auto)]
 
 mod bound;
+mod bind_defaults;
 mod default_rows;
+mod bind_targets;
 mod explicit_rows;
 mod found_binds;
 mod instance_table;
 mod laws;
 mod pool_map;
 mod pool_table;
+mod serving;
 
+pub use bind_defaults::default_binds;
 pub use default_rows::DefaultRows;
+pub use bind_targets::explicit_binds;
 pub use explicit_rows::ExplicitRows;
 pub use found_binds::{FoundBind, FoundDefault};
 pub use instance_table::InstanceTable;
@@ -20,3 +25,4 @@ pub use laws::{
 };
 pub use pool_map::{PoolMap, PoolPlace, Served};
 pub use pool_table::{PoolTable, component_of};
+pub use serving::{candidates, only_one};

@@ -2,6 +2,10 @@
 //! sources declare.
 #![tactic(auto)]
 
+mod bases;
 mod laws;
+mod sites;
 
+pub use bases::{needs_of, with_bases};
 pub use laws::{bases_are_tried, members_are_found};
+pub use sites::{ActionSite, ContentSort, Sites};

@@ -9,6 +9,7 @@ mod sources;
 mod tree;
 mod walk;
 
+pub use key::{PlaceKey, place_key};
 pub use laws::{
     instances_are_in_preorder, instances_are_one, instances_are_tried, instances_exist,
 };
