@@ -5,3 +5,5 @@ mod Giving
 mod GivingDefaults
 mod NearestRows
 mod Collected
+mod Needing
+mod Pooling

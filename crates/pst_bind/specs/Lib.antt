@@ -12,3 +12,6 @@ pub mod FoundBinds
 pub mod BindRows
 pub mod KeptBinds
 pub mod Nearest
+pub mod ListedNeeds
+pub mod Judging
+pub mod PooledSources

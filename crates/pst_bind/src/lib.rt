@@ -9,10 +9,13 @@ mod bind_targets;
 mod explicit_rows;
 mod found_binds;
 mod instance_table;
+mod judge;
 mod laws;
+mod need_list;
 mod pool_map;
 mod pool_table;
 mod serving;
+mod sources;
 
 pub use bind_defaults::default_binds;
 pub use default_rows::DefaultRows;
@@ -23,6 +26,8 @@ pub use instance_table::InstanceTable;
 pub use laws::{
     needs_are_served, pool_breaches_have_one_least, pool_maps_are_one, pools_are_tried,
 };
+pub use need_list::{FoundNeed, list_needs};
 pub use pool_map::{PoolMap, PoolPlace, Served};
 pub use pool_table::{PoolTable, component_of};
 pub use serving::{candidates, only_one};
+pub use sources::pools;

@@ -1,4 +1,4 @@
 pub mod Declared
 pub mod Found
 pub mod Needing
-mod ContentFound
+pub mod ContentFound
