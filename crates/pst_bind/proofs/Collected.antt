@@ -1,12 +1,10 @@
 -- Binds are collected use by use.
-use Rattle.std.proofs.Common.{◌≡◌, refl, sym, ap, ◌∙◌, append_assoc}
+use Rattle.std.proofs.Common.{◌≡◌, refl, sym, ◌∙◌, append_assoc}
 use Rattle.std.specs.Prelude.{List, [], ◌∷◌, ◌++◌, map, Option, Some, None}
 use Rattle.std.specs.List.{fold, filter_map, cons_option}
 use Rattle.std.proofs.lemmas.List.{append-nil}
 use Rattle.pst_base.specs.declared.table.NameId.{NameId}
 use Rattle.pst_ast.specs.declared.leaf.Name.{Name}
-use Rattle.pst_ast.specs.SharedTree.{NamesTree}
-use Rattle.pst_scope.specs.Declarations.{names_of}
 use Rattle.pst_scope.specs.Uses.{Use, Joins}
 use Rattle.pst_bind.specs.PoolBinds.{ExplicitBind, explicit_of}
 use Rattle.pst_bind.specs.FoundBinds.{with_bind, with_use}

@@ -1,5 +1,5 @@
 -- What binds give to keys, one instance after another.
-use Rattle.std.proofs.Common.{◌≡◌, ◌<◌, ◌≤◌, arith, refl, sym, subst, ap, ◌∙◌, append_assoc, cond, true≢false, ◌⊎◌, inl, inr}
+use Rattle.std.proofs.Common.{◌≡◌, ◌≤◌, arith, refl, sym, ap, ◌∙◌, append_assoc, cond}
 use Rattle.std.specs.Prelude.{ℕ, zero, suc, ◌+◌, nat_eq, nat_lt, Bool, true, false, ◌&&◌, List, [], ◌∷◌, ◌++◌, length, slice_get, Option, Some, None, option_to_list, if◌then◌else◌}
 use Rattle.std.specs.Cmp.{nat_eq_equiv}
 use Rattle.std.specs.List.{flat_map, filter_map, cons_option}
@@ -13,7 +13,7 @@ use Rattle.pst_scope.specs.Sorts.{same_place}
 use Rattle.pst_bind.specs.declared.explicit_rows.TargetKey.{TargetKey}
 use Rattle.pst_bind.specs.PoolBinds.{ExplicitBind}
 use Rattle.pst_bind.specs.Pools.{component_of}
-use Rattle.pst_bind.specs.Serving.{stands_in, pool_bound, leads_to, led_to}
+use Rattle.pst_bind.specs.Serving.{stands_in, pool_bound, led_to}
 use Rattle.pst_bind.specs.BindRows.{target_key, same_target, names_by, given}
 
 pub flip : (a b : ℕ) → nat_eq a b ≡ nat_eq b a

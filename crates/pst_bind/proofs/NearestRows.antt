@@ -1,9 +1,8 @@
 -- The candidates of a reference or claim are found by the rows of binds.
-use Rattle.std.proofs.Common.{◌≡◌, arith, refl, sym, subst, ap, ◌∙◌}
-use Rattle.std.specs.Prelude.{ℕ, Bool, true, false, ◌&&◌, List, [], ◌∷◌, ◌++◌, map, length, Option, Some, None, if◌then◌else◌}
-use Rattle.std.specs.List.{filter_map, cons_option, flat_map}
+use Rattle.std.proofs.Common.{◌≡◌, arith, refl, sym, ap, ◌∙◌}
+use Rattle.std.specs.Prelude.{ℕ, Bool, false, ◌&&◌, List, [], ◌∷◌, ◌++◌, map, length, Option, Some, None, if◌then◌else◌}
+use Rattle.std.specs.List.{filter_map, cons_option}
 use Rattle.std.specs.Option.{option_map, option_map_or, option_and_then}
-use Rattle.pst_base.specs.declared.position.Place.{Place}
 use Rattle.pst_ast.specs.declared.instance.Instance.{Instance}
 use Rattle.pst_ast.specs.DeclarationTree.{UnitTree}
 use Rattle.pst_scope.specs.declared.declaration.Declaration.{Declaration}
@@ -13,9 +12,9 @@ use Rattle.pst_scope.specs.Lookups.{type_of}
 use Rattle.pst_scope.specs.NameRules.{named_in}
 use Rattle.pst_bind.specs.declared.explicit_rows.ExplicitRows.{ExplicitRows}
 use Rattle.pst_bind.specs.declared.default_rows.DefaultRows.{DefaultRows}
-use Rattle.pst_bind.specs.PoolBinds.{ExplicitBind, DefaultBind, explicit_binds, default_binds}
+use Rattle.pst_bind.specs.PoolBinds.{DefaultBind, explicit_binds, default_binds}
 use Rattle.pst_bind.specs.Serving.{first_filled, stands_in, pool_bound, is_same, explicit_in, default_in, with_those_above, candidates}
-use Rattle.pst_bind.specs.BindRows.{target_key, object_key, key_place, pool_given, pool_by_default}
+use Rattle.pst_bind.specs.BindRows.{target_key, object_key, pool_given, pool_by_default}
 use Rattle.pst_bind.specs.KeptBinds.{AreExplicitRows, AreDefaultRows}
 use Rattle.pst_bind.specs.Nearest.{explicit_row, default_row, default_row_of, candidates_by}
 use Rattle.pst_bind.proofs.Giving.{given_by, and_false}
@@ -61,7 +60,7 @@ none_filtered f h [] = refl
 none_filtered f h (x ∷ xs) = λ i. cons_option (h x i) (none_filtered f h xs i)
 
 module _ (units : List UnitTree) (instances : List Instance) (explicit : ExplicitRows) (defaults : DefaultRows) (are : AreExplicitRows (declarations units) instances (explicit_binds units) explicit)
-         (are_defaults : AreDefaultRows (declarations units) instances (default_binds units) defaults) where
+    (are_defaults : AreDefaultRows (declarations units) instances (default_binds units) defaults) where
   abbrev ds : List Declaration
   ds = declarations units
 

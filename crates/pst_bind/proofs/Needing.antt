@@ -1,6 +1,6 @@
 -- The references and claims that pools serve are added action by action, and instance by instance.
 use Rattle.std.proofs.Common.{◌≡◌, ◌<◌, refl, sym, subst, ap, ◌∙◌, append_assoc, cond}
-use Rattle.std.specs.Prelude.{ℕ, ◌+◌, Bool, true, false, not, ◌&&◌, List, [], ◌∷◌, ◌++◌, map, length, drop, get_or, None, if◌then◌else◌}
+use Rattle.std.specs.Prelude.{ℕ, ◌+◌, Bool, true, false, not, ◌&&◌, List, [], ◌∷◌, ◌++◌, map, length, drop, get_or, None}
 use Rattle.std.specs.List.{filter, flat_map, enumerate_from}
 use Rattle.std.proofs.lemmas.List.{drop_more}
 use Rattle.std.proofs.lemmas.List.Elements.{filter_agree}
@@ -15,10 +15,10 @@ use Rattle.pst_type_rules.specs.Members.{those_that}
 use Rattle.pst_type_rules.specs.Sites.{actions}
 use Rattle.pst_inherited.specs.declared.sites.ActionSite.{ActionSite}
 use Rattle.pst_inherited.specs.Bases.{with_bases}
-use Rattle.pst_inherited.specs.Found.{site_of, is_concrete_by, compound_from}
+use Rattle.pst_inherited.specs.Found.{site_of}
 use Rattle.pst_inherited.proofs.ContentFound.{content_found, concrete_found}
-use Rattle.pst_bind.specs.Needs.{Need, is_home, is_performed, needs}
-use Rattle.pst_bind.specs.ListedNeeds.{added_by, is_performed_by, needs_at, needs_from, needs_found}
+use Rattle.pst_bind.specs.Needs.{Need, is_performed, needs}
+use Rattle.pst_bind.specs.ListedNeeds.{added_by, is_performed_by, needs_from, needs_found}
 
 -- a declaration where one has to stand
 abbrev pub blank : Declaration

@@ -1,5 +1,5 @@
 -- What references and claims break is the least breach of the rules of pools.
-use Rattle.std.proofs.Common.{◌≡◌, ◌⊎◌, inl, inr, ⊎_elim, arith, refl, sym, subst, ap, ◌∙◌, true≢false}
+use Rattle.std.proofs.Common.{◌≡◌, ◌⊎◌, inl, inr, ⊎_elim, arith, refl, sym, subst, ap, ◌∙◌}
 use Rattle.std.specs.Prelude.{ℕ, zero, suc, slice_get, nat_eq, Bool, true, false, not, ◌||◌, List, [], ◌∷◌, Option, Some, None, Contains, Vec, if◌then◌else◌}
 use Rattle.std.specs.List.{list_any, filter_map, cons_option}
 use Rattle.std.specs.Option.{option_map}
@@ -14,7 +14,6 @@ use Rattle.pst_scope.specs.Breaches.{IsLeast, IsNone}
 use Rattle.pst_scope.specs.declared.declaration.Declaration.{Declaration}
 use Rattle.pst_scope.specs.declared.referent.Finding.{Finding}
 use Rattle.pst_scope.specs.Declarations.{declarations}
-use Rattle.pst_scope.specs.NameRules.{finding}
 use Rattle.pst_name_rules.specs.Earlier.{earlier}
 use Rattle.pst_name_rules.specs.Leasts.{IsLeastOf, IsIn, least_at}
 use Rattle.pst_name_rules.proofs.Leasts.{told, least_in, same_some, some_is_none}

@@ -112,12 +112,7 @@ fn add_in(
     };
     match pool_bound(index, table, pools, bind.component, bind.pool, from) {
         None => Ok(()),
-        Some(pool) => add(
-            alloc,
-            rows,
-            object_key(from, place),
-            pool,
-        ),
+        Some(pool) => add(alloc, rows, object_key(from, place), pool),
     }
 }
 

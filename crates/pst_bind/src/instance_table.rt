@@ -53,11 +53,7 @@ fn child_key(parent: u32, name: NameId) -> ChildKey
 }
 
 // Keeps a number at its key, where nothing is there yet.
-fn keep(
-    children: &mut HashMap<ChildKey, u32>,
-    key: ChildKey,
-    number: u32,
-) -> Result<(), NoMemory>
+fn keep(children: &mut HashMap<ChildKey, u32>, key: ChildKey, number: u32) -> Result<(), NoMemory>
     ensures { OnOk result ((q : ChildKey) → get same_child children.new q ≡ or_number (get same_child children.old q) (same_child q key) number) }
 {
     if !children.contains_key(&key) {
@@ -81,10 +77,7 @@ fn keep_child(
 }
 
 // For each name in an instance the number of the first that has it.
-fn children_of(
-    alloc: Global,
-    instances: &[Instance],
-) -> Result<HashMap<ChildKey, u32>, NoMemory>
+fn children_of(alloc: Global, instances: &[Instance]) -> Result<HashMap<ChildKey, u32>, NoMemory>
     ensures { IfOk result (λ m. (q : ChildKey) → get same_child m q ≡ position_from (is_child q) 0 instances.now) }
 {
     let mut children = HashMap::new(alloc);

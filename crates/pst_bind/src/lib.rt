@@ -1,11 +1,10 @@
-//! The pools of the component instances, and which of them serves each reference and claim:
-//! definitions on what the sources declare.
+//! The pools of the component instances, and which of them serves each reference and claim.
 #![tactic(auto)]
 
-mod bound;
 mod bind_defaults;
-mod default_rows;
 mod bind_targets;
+mod bound;
+mod default_rows;
 mod explicit_rows;
 mod found_binds;
 mod instance_table;
@@ -18,8 +17,8 @@ mod serving;
 mod sources;
 
 pub use bind_defaults::default_binds;
-pub use default_rows::DefaultRows;
 pub use bind_targets::explicit_binds;
+pub use default_rows::DefaultRows;
 pub use explicit_rows::ExplicitRows;
 pub use found_binds::{FoundBind, FoundDefault};
 pub use instance_table::InstanceTable;

@@ -114,7 +114,15 @@ fn add_homes(
         let Ok(instance) = u32::try_from(at) else {
             return Err(NoMemory);
         };
-        add_home(found, index, number, action, instance, &instances[at], needs)?;
+        add_home(
+            found,
+            index,
+            number,
+            action,
+            instance,
+            &instances[at],
+            needs,
+        )?;
     }
     Ok(())
 }
@@ -189,14 +197,7 @@ pub fn list_needs(
     let mut number = 0;
     for action in index.as_slice() {
         number = add_declaration(
-            alloc,
-            &mut found,
-            index,
-            rows,
-            sites,
-            instances,
-            number,
-            action,
+            alloc, &mut found, index, rows, sites, instances, number, action,
         )?;
     }
     Ok(found)

@@ -74,11 +74,7 @@ pub fn component_of(index: &Index, instance: &Instance) -> Option<Declaration>
 }
 
 // Adds the pools of an instance.
-fn add_pools(
-    found: &mut Vec<ListedPool>,
-    number: u32,
-    row: &[Declaration],
-) -> Result<(), NoMemory>
+fn add_pools(found: &mut Vec<ListedPool>, number: u32, row: &[Declaration]) -> Result<(), NoMemory>
     ensures { OnOk result (view_pools found.new.items ≡ view_pools found.old.items ++ map (λ (d : Declared). (number, d)) row.now) }
 {
     for declaration in row {

@@ -54,10 +54,7 @@ pub fn with_bases(
 }
 
 // Adds the references of a row.
-fn add_references(
-    found: &mut Vec<Declaration>,
-    row: &[Declaration],
-) -> Result<(), NoMemory>
+fn add_references(found: &mut Vec<Declaration>, row: &[Declaration]) -> Result<(), NoMemory>
     ensures { OnOk result (found.new.items ≡ found.old.items ++ those_that Sorts.is_reference row.now) }
 {
     for member in row {

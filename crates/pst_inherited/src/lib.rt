@@ -1,5 +1,4 @@
-//! What actions have and do with their bases, in order and by number: definitions on what the
-//! sources declare.
+//! What actions have and do with their bases, in order and by number.
 #![tactic(auto)]
 
 mod bases;

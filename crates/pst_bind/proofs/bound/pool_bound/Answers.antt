@@ -1,4 +1,4 @@
-use Rattle.std.proofs.Common.{◌≡◌, List, sym, ap, ◌∙◌}
+use Rattle.std.proofs.Common.{List, sym, ap, ◌∙◌}
 use Rattle.std.specs.Prelude.{ℕ, nat_eq, ◌&&◌, position}
 use Rattle.std.specs.Option.{option_and_then}
 use Rattle.pst_scope.specs.declared.declaration.Declaration.{Declaration}

@@ -1,4 +1,4 @@
-use Rattle.std.proofs.Common.{◌≡◌, arith, List, [], length, map, sym, ap, ◌∙◌}
+use Rattle.std.proofs.Common.{◌≡◌, arith, [], length, map, sym, ap, ◌∙◌}
 use Rattle.std.specs.Prelude.{ℕ, Option}
 use Rattle.std.specs.Option.{option_map_or}
 use Rattle.std.proofs.lemmas.Grind.{common_steps}

@@ -1,4 +1,4 @@
-use Rattle.std.proofs.Common.{◌≡◌, List, map, ap, ◌∙◌}
+use Rattle.std.proofs.Common.{List, map, ap, ◌∙◌}
 use Rattle.pst_ast.specs.DeclarationView.{view_unit}
 use Rattle.pst_ast.specs.declared.instance.Instance.{Instance}
 use Rattle.pst_bind.specs.Needs.{needs}

@@ -1,5 +1,4 @@
-use Rattle.std.proofs.Common.{◌≡◌, List, map, subst, ap, ◌∙◌}
-use Rattle.std.specs.Prelude.{Option, None}
+use Rattle.std.proofs.Common.{List, map, subst, ap, ◌∙◌}
 use Rattle.pst_ast.specs.DeclarationView.{view_unit}
 use Rattle.pst_ast.specs.declared.instance.Instance.{Instance}
 use Rattle.pst_name_rules.specs.Leasts.{IsLeastOf}
@@ -19,8 +18,7 @@ returns-in-Some c =
 pub returns : goal.returns
 returns c =
     let units = map view_unit c.args.units.now in
-    let least = subst (λ o. IsLeastOf (IsBreach units c.args.instances.now) o) c.in-None.is (subst (λ (xs : List Instance). IsLeastOf (IsBreach units xs) c.in_ok-least.least) c.in_ok-table.ensures c.in_ok-least.ensures.0) in
-    (
+    let least = subst (λ o. IsLeastOf (IsBreach units c.args.instances.now) o) c.in-None.is (subst (λ (xs : List Instance). IsLeastOf (IsBreach units xs) c.in_ok-least.least) c.in_ok-table.ensures c.in_ok-least.ensures.0) in (
       record {
         are_pools = c.from_vec.ensures ∙ c.in_ok-places-in-None.ensures ∙ ap (map place_of) (c.in_ok-pools.ensures ∙ (λ i. pools (c.requires i) ((c.as_slice-2.ensures ∙ c.in_ok-table.ensures) i)));
         are_served = c.from_vec-in-None.ensures ∙ c.in_ok-least.ensures.1 ∙ ap (λ (xs : List Instance). served units xs) c.in_ok-table.ensures;

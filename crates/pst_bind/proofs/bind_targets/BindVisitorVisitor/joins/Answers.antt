@@ -1,4 +1,4 @@
-use Rattle.std.proofs.Common.{◌≡◌, sym}
+use Rattle.std.proofs.Common.{sym}
 use Rattle.pst_ast.specs.SharedView.{view_names}
 use Rattle.pst_scope.specs.Declarations.{names_of}
 use Rattle.pst_scope.specs.Uses.{labels_in}

@@ -1,4 +1,4 @@
-use Rattle.std.proofs.Common.{◌≡◌, ◌+◌, drop, ℕ, sym, ap, ◌∙◌}
+use Rattle.std.proofs.Common.{◌+◌, drop, ℕ, sym, ap, ◌∙◌}
 use Rattle.std.specs.Prelude.{Option}
 use Rattle.std.specs.Option.{option_and_then}
 use Rattle.pst_bind.specs.Serving.{led_to}
