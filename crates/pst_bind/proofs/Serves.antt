@@ -10,10 +10,10 @@ use Rattle.pst_bind.specs.Serving.{only_one}
 use Rattle.pst_bind.specs.Needs.{Need, needs, candidates_for}
 use Rattle.pst_bind.specs.PoolRules.{PoolBreach, NoPool, TwoPools}
 
-is_first : (p : ℕ) (more : List ℕ) → Contains (p ∷ more) p
+pub is_first : (p : ℕ) (more : List ℕ) → Contains (p ∷ more) p
 is_first p more = (0, omega arith, refl)
 
-is_behind : (p q : ℕ) (more : List ℕ) → Contains more q → Contains (p ∷ more) q
+pub is_behind : (p q : ℕ) (more : List ℕ) → Contains more q → Contains (p ∷ more) q
 is_behind p q more c = (suc c.0, omega (arith, c.1), c.2)
 
 -- another number is in the list
@@ -23,11 +23,11 @@ another_by p q more true same any on =
     let further = on (subst (λ (b : Bool). (not b || list_any (λ x. not (nat_eq x p)) more) ≡ true) same any) in (further.0, is_behind q further.0 more further.1, further.2)
 another_by p q more false other any on = (q, is_first q more, other)
 
-another : (p : ℕ) (more : List ℕ) → list_any (λ q. not (nat_eq q p)) more ≡ true → (q : ℕ) × Contains more q × (nat_eq q p ≡ false)
+pub another : (p : ℕ) (more : List ℕ) → list_any (λ q. not (nat_eq q p)) more ≡ true → (q : ℕ) × Contains more q × (nat_eq q p ≡ false)
 another p [] any = absurd (true≢false (sym any))
 another p (q ∷ more) any = another_by p q more (nat_eq q p) refl any (another p more)
 
-not_same : (p q : ℕ) → nat_eq q p ≡ false → p ≡ q → ⊥
+pub not_same : (p q : ℕ) → nat_eq q p ≡ false → p ≡ q → ⊥
 not_same p q other e = eqb-false q p other (sym e)
 
 module _ (units : List UnitTree) (instances : List Instance) (n : Need) (none : IsNone (PoolBreach units instances)) (is : Contains (needs units instances) n) where

@@ -5,3 +5,13 @@ pub mod Needs
 pub mod PoolRules
 pub mod Laws
 pub mod Tried
+pub mod Children
+pub mod Tables
+pub mod ListedPools
+pub mod FoundBinds
+pub mod BindRows
+pub mod KeptBinds
+pub mod Nearest
+pub mod ListedNeeds
+pub mod Judging
+pub mod PooledSources

@@ -1,11 +1,32 @@
-//! The pools of the component instances, and which of them serves each reference and claim:
-//! definitions on what the sources declare.
+//! The pools of the component instances, and which of them serves each reference and claim.
 #![tactic(auto)]
 
+mod bind_defaults;
+mod bind_targets;
+mod bound;
+mod default_rows;
+mod explicit_rows;
+mod found_binds;
+mod instance_table;
+mod judge;
 mod laws;
+mod need_list;
 mod pool_map;
+mod pool_table;
+mod serving;
+mod sources;
 
+pub use bind_defaults::default_binds;
+pub use bind_targets::explicit_binds;
+pub use default_rows::DefaultRows;
+pub use explicit_rows::ExplicitRows;
+pub use found_binds::{FoundBind, FoundDefault};
+pub use instance_table::InstanceTable;
 pub use laws::{
     needs_are_served, pool_breaches_have_one_least, pool_maps_are_one, pools_are_tried,
 };
+pub use need_list::{FoundNeed, list_needs};
 pub use pool_map::{PoolMap, PoolPlace, Served};
+pub use pool_table::{PoolTable, component_of};
+pub use serving::{candidates, only_one};
+pub use sources::pools;

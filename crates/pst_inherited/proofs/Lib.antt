@@ -1,2 +1,4 @@
 pub mod Declared
 pub mod Found
+pub mod Needing
+pub mod ContentFound

@@ -1,7 +1,10 @@
-//! What actions have and do with their bases, in order and by number: definitions on what the
-//! sources declare.
+//! What actions have and do with their bases, in order and by number.
 #![tactic(auto)]
 
+mod bases;
 mod laws;
+mod sites;
 
+pub use bases::{needs_of, with_bases};
 pub use laws::{bases_are_tried, members_are_found};
+pub use sites::{ActionSite, ContentSort, Sites};

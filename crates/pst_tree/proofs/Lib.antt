@@ -5,3 +5,7 @@ pub mod Preorder
 pub mod Declared
 pub mod Existing
 mod InstancesTried
+mod Walking
+mod LastOnes
+mod Rowed
+mod Typed

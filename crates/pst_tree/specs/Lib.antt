@@ -2,3 +2,8 @@ pub mod Instances
 pub mod Laws
 pub mod Steps
 pub mod Tried
+pub mod Members
+pub mod Kept
+pub mod Walked
+pub mod Lasts
+pub mod Found

@@ -1,0 +1,10 @@
+use Rattle.std.proofs.Common.{◌≡◌, ◌++◌, [], cond}
+use Rattle.std.specs.Prelude.{nat_lt}
+use Rattle.std.specs.HashMap.{get}
+use Rattle.pst_bind.specs.declared.explicit_rows.TargetKey.{TargetKey}
+use Rattle.pst_bind.specs.FoundBinds.{view_bind}
+use Rattle.pst_bind.specs.BindRows.{given, numbers_in, same_target}
+use Rattle.pst_bind.proofs.explicit_rows.add_bind.Given as goal
+
+abbrev pub invariant-loop-at : goal.invariant-loop-at
+invariant-loop-at l = (q : TargetKey) → numbers_in (get same_target l.rows q) ≡ numbers_in (get same_target l.initial.rows q) ++ cond (nat_lt q.from l.at) (given l.index l.table q (view_bind l.bind)) []

@@ -1,0 +1,166 @@
+//! The pools of sources, and what they serve.
+ghost use Rattle.std.specs.Prelude.{◌≡◌, IfErr, IfOk, map};
+ghost use Rattle.pst_ast.specs.DeclarationView.{view_unit};
+ghost use Rattle.pst_scope.specs.Breaches.{IsNone};
+ghost use Rattle.pst_scope.specs.Declarations.{declarations as the_declarations};
+ghost use Rattle.pst_scope.specs.NameRules.{NameBreach};
+ghost use Rattle.pst_scope.specs.Scopes.{AreScopes};
+ghost use Rattle.pst_tree.specs.Instances.{AreInstances};
+ghost use Rattle.pst_type_rules.specs.TypeRules.{TypeBreach};
+ghost use Rattle.pst_bind.specs.KeptBinds.{AreDefaultRows, AreExplicitRows};
+ghost use Rattle.pst_bind.specs.ListedNeeds.{view_needs};
+ghost use Rattle.pst_bind.specs.Needs;
+ghost use Rattle.pst_bind.specs.PoolBinds;
+ghost use Rattle.pst_bind.specs.Pools;
+ghost use Rattle.pst_bind.specs.PooledSources.{AreJudged, ArePooled, IsPoolEnd};
+
+use crate::bind_defaults::default_binds;
+use crate::bind_targets::explicit_binds;
+use crate::default_rows::DefaultRows;
+use crate::explicit_rows::ExplicitRows;
+use crate::instance_table::InstanceTable;
+use crate::judge::judge;
+use crate::need_list::{FoundNeed, list_needs};
+use crate::pool_map::{PoolMap, Served};
+use crate::pool_table::PoolTable;
+use pst_ast::{Instance, Unit};
+use pst_base::{Items, Names, NoMemory};
+use pst_collect::declarations;
+use pst_index::Index;
+use pst_inherited::Sites;
+use pst_names::RuleEnd;
+use pst_scope::{Finding, Scopes};
+use pst_tree::{Member, Rows, Tree};
+use std::alloc::Global;
+
+// The pools of explicit binds.
+fn explicit_rows(
+    alloc: Global,
+    units: &[Unit],
+    index: &Index,
+    table: &InstanceTable,
+    pools: &PoolTable,
+) -> Result<ExplicitRows, NoMemory>
+    requires { pools.now ≡ Pools.pools index.now table.now }
+    ensures { IfOk result (AreExplicitRows index.now table.now (PoolBinds.explicit_binds (map view_unit units.now))) }
+{
+    let binds = explicit_binds(alloc, units)?;
+    ExplicitRows::new(alloc, index, table, pools, binds.as_slice())
+}
+
+// The pools of default binds.
+fn default_rows(
+    alloc: Global,
+    units: &[Unit],
+    index: &Index,
+    table: &InstanceTable,
+    pools: &PoolTable,
+) -> Result<DefaultRows, NoMemory>
+    requires { pools.now ≡ Pools.pools index.now table.now }
+    ensures { IfOk result (AreDefaultRows index.now table.now (PoolBinds.default_binds (map view_unit units.now))) }
+{
+    let binds = default_binds(alloc, units)?;
+    DefaultRows::new(alloc, index, table, pools, binds.as_slice())
+}
+
+// The references and claims that pools serve.
+fn needs_in(
+    alloc: Global,
+    units: &[Unit],
+    index: &Index,
+    instances: &[Instance],
+) -> Result<Vec<FoundNeed>, NoMemory>
+    requires { index.now ≡ the_declarations (map view_unit units.now) }
+    ensures { IfOk result (λ needs. view_needs needs.items ≡ Needs.needs (map view_unit units.now) instances.now) }
+{
+    let rows = Rows::new(alloc, Member::Need, index.as_slice())?;
+    let sites = Sites::new(alloc, units)?;
+    list_needs(alloc, index, &rows, &sites, instances)
+}
+
+// The least of what references and claims break, and what serves them.
+fn judged_needs(
+    alloc: Global,
+    units: &[Unit],
+    index: &Index,
+    table: &InstanceTable,
+    pools: &PoolTable,
+) -> Result<(Option<Finding>, Vec<Served>), NoMemory>
+    requires declared { index.now ≡ the_declarations (map view_unit units.now) }
+    requires pools { pools.now ≡ Pools.pools index.now table.now }
+    ensures { IfOk result (AreJudged (map view_unit units.now) table.now) }
+{
+    let explicit = explicit_rows(alloc, units, index, table, pools)?;
+    let defaults = default_rows(alloc, units, index, table, pools)?;
+    let needs = needs_in(alloc, units, index, table.as_slice())?;
+    pst_base::places_are_ordered();
+    let judged = judge(alloc, index, &explicit, &defaults, table, needs.as_slice())?;
+    Ok(judged)
+}
+
+// The pools of sources and what they serve, or the least of what is broken.
+fn pooled(
+    alloc: Global,
+    units: &[Unit],
+    index: &Index,
+    instances: &[Instance],
+) -> Result<Result<PoolMap, Finding>, NoMemory>
+    requires { index.now ≡ the_declarations (map view_unit units.now) }
+    ensures { IfOk result (ArePooled (map view_unit units.now) instances.now) }
+{
+    let rows = Rows::new(alloc, Member::Pool, index.as_slice())?;
+    let table = InstanceTable::new(alloc, instances)?;
+    let pools = PoolTable::new(alloc, index, &rows, table.as_slice())?;
+    let (least, served) = judged_needs(alloc, units, index, &table, &pools)?;
+    match least {
+        Some(finding) => Ok(Err(finding)),
+        None => {
+            let places = pools.places(alloc)?;
+            Ok(Ok(PoolMap {
+                pools: Items::from_vec(places),
+                served: Items::from_vec(served),
+            }))
+        }
+    }
+}
+
+// The same, given the sources alone.
+fn pooled_units(
+    alloc: Global,
+    units: &[Unit],
+    instances: &[Instance],
+) -> Result<Result<PoolMap, Finding>, NoMemory>
+    ensures { IfOk result (ArePooled (map view_unit units.now) instances.now) }
+{
+    let declared = declarations(alloc, units)?;
+    let index = Index::new(alloc, declared)?;
+    pooled(alloc, units, &index, instances)
+}
+
+/// The pools of the instances of sources that keep the rules of names and of types, by instance and
+/// then in order of declaration, and the pool of each reference and claim of each atomic action type
+/// that isn't abstract, in each instance of its component, by action, instance and reference.
+///
+/// `Broken` has the least place at which rule 22 or 23 is broken, and the least rule that is broken
+/// there. `NoMemory` comes where memory ran out, and where something is counted that a `u32` can't
+/// hold.
+pub fn pools(
+    alloc: Global,
+    units: &[Unit],
+    names: &Names,
+    scopes: &Scopes,
+    tree: &Tree,
+) -> Result<PoolMap, RuleEnd>
+    requires names_kept { IsNone (NameBreach (map view_unit units.now) names.now) }
+    requires types_kept { IsNone (TypeBreach (map view_unit units.now) names.now) }
+    requires scopes { AreScopes (map view_unit units.now) names.now scopes.now.types scopes.now.meanings }
+    requires tree { AreInstances (map view_unit units.now) names.now tree.now.instances }
+    ensures pools { IfOk result (λ found. ArePooled (map view_unit units.now) tree.now.instances (Rattle.std.specs.Prelude.Ok found)) }
+    ensures broken { IfErr result (λ end. IsPoolEnd (map view_unit units.now) tree.now.instances end) }
+{
+    match pooled_units(alloc, units, tree.instances.as_slice()) {
+        Ok(Ok(found)) => Ok(found),
+        Ok(Err(Finding { place, rule })) => Err(RuleEnd::Broken { place, rule }),
+        Err(NoMemory) => Err(RuleEnd::NoMemory),
+    }
+}
