@@ -3,3 +3,4 @@ mod InOrder
 mod Walked
 mod Least
 mod ConstantsListed
+mod Checking
