@@ -38,7 +38,6 @@ fn owed(places: &[Place], rule: u8) -> Result<(), RuleEnd> {
 fn wrong_source(alloc: Global, text: &'static str, source: &Marked, rule: u8) -> Option<Wrong> {
     let owed = owed(source.places.as_slice(), rule);
     let answer = match answered(alloc, source.files.as_slice()) {
-        Ok(Answer::Unmade) => return None,
         Ok(_) => Ok(()),
         Err(end) => Err(end),
     };
@@ -130,7 +129,6 @@ fn instances_in_order(rt: HostRuntime) -> Result<(), Fail> {
     for (text, rows) in &TREES {
         let source = read_marked(rt.alloc(), text)?;
         let right = match answered(rt.alloc(), source.files.as_slice()) {
-            Ok(Answer::Unmade) => true,
             Ok(Answer::Made(made)) => has_rows(&made.sources.names, &made.tree, rows),
             _ => false,
         };
@@ -142,7 +140,6 @@ fn instances_in_order(rt: HostRuntime) -> Result<(), Fail> {
 // Whether so many instances are answered, or that they are too many.
 fn has_number(answer: &Result<Answer, RuleEnd>, wanted: Option<u32>) -> bool {
     match (answer, wanted) {
-        (Ok(Answer::Unmade), _) => true,
         (Ok(Answer::Many { count }), None) => *count == 257,
         (Ok(Answer::Made(made)), Some(number)) => {
             made.tree.instances.as_slice().len() == number as usize
@@ -201,7 +198,6 @@ fn pools_that_serve(rt: HostRuntime) -> Result<(), Fail> {
     for (text, pools, served) in &MAPS {
         let source = read_marked(rt.alloc(), text)?;
         let right = match answered(rt.alloc(), source.files.as_slice()) {
-            Ok(Answer::Unmade) => true,
             Ok(Answer::Made(made)) => has_map(&made, pools, served),
             _ => false,
         };

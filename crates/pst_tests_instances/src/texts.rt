@@ -4,14 +4,14 @@ ghost use Rattle.pst_token.specs.Laws.{EndsOnce};
 
 use pst_ast::Unit;
 use pst_base::{Names, NoMemory, Place};
-use pst_bind::PoolMap;
+use pst_bind::{PoolMap, pools};
 use pst_lexer::{LexFault, Lexer};
 use pst_names::{RuleEnd, resolve};
 use pst_parser::parse_unit;
-use pst_scope::Scopes;
 use pst_token::Token;
 use pst_token::laws::tokens_are_in_order;
-use pst_tree::{Tree, TreeEnd};
+use pst_tree::{Tree, TreeEnd, instances};
+use pst_types::check;
 use std::alloc::{AllocError, Global};
 
 /// A place that no source has: the answer where a text can't be read.
@@ -158,23 +158,6 @@ pub fn read_units(alloc: Global, files: &[String]) -> Result<Sources, RuleEnd> {
     Ok(Sources { names, units })
 }
 
-// The component instances of the sources; nothing so far, since no code makes them yet.
-fn tree_of(_: Global, _: &[Unit], _: &Names, _: &Scopes) -> Result<Option<Tree>, TreeEnd> {
-    Ok(None)
-}
-
-// The pools of the sources, or the least breach of the rules of pools; nothing so far, since no code
-// judges them yet.
-fn pools_of(
-    _: Global,
-    _: &[Unit],
-    _: &Names,
-    _: &Scopes,
-    _: &Tree,
-) -> Result<Option<PoolMap>, RuleEnd> {
-    Ok(None)
-}
-
 /// Sources, their instances, and their pools.
 #[derive(Drop)]
 pub struct Made {
@@ -189,8 +172,6 @@ pub struct Made {
 /// What is answered on sources that break no rule.
 #[derive(Drop)]
 pub enum Answer {
-    /// Nothing, where no code makes instances or judges pools.
-    Unmade,
     /// There are too many instances.
     Many {
         /// The count that is answered.
@@ -205,14 +186,12 @@ pub fn answered(alloc: Global, files: &[String]) -> Result<Answer, RuleEnd> {
     let sources = read_units(alloc, files)?;
     let units = sources.units.as_slice();
     let scopes = resolve(alloc, units, &sources.names)?;
-    let tree = match tree_of(alloc, units, &sources.names, &scopes) {
-        Ok(Some(tree)) => tree,
-        Ok(None) => return Ok(Answer::Unmade),
+    check(alloc, units, &sources.names, &scopes)?;
+    let tree = match instances(alloc, units, &sources.names, &scopes) {
+        Ok(tree) => tree,
         Err(TreeEnd::Many { count }) => return Ok(Answer::Many { count }),
         Err(TreeEnd::NoMemory) => return Err(RuleEnd::NoMemory),
     };
-    let Some(map) = pools_of(alloc, units, &sources.names, &scopes, &tree)? else {
-        return Ok(Answer::Unmade);
-    };
+    let map = pools(alloc, units, &sources.names, &scopes, &tree)?;
     Ok(Answer::Made(Made { sources, tree, map }))
 }

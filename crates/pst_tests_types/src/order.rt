@@ -241,24 +241,3 @@ pub const DOCUMENTED: [(&str, u8); 24] = [
         21,
     ),
 ];
-
-/// What a base has twice and an action inherits, and handles that a body names as what it assigns
-/// to.
-pub const INHERITED_OR_ASSIGNED: [(&str, u8); 4] = [
-    (
-        "component pss_top { action @A : B { } action B { activity { } activity { } } }",
-        16,
-    ),
-    (
-        "component pss_top { action @A : B { } action B { exec body { } exec body { } } }",
-        16,
-    ),
-    (
-        "component pss_top { action @A : B { } action B { exec body { } activity { } } }",
-        16,
-    ),
-    (
-        "component pss_top { action A { rand int x; } action B { A h; exec body { @h = 1; } } }",
-        18,
-    ),
-];

@@ -8,7 +8,7 @@ use crate::domains::{DOMAINS, INNER};
 use crate::handles::{INHERITED, TRAVERSED};
 use crate::limits::{NUMBERS, SIZES};
 use crate::matches::{ARMS, WITHIN};
-use crate::order::{DOCUMENTED, INHERITED_OR_ASSIGNED, KEPT, OWED, SEVERAL};
+use crate::order::{DOCUMENTED, KEPT, OWED, SEVERAL};
 use crate::texts::{Constant, Marked, checked, framed, read_marked, repeated};
 use crate::values::VALUES;
 use crate::{
@@ -46,8 +46,7 @@ fn owed(places: &[Place], rule: u8) -> Result<(), RuleEnd> {
 fn wrong_source(alloc: Global, text: &'static str, source: &Marked, rule: u8) -> Option<Wrong> {
     let owed = owed(source.places.as_slice(), rule);
     let answer = match checked(alloc, source.files.as_slice()) {
-        Ok(None) => return None,
-        Ok(Some(_)) => Ok(()),
+        Ok(_) => Ok(()),
         Err(end) => Err(end),
     };
     if answer == owed {
@@ -284,13 +283,6 @@ fn documented_sources(rt: HostRuntime) -> Result<(), Fail> {
 }
 
 #[test]
-fn inherited_or_assigned(rt: HostRuntime) -> Result<(), Fail> {
-    let wrong = wrong_rows(rt.alloc(), WHOLE, &INHERITED_OR_ASSIGNED)?;
-    assert_eq!(rt; wrong.as_slice(), NONE);
-    Ok(())
-}
-
-#[test]
 fn owed_answers(rt: HostRuntime) -> Result<(), Fail> {
     let wrong = wrong_rows(rt.alloc(), WHOLE, &OWED)?;
     assert_eq!(rt; wrong.as_slice(), NONE);
@@ -349,10 +341,8 @@ fn values_of_constants(rt: HostRuntime) -> Result<(), Fail> {
         let source = read_marked(rt.alloc(), text)?;
         assert_eq!(rt; source.places.len(), values.len(), "{text}");
         let constants = owed_constants(rt.alloc(), source.places.as_slice(), values)?;
-        match checked(rt.alloc(), source.files.as_slice()) {
-            Ok(None) => {}
-            answer => assert_eq!(rt; answer, Ok(Some(constants)), "{text}"),
-        }
+        let answer = checked(rt.alloc(), source.files.as_slice());
+        assert_eq!(rt; answer, Ok(constants), "{text}");
     }
     Ok(())
 }

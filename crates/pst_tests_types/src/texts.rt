@@ -7,10 +7,9 @@ use pst_base::{Names, NoMemory, Place};
 use pst_lexer::{LexFault, Lexer};
 use pst_names::{RuleEnd, resolve};
 use pst_parser::parse_unit;
-use pst_scope::Scopes;
 use pst_token::Token;
 use pst_token::laws::tokens_are_in_order;
-use pst_type_rules::Typed;
+use pst_types::check;
 use std::alloc::{AllocError, Global};
 
 /// A place that no source has: the answer where a text can't be read.
@@ -166,21 +165,13 @@ pub struct Constant {
     pub value: i64,
 }
 
-// The values of the constant expressions of the sources, or the least breach of the rules of types;
-// nothing so far, since no code checks types yet.
-fn types_of(_: Global, _: &[Unit], _: &Names, _: &Scopes) -> Result<Option<Typed>, RuleEnd> {
-    Ok(None)
-}
-
 /// What checking the types of some files answers, where their names keep the rules: the values of
-/// the constant expressions, or nothing where types aren't checked.
-pub fn checked(alloc: Global, files: &[String]) -> Result<Option<Vec<Constant>>, RuleEnd> {
+/// the constant expressions.
+pub fn checked(alloc: Global, files: &[String]) -> Result<Vec<Constant>, RuleEnd> {
     let sources = read_units(alloc, files)?;
     let units = sources.units.as_slice();
     let scopes = resolve(alloc, units, &sources.names)?;
-    let Some(typed) = types_of(alloc, units, &sources.names, &scopes)? else {
-        return Ok(None);
-    };
+    let typed = check(alloc, units, &sources.names, &scopes)?;
     let mut constants = Vec::new(alloc);
     for constant in typed.constants.as_slice() {
         let found = Constant {
@@ -191,5 +182,5 @@ pub fn checked(alloc: Global, files: &[String]) -> Result<Option<Vec<Constant>>,
             return Err(RuleEnd::NoMemory);
         }
     }
-    Ok(Some(constants))
+    Ok(constants)
 }
