@@ -47,10 +47,7 @@ fn others_least(
     let by_declaration = declarations_finding(alloc, sites, index, names, values)?;
     let unsteady = unsteady_finding(alloc, sites, index, names)?;
     let twice = bound_twice_finding(alloc, sites, index, names)?;
-    Ok(earlier(
-        earlier(by_enum, by_declaration),
-        earlier(unsteady, twice),
-    ))
+    Ok(earlier(earlier(by_enum, by_declaration), earlier(unsteady, twice)))
 }
 
 // The least breach, and the constants, given what names stand for and the values of items.

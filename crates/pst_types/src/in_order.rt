@@ -56,7 +56,10 @@ fn each_once(alloc: Global, sorted: &[ConstantValue]) -> Result<Vec<ConstantValu
 
 /// The same constants in order of place, each once. Where two different ones stand at one place there
 /// is no such order: that is answered as want of memory.
-pub fn in_order(alloc: Global, mut constants: Vec<ConstantValue>) -> Result<Vec<ConstantValue>, NoMemory>
+pub fn in_order(
+    alloc: Global,
+    mut constants: Vec<ConstantValue>,
+) -> Result<Vec<ConstantValue>, NoMemory>
     ensures order { IfOk result (λ found. AreInOrder found.items) }
     ensures each { IfOk result (λ found. HaveSame found.items constants.items) }
 {

@@ -83,7 +83,12 @@ impl<'a> Visitor for Judge<'a> {
         Ok(())
     }
 
-    fn ties(&mut self, at: &Environment, first: EndNode, others: &OtherEnds) -> Result<(), NoMemory> {
+    fn ties(
+        &mut self,
+        at: &Environment,
+        first: EndNode,
+        others: &OtherEnds,
+    ) -> Result<(), NoMemory> {
         let finding = ties_finding(&self.facts, at, &first, others);
         self.note(finding);
         Ok(())

@@ -87,14 +87,17 @@ module _ (on : BeforeGoesOn) (units : List UnitTree) (names : List (List ℕ)) (
   end_broken other f among is =
       let (off, at_it) = unless_is (fits other && not (one other)) other.handle.place 20 f is in
       subst Broken (sym at_it) (⊎_elim
-        (λ l. let (x, y, a, b, never) = unfit ds (referred first) (referred other) l in UnfitEnds here first other others x y among a b never)
-        (λ r. OneHandle here first other others among (on_same first.handle.id other.handle.id (not_off (one other) r)))
-        (and_off (fits other) (not (one other)) off))
+      (λ l. let (x, y, a, b, never) = unfit ds (referred first) (referred other) l in UnfitEnds here first other others x y among a b never)
+      (λ r. OneHandle here first other others among (on_same first.handle.id other.handle.id (not_off (one other) r)))
+      (and_off (fits other) (not (one other)) off))
 
   told_end : (place : Place) (rule : ℕ) → UseBreaks units names (Ties here first others) place rule → (other : EndNode) × Contains others other × (end_found ds names here first other ≡ Some (at place rule))
-  told_end place rule (UnfitEnds env f other os x y among a b never) =
-      (other, among, is_unless (fits other && not (one other)) other.handle.place 20 (off_and (fits other) (not (one other))
-        (inl (ap (λ (o : Option Declaration). are_ends ds o (referred other)) a ∙ ap (are_ends ds (Some x)) b ∙ off_ends ds x y (are_ends ds (Some x) (Some y)) refl never))))
+  told_end place rule (UnfitEnds env f other os x y among a b never) = (
+    other,
+    among,
+    is_unless (fits other && not (one other)) other.handle.place 20 (off_and (fits other) (not (one other))
+        (inl (ap (λ (o : Option Declaration). are_ends ds o (referred other)) a ∙ ap (are_ends ds (Some x)) b ∙ off_ends ds x y (are_ends ds (Some x) (Some y)) refl never))),
+  )
   told_end place rule (OneHandle env f other os among same) =
       (other, among, is_unless (fits other && not (one other)) other.handle.place 20 (off_and (fits other) (not (one other)) (inr (off_not (one other) (same_on first.handle.id other.handle.id same)))))
 
@@ -135,9 +138,11 @@ module _ (units : List UnitTree) (names : List (List ℕ)) (component : Place) (
       OtherObject component pool instances action reference p x y t named is a b differ
 
   told_target : (place : Place) (rule : ℕ) → UseBreaks units names (Targets component pool instances action reference) place rule → (good ≡ false) × (at place rule ≡ at (first_name instances action).place 20)
-  told_target place rule (OtherObject c po i ac re p x y t named is a b differ) =
-      (ap (λ (o : Option Declaration). target_agrees declared o (target_of declared component instances action reference)) named ∙ ap (target_agrees declared (Some p)) is
-        ∙ ap (λ (o : Option Declaration). agree o (type_of declared t.need)) a ∙ ap (agree (Some x)) b ∙ differing x y (declaration.eq-value.it x y) refl differ, refl)
+  told_target place rule (OtherObject c po i ac re p x y t named is a b differ) = (
+    ap (λ (o : Option Declaration). target_agrees declared o (target_of declared component instances action reference)) named ∙ ap (target_agrees declared (Some p)) is
+        ∙ ap (λ (o : Option Declaration). agree o (type_of declared t.need)) a ∙ ap (agree (Some x)) b ∙ differing x y (declaration.eq-value.it x y) refl differ,
+    refl,
+  )
 
   pub targets : IsLeastOf BrokenTarget (targets_found declared component pool instances action reference)
   targets = of_one BrokenTarget good (first_name instances action).place 20 target_broken (λ f has. told_target f.place f.rule has)

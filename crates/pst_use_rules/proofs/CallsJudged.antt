@@ -112,7 +112,7 @@ module _ (units : List UnitTree) (names : List (List ℕ)) (component : Option P
       let t = then_is found_function (type_here (declarations units) component name.id) w.0 w.1 in
       ⊎_elim (λ l. WrongArguments component name arguments needed t.0 w.0 t.1 t.2 (differ arguments (length w.0.parameters) l))
       (λ r. let v = void_is w.0.answer r.1 in
-        subst (λ (b : Bool). IsBroken units names (Passes component name arguments b) (at name.place 21)) (sym r.0) (NoAnswer component name arguments t.0 w.0 v.0 t.1 t.2 v.1))
+      subst (λ (b : Bool). IsBroken units names (Passes component name arguments b) (at name.place 21)) (sym r.0) (NoAnswer component name arguments t.0 w.0 v.0 t.1 t.2 v.1))
       w.2
 
   off_by : (needed : Bool) (d : Declaration) (f : DeclaredFunction) → type_here (declarations units) component name.id ≡ Some d → function_at units d.name.place ≡ Some f

@@ -37,7 +37,7 @@ BindsAreJudged =
     (units : List UnitTree) (names : List (List ℕ))
     → ((at : Environment) (first : EndNode) (others : List EndNode) → IsLeastOf (IsBroken units names (Ties at first others)) (ties_found (declarations units) names at first others))
     × ((component : Place) (pool : Name) (instances : List Name) (action reference : Name)
-        → IsLeastOf (IsBroken units names (Targets component pool instances action reference)) (targets_found (declarations units) component pool instances action reference))
+    → IsLeastOf (IsBroken units names (Targets component pool instances action reference)) (targets_found (declarations units) component pool instances action reference))
 
 abbrev pub AssignmentsAreJudged : Type 0
 AssignmentsAreJudged =

@@ -56,7 +56,10 @@ fn end_finding(
 ) -> Option<Finding>
     ensures { result ≡ Found.end_found facts.now.index.now facts.now.names.now at.now first.now other.now }
 {
-    let (one, another) = (reference_at(facts, at, first), reference_at(facts, at, other));
+    let (one, another) = (
+        reference_at(facts, at, first),
+        reference_at(facts, at, other),
+    );
     let good = are_ends(facts.index, &one, &another) && first.handle.id != other.handle.id;
     unless(good, other.handle.place, 20)
 }
@@ -90,7 +93,9 @@ pub fn ties_finding(
     match others {
         OtherEnds::One(other) => earlier(None, end_finding(facts, at, first, other)),
         OtherEnds::Several {
-            first: other, rest, ..
+            first: other,
+            rest,
+            ..
         } => {
             let before = earlier(None, end_finding(facts, at, first, other));
             next_ends_finding(facts, at, first, before, rest.as_slice())

@@ -41,7 +41,8 @@ fn primary_place(primary: &PrimaryNode) -> Place
         PrimaryNode::False(place) => *place,
         PrimaryNode::Path(path) => path_place(path),
         PrimaryNode::Group {
-            left_parenthesis, ..
+            left_parenthesis,
+            ..
         } => *left_parenthesis,
     }
 }

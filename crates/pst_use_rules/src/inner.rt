@@ -39,7 +39,10 @@ pub fn inner_of_expr(before: Option<Finding>, within: bool, expr: &ExprNode) -> 
             inner_of_expr(found, within, right)
         }
         ExprNode::In {
-            left, in_, ranges, ..
+            left,
+            in_,
+            ranges,
+            ..
         } => {
             let own = with_inner(before, within, *in_);
             let found = inner_of_expr(own, true, left);

@@ -100,7 +100,8 @@ impl<V: PathVisitor + Drop> Visitor for Paths<V> {
         rest: &[NextPart],
     ) -> Result<(), NoMemory> {
         let parts = parts_of(self.alloc, rest)?;
-        self.visitor.reads_path(at, part_of(first), parts.as_slice())
+        self.visitor
+            .reads_path(at, part_of(first), parts.as_slice())
     }
 
     fn repeats(
@@ -168,7 +169,6 @@ impl<V: PathVisitor + Drop> Visitor for Paths<V> {
         Ok(())
     }
 }
-
 
 /// Shows a visitor each path in an expression, in the order of the text, and gives it back.
 pub fn show_paths<V: PathVisitor + Drop>(

@@ -29,7 +29,7 @@ returns-in-Some c =
 pub returns : goal.returns
 returns c = (
   is_none (map view_unit c.args.units.now) c.args.names.now c.in_ok-least.least c.in-None.is
-    (subst (λ (us : List Unit). IsLeastOf (IsBreach (map view_unit us) c.args.names.now) c.in_ok-least.least) c.in_ok-sites.ensures c.in_ok-least.ensures.least),
+      (subst (λ (us : List Unit). IsLeastOf (IsBreach (map view_unit us) c.args.names.now) c.in_ok-least.least) c.in_ok-sites.ensures c.in_ok-least.ensures.least),
   subst (λ (cs : List ConstantValue). AreConstants (map view_unit c.args.units.now) c.args.names.now cs) (sym c.from_vec.ensures)
-    (subst (λ (us : List Unit). AreConstants (map view_unit us) c.args.names.now c.in_ok-least.constants.items) c.in_ok-sites.ensures c.in_ok-least.ensures.constants),
+      (subst (λ (us : List Unit). AreConstants (map view_unit us) c.args.names.now c.in_ok-least.constants.items) c.in_ok-sites.ensures c.in_ok-least.ensures.constants),
 )
