@@ -1,0 +1,12 @@
+mod Digits
+mod Keys
+mod Roots
+mod Dropped
+mod Given
+mod Right
+mod Fronts
+mod Extended
+mod Few
+mod Wrong
+mod Step
+mod Whole

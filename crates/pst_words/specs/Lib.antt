@@ -1,0 +1,4 @@
+pub mod Numerals
+pub mod Table
+pub mod Lines
+pub mod Read
