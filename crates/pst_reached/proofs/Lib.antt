@@ -5,3 +5,10 @@ pub mod Menus
 pub mod Nodes
 pub mod Tree
 pub mod Activity
+pub mod Splits
+pub mod Shown
+pub mod Naming
+pub mod Links
+pub mod Sources
+pub mod Blanks
+pub mod Values
