@@ -1,18 +1,17 @@
 -- What a filled-in activity keeps, and that it is the scenario's.
-use Rattle.std.proofs.Common.{◌≡◌, ℕ, zero, suc, ◌+◌, ◌≤◌, ℤ, not, List, [], ◌∷◌, ◌++◌, map, length, take, Option, Some, None, refl, sym, ap, ap₂, ◌∙◌, subst, arith, append-nil, length-append, length-take, inl, inr, ⊎_elim}
+use Rattle.std.proofs.Common.{◌≡◌, ℕ, zero, suc, ◌≤◌, ℤ, not, List, [], ◌∷◌, ◌++◌, map, length, take, Option, Some, None, refl, sym, ap, ◌∙◌, subst, arith, append-nil, length-append, length-take, inl, inr, ⊎_elim}
 use Rattle.std.specs.Prelude.{slice_get}
 use Rattle.std.specs.List.{AllZip}
 use Rattle.std.proofs.lemmas.Option.{none-some}
 use Rattle.pst_expr.specs.Value.{is_false}
 use Rattle.pst_model.specs.ActivityTree.{StepTree, Traverse, Sequence, Parallel, Schedule, Joined, Select, Repeat, If, Match, ArmTree, arms_of, step_of}
 use Rattle.pst_model.specs.ModelTree.{ModelTree, ActionTree, ContentTree, Atomic, Compound}
-use Rattle.pst_model.specs.Sound.{IsSound}
 use Rattle.pst_scen.specs.declared.tree.Node.{Node}
 use Rattle.pst_scen.specs.declared.tree.Fill.TheVariants as fill
 use Rattle.pst_scen.specs.declared.act.Act.{Act}
 use Rattle.pst_scen.specs.declared.scenario.Scenario.{Scenario}
-use Rattle.pst_scen.specs.Scenarios.{leaf_of, leaves_of, IsScenario}
-use Rattle.pst_legal.specs.Growing.{nothing_yet, Look, Inner, Leaf, open_act, with_look, most_nodes, most_acts, most_levels, IsWithin}
+use Rattle.pst_scen.specs.Scenarios.{leaf_of, leaves_of}
+use Rattle.pst_legal.specs.Growing.{nothing_yet, Look, Inner, Leaf, open_act, with_look, most_nodes, most_levels, IsWithin}
 use Rattle.pst_legal.specs.Pieces.{Context, Piece, Action, Statement, Turning, IsContent, IsMatchWay, IsStatementWay, IsWay}
 use Rattle.pst_legal.specs.Reading.{read_piece}
 use Rattle.pst_legal.specs.Fits.{Filling, FillAll, Fills, Fits, IsSameLeaf}

@@ -1,21 +1,18 @@
 -- Blanks that are filled one after another.
-use Rattle.std.proofs.Common.{◌≡◌, ℕ, zero, suc, ◌+◌, ◌<◌, ℤ, List, [], ◌∷◌, ◌++◌, map, length, get_or, Bool, true, false, nat_eq, if◌then◌else◌, Option, Some, None, refl, sym, ap, ap₂, ◌∙◌, subst, arith, append_assoc, append-nil, length-append, inl, inr, pos}
+use Rattle.std.proofs.Common.{◌≡◌, ℕ, zero, suc, ◌+◌, ◌<◌, ℤ, List, [], ◌∷◌, ◌++◌, map, length, get_or, true, false, nat_eq, if◌then◌else◌, Some, refl, sym, ap, ap₂, ◌∙◌, subst, arith, append_assoc, append-nil, length-append, pos}
 use Rattle.std.specs.Prelude.{slice_get, flat_map}
 use Rattle.std.specs.List.{enumerate_from, range_with_len, AllZip}
 use Rattle.std.proofs.lemmas.Bool.{eqb-true, false_from_ne_true, eq-eqb}
 use Rattle.pst_rng.specs.Words.{start_of}
-use Rattle.pst_expr.specs.declared.ranges.Span.{Span}
 use Rattle.pst_expr.specs.Spans.{values, size_of}
 use Rattle.pst_model.specs.declared.action.Field.{Field}
 use Rattle.pst_model.specs.ModelTree.{ModelTree}
-use Rattle.pst_scen.specs.declared.act.Act.{Act}
 use Rattle.pst_scen.specs.declared.scenario.Scenario.{Scenario}
 use Rattle.pst_legal.specs.Pieces.{IsValueOf}
 use Rattle.pst_legal.specs.Blanks.{Blank, domain_of, options, option_value}
 use Rattle.pst_legal.specs.SupplyReading.{alter}
 use Rattle.pst_legal.specs.Reading.{Reads, Reader, read_place}
 use Rattle.pst_legal.specs.ValueReading.{with_option, read_blanks}
-use Rattle.pst_built.proofs.Members.{In}
 use Rattle.pst_reached.specs.Reached.{IsReached}
 use Rattle.pst_reached.proofs.Domains.{number_of}
 use Rattle.pst_reached.proofs.Led.{led_place, led_same}

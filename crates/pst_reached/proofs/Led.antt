@@ -1,11 +1,9 @@
 -- How choices lead on through a place and from one reader to the next.
-use Rattle.std.proofs.Common.{◌≡◌, ℕ, ◌+◌, ◌-◌, ◌*◌, ◌/◌, ◌%◌, ◌<◌, List, [], ◌∷◌, ◌++◌, nat_lt, if◌then◌else◌, refl, sym, ap, ◌∙◌, arith, append_assoc}
+use Rattle.std.proofs.Common.{◌≡◌, ℕ, ◌+◌, ◌-◌, ◌*◌, ◌/◌, ◌%◌, ◌<◌, List, ◌∷◌, ◌++◌, if◌then◌else◌, ap, ◌∙◌, arith, append_assoc}
 use Rattle.std.proofs.Math.Nat.{add-mod-mod, mod-lt, mod-eq_of_lt, add-mod_right, div-add-mod, mul-add-mod_self_left}
 use Rattle.std.proofs.lemmas.Bool.{lt-ltb}
-use Rattle.pst_rng.specs.Words.{start_of}
-use Rattle.pst_rng.specs.Weights.{weighted_start_of}
 use Rattle.pst_scen.specs.declared.scenario.Scenario.{Scenario}
-use Rattle.pst_legal.specs.Reading.{Reading, Stops, Reads, Reader, then_read, option_at, read_place}
+use Rattle.pst_legal.specs.Reading.{Reading, Stops, Reader, then_read, option_at, read_place}
 use Rattle.pst_reached.specs.Reached.{IsReached}
 
 -- each option of a place is named by some digit

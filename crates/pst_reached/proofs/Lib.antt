@@ -12,3 +12,5 @@ pub mod Links
 pub mod Sources
 pub mod Blanks
 pub mod Values
+pub mod Firsts
+pub mod Whole

@@ -1,40 +1,20 @@
 -- Links, ends of streams, and how many links aren't read yet.
-use Rattle.std.proofs.Common.{◌≡◌, ◌≢◌, ◌⊎◌, ℕ, zero, suc, ◌+◌, ◌-◌, ◌<◌, ◌≤◌, List, [], ◌∷◌, ◌++◌, map, length, replicate, take, Bool, true, false, cond, not, ◌&&◌, ◌||◌, nat_eq, nat_lt, if◌then◌else◌, Option, Some, None, refl, sym, ap, ap₂, ◌∙◌, subst, arith, length-append, inl, inr, ⊎_elim}
-use Rattle.std.specs.Prelude.{slice_get, flat_map, option_to_list}
-use Rattle.std.specs.List.{enumerate_from, filter, find, list_any, range_with_len}
-use Rattle.std.specs.Option.{option_map, option_and_then}
-use Rattle.std.proofs.lemmas.Bool.{and_parts, and_from, or_left, or_right, or_cases, eqb-true, eq-eqb, lt-ltb, cases_lt, false≢true, false_from_ne_true, true_from_ne_false}
-use Rattle.std.proofs.lemmas.List.{length-map, length-replicate}
-use Rattle.std.proofs.lemmas.Option.{none-some, same_Some, slice_get_within, option_and_then_some}
-use Rattle.pst_rng.specs.Words.{start_of}
-use Rattle.pst_model.specs.ModelTree.{ModelTree, ActionTree, ContentTree, Atomic, Compound}
-use Rattle.pst_scen.specs.declared.tree.Node.{Node}
-use Rattle.pst_scen.specs.declared.act.Act.{Act}
+use Rattle.std.proofs.Common.{◌≡◌, ◌≢◌, ◌⊎◌, ℕ, ◌<◌, ◌≤◌, List, [], ◌∷◌, length, Bool, true, false, cond, not, ◌&&◌, nat_eq, if◌then◌else◌, Some, refl, sym, ap, ◌∙◌, arith, inl, inr, ⊎_elim}
+use Rattle.std.specs.List.{filter}
+use Rattle.std.proofs.lemmas.Bool.{and_parts, and_from, or_left, or_right, or_cases, eqb-true, eq-eqb, false≢true, false_from_ne_true}
 use Rattle.pst_scen.specs.declared.act.Filled.{Filled}
 use Rattle.pst_scen.specs.declared.act.Flow.{Flow}
 use Rattle.pst_scen.specs.declared.act.Flow.TheVariants.{BufferIn, BufferOut, StreamIn, StreamOut, StateIn, StateOut}
 use Rattle.pst_scen.specs.declared.act.Link.{Link}
 use Rattle.pst_scen.specs.declared.act.Link.TheVariants as link
 use Rattle.pst_scen.specs.declared.scenario.Scenario.{Scenario}
-use Rattle.pst_scen.specs.Scenarios.{reference_at, leaves_of, IsLinkOf, IsStream, IsScenario}
-use Rattle.pst_legal.specs.Types.{type_of, activity_in, action_instances}
-use Rattle.pst_legal.specs.Growing.{open_act, most_acts, IsWithin}
-use Rattle.pst_legal.specs.Binds.{bounds_of, fixed_source}
-use Rattle.pst_legal.specs.Supplied.{is_need, is_source_for, IsSource, IsInferable, Linking, linkings, NamesBelow, AreNamedInTurn, Supplied}
-use Rattle.pst_legal.specs.Fits.{IsActOf}
-use Rattle.pst_legal.specs.Reading.{Stops, Reads, Reader, option_at}
-use Rattle.pst_legal.specs.SupplyReading.{Spot, spots, same_link, is_open, fixed_for, is_elsewhere, has_turn, next_need, Source, Initially, From, New, is_state, is_writer, is_stream, is_previous, initial_sources, is_free, fits, is_candidate, source_of, old_sources, sources_in, is_inferable, sources_of_type, inferred, may_infer, new_sources, free_sources, fixed_sources, sources_by, sources, put_link, linked_to, supplied_by, end_supply, chosen, read_turn, read_supply}
-use Rattle.pst_built.proofs.Members.{In, to_left, to_right, to_map, to_flat_map, to_numbered, to_filter, in_find, none_found, any_found}
-use Rattle.pst_built.proofs.SoundActs.{in_place}
-use Rattle.pst_built.proofs.Spots.{spot_is, to_spot, same_link_self}
-use Rattle.pst_reached.specs.Reached.{IsReached}
-use Rattle.pst_reached.specs.Parts.{without_link, links_alone}
-use Rattle.pst_reached.proofs.Lists.{in_contains}
-use Rattle.pst_reached.proofs.Led.{named}
-use Rattle.pst_reached.proofs.Nodes.{bare_is_open}
-use Rattle.pst_reached.proofs.Splits.{IsEarlier, spot_at, linking_at, cut_linkings, in_linkings, first_found}
-use Rattle.pst_reached.proofs.Naming.{below_more, names_next, names_all}
-use Rattle.pst_reached.proofs.Shown.{Known, also, shown_as, shown, so_far, shown_at, Shows, at_shown, put_shown, shown_push, all_shown}
+use Rattle.pst_scen.specs.Scenarios.{reference_at, IsLinkOf, IsStream}
+use Rattle.pst_legal.specs.Supplied.{is_need, is_source_for}
+use Rattle.pst_legal.specs.SupplyReading.{Spot, spots, same_link, is_state, is_writer, is_stream}
+use Rattle.pst_built.proofs.Members.{In}
+use Rattle.pst_built.proofs.Spots.{to_spot}
+use Rattle.pst_reached.proofs.Splits.{spot_at}
+use Rattle.pst_reached.proofs.Shown.{Known, also}
 
 -- ---- links
 

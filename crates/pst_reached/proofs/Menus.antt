@@ -1,5 +1,5 @@
 -- A menu leads to each way to fill its piece.
-use Rattle.std.proofs.Common.{◌≡◌, ◌⊎◌, ℕ, zero, suc, ◌+◌, ◌<◌, ◌≤◌, ℤ, pos, ◌≤ℤ◌, List, [], ◌∷◌, ◌++◌, map, length, get_or, AllPairs, Bool, true, false, cond, not, int_le, nat_lt, nat_le, if◌then◌else◌, Option, Some, None, refl, sym, ap, ◌∙◌, subst, arith, append_assoc, append-nil, length-append, inl, inr, ⊎_elim}
+use Rattle.std.proofs.Common.{◌≡◌, ℕ, zero, suc, ◌+◌, ◌<◌, ◌≤◌, ℤ, pos, ◌≤ℤ◌, List, [], ◌∷◌, ◌++◌, length, get_or, AllPairs, Bool, true, false, cond, not, int_le, nat_lt, nat_le, if◌then◌else◌, Option, Some, None, refl, sym, ap, ◌∙◌, subst, arith, append_assoc, append-nil, length-append, inl, inr, ⊎_elim}
 use Rattle.std.specs.Prelude.{slice_get, count_by, Any, flat_map}
 use Rattle.std.specs.List.{enumerate_from, find, AllZip}
 use Rattle.std.proofs.lemmas.Option.{none-some, same_Some, slice_get_within, get_or_from_slice_get}
@@ -10,17 +10,16 @@ use Rattle.std.proofs.lemmas.List.Sums.{sum_by-cons}
 use Rattle.pst_expr.specs.declared.ranges.Span.{Span}
 use Rattle.pst_expr.specs.Spans.{IsInSpan}
 use Rattle.pst_expr.specs.Value.{is_false}
-use Rattle.pst_model.specs.declared.action.Field.{Field}
 use Rattle.pst_model.specs.declared.activity.Join.{Join}
 use Rattle.pst_model.specs.declared.activity.Join.TheVariants.{Fixed, Choose}
-use Rattle.pst_model.specs.ActivityTree.{StepTree, Traverse, Sequence, Parallel, Schedule, Joined, Select, Repeat, If, Match, BranchTree, ArmTree, ArmRow, steps_of, branches_of, arms_of, step_of, guard_of, weight_of, branch_step, spans_of, arm_step}
+use Rattle.pst_model.specs.ActivityTree.{StepTree, Traverse, Sequence, Parallel, Schedule, Joined, Select, Repeat, If, Match, BranchTree, ArmTree, steps_of, branches_of, arms_of, step_of, guard_of, weight_of, spans_of}
 use Rattle.pst_model.specs.ModelTree.{ModelTree, ActionTree, ContentTree, Atomic, Compound}
 use Rattle.pst_model.specs.SoundActivity.{AreApart, AreArmsApart}
 use Rattle.pst_scen.specs.declared.tree.Fill.{Fill}
 use Rattle.pst_scen.specs.declared.tree.Fill.TheVariants as fill
 use Rattle.pst_legal.specs.Types.{type_of, action_instances}
 use Rattle.pst_legal.specs.Growing.{Look, Inner, Leaf}
-use Rattle.pst_legal.specs.Pieces.{Context, Piece, Action, Statement, Turning, in_turn, value_in, holds_in, statements, optional, turns, mask, IsValueOf, IsContent, IsActionWay, IsJoined, IsSelectWay, Matches, IsMatchWay, IsStatementWay, IsWay}
+use Rattle.pst_legal.specs.Pieces.{Context, Piece, Action, Statement, Turning, value_in, holds_in, statements, optional, turns, mask, IsValueOf, IsContent, IsActionWay, IsJoined, IsSelectWay, Matches, IsMatchWay, IsStatementWay, IsWay}
 use Rattle.pst_legal.specs.Menus.{Menu, Way, Place, Weighted, Closed, plain, content_menu, instance_menu, action_menu, join_menu, block_menu, available, branch_menu, branches_menu, repeat_menu, if_menu, is_in_span, is_in_arm, arm_menu, match_menu, statement_menu, menu}
 use Rattle.pst_built.proofs.Members.{In, in_get, in_find, in_numbered, to_numbered, to_filter, to_flat_map, none_found, any_from, any_found, to_contains, from_contains}
 use Rattle.pst_built.proofs.SoundActs.{in_place}

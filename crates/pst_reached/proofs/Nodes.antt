@@ -1,9 +1,9 @@
 -- One node more, and the values of its action.
-use Rattle.std.proofs.Common.{◌≡◌, ℕ, zero, suc, ◌+◌, ◌≤◌, ℤ, List, [], ◌∷◌, ◌++◌, map, length, take, drop, true, Option, Some, None, refl, sym, ap, ap₂, ◌∙◌, subst, arith, append_assoc, append-nil, length-append}
+use Rattle.std.proofs.Common.{◌≡◌, ℕ, suc, ◌+◌, ◌≤◌, ℤ, List, [], ◌∷◌, ◌++◌, map, length, take, drop, true, Option, Some, refl, sym, ap, ap₂, ◌∙◌, subst, arith, append_assoc, append-nil, length-append}
 use Rattle.std.specs.Prelude.{slice_get}
 use Rattle.std.specs.List.{enumerate_from, AllZip}
 use Rattle.std.specs.Option.{option_and_then, unwrap_or}
-use Rattle.std.proofs.lemmas.Option.{none-some, same_Some}
+use Rattle.std.proofs.lemmas.Option.{same_Some}
 use Rattle.std.proofs.lemmas.Bool.{le-leb, and_from}
 use Rattle.pst_model.specs.declared.action.Reference.{Reference}
 use Rattle.pst_model.specs.ModelTree.{ModelTree, ActionTree}
@@ -15,10 +15,10 @@ use Rattle.pst_scen.specs.declared.act.Filled.{Filled}
 use Rattle.pst_scen.specs.declared.act.Flow.TheVariants.{BufferIn}
 use Rattle.pst_scen.specs.declared.act.Link.TheVariants.{Nothing}
 use Rattle.pst_scen.specs.declared.scenario.Scenario.{Scenario}
-use Rattle.pst_legal.specs.Types.{type_of, served, reference_flow, action_reference}
+use Rattle.pst_legal.specs.Types.{served, reference_flow}
 use Rattle.pst_legal.specs.Growing.{Look, Inner, Leaf, open_reference, open_references, open_act, with_look, most_nodes, most_acts, IsWithin, is_within}
 use Rattle.pst_legal.specs.Reading.{with_value, node_with_value, put_value}
-use Rattle.pst_legal.specs.Fits.{IsSameLeaf, IsReferenceOf, IsActOf}
+use Rattle.pst_legal.specs.Fits.{IsSameLeaf, IsActOf}
 use Rattle.pst_reached.specs.Parts.{without_link, bare_act}
 use Rattle.pst_reached.proofs.Lists.{same_rows}
 use Rattle.pst_reached.proofs.Menus.{filled_with, look_with}

@@ -1,5 +1,5 @@
 -- A scenario of which some links are shown, without values.
-use Rattle.std.proofs.Common.{◌≡◌, ◌⊎◌, ℕ, zero, suc, ◌+◌, ◌<◌, ◌≤◌, List, [], ◌∷◌, ◌++◌, map, length, take, Bool, true, false, ◌&&◌, ◌||◌, nat_eq, if◌then◌else◌, Option, Some, None, refl, sym, ap, ap₂, ◌∙◌, subst, arith, length-take, inl, inr}
+use Rattle.std.proofs.Common.{◌≡◌, ℕ, zero, suc, ◌+◌, ◌<◌, ◌≤◌, List, [], ◌∷◌, ◌++◌, map, length, take, Bool, true, false, ◌&&◌, ◌||◌, nat_eq, if◌then◌else◌, Option, Some, None, refl, sym, ap, ap₂, ◌∙◌, subst, arith, length-take}
 use Rattle.std.specs.Prelude.{slice_get}
 use Rattle.std.specs.List.{enumerate_from}
 use Rattle.std.specs.Option.{option_map, option_and_then}
@@ -14,7 +14,7 @@ use Rattle.pst_scen.specs.declared.act.Link.TheVariants as link
 use Rattle.pst_scen.specs.declared.scenario.Scenario.{Scenario}
 use Rattle.pst_scen.specs.Scenarios.{reference_at}
 use Rattle.pst_legal.specs.Growing.{open_act}
-use Rattle.pst_legal.specs.SupplyReading.{alter, with_link, act_with_link, put_link}
+use Rattle.pst_legal.specs.SupplyReading.{with_link, act_with_link, put_link}
 use Rattle.pst_legal.specs.Fits.{IsActOf}
 use Rattle.pst_reached.specs.Parts.{without_link, without_values, bare_act, linked_act}
 use Rattle.pst_reached.proofs.Lists.{same_rows, length_numbered}

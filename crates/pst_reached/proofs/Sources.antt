@@ -1,11 +1,11 @@
 -- Each supplied scenario's sources are read by some choices.
-use Rattle.std.proofs.Common.{◌≡◌, ◌≢◌, ◌⊎◌, ℕ, zero, suc, ◌+◌, ◌-◌, ◌<◌, ◌≤◌, List, [], ◌∷◌, ◌++◌, map, length, replicate, take, Bool, true, false, not, ◌&&◌, ◌||◌, nat_eq, nat_lt, nat_le, if◌then◌else◌, Option, Some, None, refl, sym, ap, ap₂, ◌∙◌, subst, arith, length-append, length-take, inl, inr, ⊎_elim}
+use Rattle.std.proofs.Common.{◌≡◌, ◌≢◌, ℕ, zero, suc, ◌+◌, ◌<◌, ◌≤◌, List, [], ◌∷◌, ◌++◌, map, length, replicate, Bool, true, false, not, ◌&&◌, ◌||◌, nat_eq, nat_lt, if◌then◌else◌, Option, Some, None, refl, sym, ap, ◌∙◌, subst, arith, length-append, inl, inr, ⊎_elim}
 use Rattle.std.specs.Prelude.{slice_get, flat_map, option_to_list}
 use Rattle.std.specs.List.{enumerate_from, filter, find, range_with_len}
 use Rattle.std.specs.Option.{option_map, option_and_then}
-use Rattle.std.proofs.lemmas.Bool.{and_parts, and_from, and_right, or_parts, or_cases, eqb-true, eq-eqb, lt-ltb, cases_lt, cases_Bool, false≢true, false_from_ne_true}
+use Rattle.std.proofs.lemmas.Bool.{and_parts, and_from, and_right, or_parts, or_cases, eqb-true, eq-eqb, lt-ltb, cases_lt, false≢true, false_from_ne_true}
 use Rattle.std.proofs.lemmas.List.{length-map, length-replicate}
-use Rattle.std.proofs.lemmas.Option.{none-some, same_Some, slice_get-map, slice_get_within, option_and_then_some}
+use Rattle.std.proofs.lemmas.Option.{none-some, same_Some, slice_get_within, option_and_then_some}
 use Rattle.pst_rng.specs.Words.{start_of}
 use Rattle.pst_model.specs.declared.activity.Tie.{Tie}
 use Rattle.pst_model.specs.ModelTree.{ModelTree, ActionTree, ContentTree, Atomic, Compound}
@@ -20,15 +20,15 @@ use Rattle.pst_scen.specs.declared.act.Link.{Link}
 use Rattle.pst_scen.specs.declared.act.Link.TheVariants as link
 use Rattle.pst_scen.specs.declared.scenario.Scenario.{Scenario}
 use Rattle.pst_scen.specs.Scenarios.{reference_at, leaf_of, leaves_of, IsLinkOf, IsStream, IsScenario}
-use Rattle.pst_legal.specs.Types.{type_of, activity_in, action_instances}
+use Rattle.pst_legal.specs.Types.{activity_in, action_instances}
 use Rattle.pst_legal.specs.Growing.{open_act, most_acts, IsWithin}
 use Rattle.pst_legal.specs.Binds.{Bound, act_in, act_behind, bound_by, ties_at, bounds_of, is_to, is_from, from_of, to_of, fixed_source}
 use Rattle.pst_legal.specs.Slots.{node_behind}
 use Rattle.pst_legal.specs.Supplied.{is_need, is_source_for, IsSource, IsInferable, Linking, linkings, NamesBelow, AreNamedInTurn, Supplied}
 use Rattle.pst_legal.specs.Fits.{IsActOf}
 use Rattle.pst_legal.specs.Reading.{Stops, Reads, option_at}
-use Rattle.pst_legal.specs.SupplyReading.{Spot, spots, same_link, is_open, fixed_for, is_elsewhere, has_turn, next_need, Source, Initially, From, New, is_state, is_writer, is_stream, is_previous, initial_sources, is_free, fits, is_candidate, source_of, old_sources, sources_in, is_inferable, sources_of_type, inferred, may_infer, new_sources, free_sources, fixed_sources, sources_by, sources, put_link, linked_to, supplied_by, end_supply, chosen, read_turn, read_supply}
-use Rattle.pst_built.proofs.Members.{In, to_left, to_right, to_map, in_map, in_flat_map, to_flat_map, to_numbered, to_filter, in_find, none_found, any_found}
+use Rattle.pst_legal.specs.SupplyReading.{Spot, spots, same_link, is_open, fixed_for, is_elsewhere, has_turn, next_need, Source, Initially, From, New, is_state, is_writer, is_stream, is_previous, initial_sources, is_free, fits, is_candidate, source_of, old_sources, sources_in, is_inferable, sources_of_type, inferred, may_infer, new_sources, sources_by, sources, put_link, linked_to, supplied_by, end_supply, chosen, read_turn, read_supply}
+use Rattle.pst_built.proofs.Members.{In, to_left, to_right, to_map, in_flat_map, to_flat_map, to_numbered, to_filter, in_find, none_found, any_found}
 use Rattle.pst_built.proofs.SoundActs.{in_place}
 use Rattle.pst_built.proofs.Spots.{spot_is, to_spot, same_link_self}
 use Rattle.pst_reached.specs.Reached.{IsReached}
@@ -38,8 +38,8 @@ use Rattle.pst_reached.proofs.Led.{named}
 use Rattle.pst_reached.proofs.Nodes.{bare_is_open}
 use Rattle.pst_reached.proofs.Splits.{IsEarlier, spot_at, linking_at, cut_linkings, in_linkings, first_found}
 use Rattle.pst_reached.proofs.Naming.{names_next, names_all, below_more}
-use Rattle.pst_reached.proofs.Shown.{Known, none_known, also, shown_as, shown, so_far, length_shown, shown_at, Shows, at_shown, put_shown, shown_push, none_shown, all_shown}
-use Rattle.pst_reached.proofs.Links.{same_is, not_linked, not_initial, nothing_initial, same_action, same_reference, need_linked, other_unlinked, initial_state, state_apart, writer_is, stream_is, is_stream_of, stream_source, open_unknown, known_open, also_here, also_more, also_is, left, also_less}
+use Rattle.pst_reached.proofs.Shown.{Known, none_known, also, shown_as, shown, so_far, length_shown, shown_at, at_shown, put_shown, shown_push, none_shown, all_shown}
+use Rattle.pst_reached.proofs.Links.{same_is, not_initial, same_action, same_reference, need_linked, other_unlinked, initial_state, state_apart, writer_is, stream_is, is_stream_of, stream_source, open_unknown, also_here, also_more, also_is, left, also_less}
 
 -- ---- what a scenario's leaves and binds are
 

@@ -1,9 +1,6 @@
 -- Each fill of an activity is read by some choices.
-use Rattle.std.proofs.Common.{◌≡◌, ℕ, zero, suc, ◌+◌, ◌≤◌, ℤ, List, [], ◌∷◌, ◌++◌, map, length, take, true, if◌then◌else◌, Option, Some, None, refl, sym, ap, ap₂, ◌∙◌, subst, arith, append_assoc, append-nil, length-append, inl, inr}
-use Rattle.std.specs.Prelude.{slice_get}
+use Rattle.std.proofs.Common.{ℕ, zero, suc, ◌+◌, ℤ, List, [], ◌∷◌, ◌++◌, length, if◌then◌else◌, Option, Some, refl, sym, ap, ◌∙◌, subst, arith, append_assoc, append-nil, inl, inr}
 use Rattle.std.specs.List.{AllZip}
-use Rattle.std.proofs.lemmas.Option.{none-some, same_Some}
-use Rattle.std.proofs.lemmas.List.{length-take}
 use Rattle.pst_rng.specs.Words.{start_of}
 use Rattle.pst_rng.specs.Weights.{weighted_start_of}
 use Rattle.pst_expr.specs.Spans.{size_of}
@@ -12,15 +9,14 @@ use Rattle.pst_model.specs.ActivityTree.{StepTree, Traverse, Sequence, Parallel,
 use Rattle.pst_model.specs.ModelTree.{ModelTree, ActionTree, ContentTree, Atomic, Compound}
 use Rattle.pst_model.specs.SoundActivity.{EachStep, IsSoundStep}
 use Rattle.pst_model.specs.Sound.{IsSound, IsSoundAction, IsSoundContent}
-use Rattle.pst_scen.specs.declared.tree.Fill.TheVariants as fill
 use Rattle.pst_scen.specs.declared.scenario.Scenario.{Scenario}
-use Rattle.pst_legal.specs.Growing.{Look, with_look, IsWithin, is_within}
+use Rattle.pst_legal.specs.Growing.{Look, with_look, IsWithin}
 use Rattle.pst_legal.specs.Pieces.{Piece, Action, Statement, Turning, IsValueOf, IsContent, IsWay}
 use Rattle.pst_legal.specs.Menus.{Menu, Way, Place, Weighted, Closed, menu}
 use Rattle.pst_legal.specs.Reading.{Stops, Reads, Reader, then_read, read_place, put_value, value_number, read_fields, read_menu, read_pieces, read_way, read_piece}
 use Rattle.pst_legal.specs.Fits.{Filling, FillAll, Fills}
 use Rattle.pst_built.proofs.Members.{In, in_map}
-use Rattle.pst_built.proofs.Ways.{OfWay, Ways}
+use Rattle.pst_built.proofs.Ways.{Ways}
 use Rattle.pst_built.proofs.SoundActs.{all_get, all_in}
 use Rattle.pst_built.proofs.SoundPieces.{IsSoundBelow, IsSoundPiece, IsSoundWay, menu_sound}
 use Rattle.pst_reached.specs.Reached.{IsReached}

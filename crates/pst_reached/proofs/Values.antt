@@ -1,32 +1,28 @@
 -- Each value of an action, of what it writes and of what it claims is read by some choices.
-use Rattle.std.proofs.Common.{◌≡◌, ℕ, zero, suc, ◌+◌, ◌-◌, ◌<◌, ℤ, pos, List, [], ◌∷◌, ◌++◌, map, length, Bool, true, false, nat_eq, if◌then◌else◌, Option, Some, None, refl, sym, ap, ap₂, ◌∙◌, subst, arith, append_assoc, append-nil, length-append}
+use Rattle.std.proofs.Common.{◌≡◌, ℕ, ◌+◌, ◌-◌, ◌<◌, ℤ, pos, List, [], ◌∷◌, ◌++◌, map, length, Bool, true, false, nat_eq, if◌then◌else◌, Option, Some, None, refl, sym, ap, ◌∙◌, subst, arith, append_assoc, append-nil, length-append}
 use Rattle.std.specs.Prelude.{slice_get, flat_map, option_to_list}
 use Rattle.std.specs.List.{enumerate_from, range_with_len, AllZip}
 use Rattle.std.specs.Option.{option_and_then, unwrap_or}
-use Rattle.std.proofs.lemmas.Bool.{eqb-true, false≢true}
+use Rattle.std.proofs.lemmas.Bool.{eqb-true}
 use Rattle.std.proofs.lemmas.Int.{ints}
-use Rattle.std.proofs.lemmas.List.{map-append, map-id, length-map}
+use Rattle.std.proofs.lemmas.List.{map-append, map-id}
 use Rattle.std.proofs.lemmas.Option.{none-some, same_Some, slice_get_within}
-use Rattle.pst_expr.specs.declared.ranges.Span.{Span}
 use Rattle.pst_expr.specs.Spans.{size_of}
-use Rattle.pst_model.specs.declared.action.Field.{Field}
 use Rattle.pst_model.specs.declared.action.Claim.{Claim}
 use Rattle.pst_model.specs.declared.action.Reference.{Reference}
 use Rattle.pst_model.specs.declared.model.Pool.{Pool}
 use Rattle.pst_model.specs.ModelTree.{ModelTree, ActionTree, ObjectTree}
-use Rattle.pst_model.specs.Served.{objects_of}
 use Rattle.pst_model.specs.Sound.{IsSound}
 use Rattle.pst_scen.specs.declared.act.Act.{Act}
 use Rattle.pst_scen.specs.declared.act.Filled.{Filled}
 use Rattle.pst_scen.specs.declared.act.Claimed.{Claimed}
 use Rattle.pst_scen.specs.declared.scenario.Scenario.{Scenario}
-use Rattle.pst_scen.specs.Scenarios.{reference_at}
 use Rattle.pst_legal.specs.Types.{type_of, action_field, object_field, action_claim, served_claim, pool_object, is_output}
 use Rattle.pst_legal.specs.Pieces.{IsValueOf}
-use Rattle.pst_legal.specs.Fits.{AreObjectValues, IsReferenceOf, IsClaimOf, IsActOf}
-use Rattle.pst_legal.specs.Blanks.{Blank, Instance, OfAct, OfOutput, OfClaim, places, fields_of, claims_of, act_fields, instance_blanks, output_blanks, resource_blanks, act_blanks, instances_in, claim_instances, pool_field, claim_field, domain_in, domain_of, options, option_value}
+use Rattle.pst_legal.specs.Fits.{AreObjectValues, IsReferenceOf, IsActOf}
+use Rattle.pst_legal.specs.Blanks.{Instance, OfAct, OfOutput, OfClaim, places, fields_of, claims_of, act_fields, instance_blanks, output_blanks, resource_blanks, act_blanks, instances_in, claim_instances, pool_field, claim_field, domain_in, domain_of, option_value}
 use Rattle.pst_legal.specs.SupplyReading.{alter}
-use Rattle.pst_legal.specs.ValueReading.{is_lock, claimed_as, with_claim, act_with_value, filled_with_value, claimed_with_value, with_output_value, with_claim_value, with_option}
+use Rattle.pst_legal.specs.ValueReading.{is_lock, claimed_as, with_claim, act_with_value, filled_with_value, claimed_with_value, with_output_value, with_claim_value}
 use Rattle.pst_built.proofs.Parents.{get_more}
 use Rattle.pst_built.proofs.SoundActs.{served_pool}
 use Rattle.pst_reached.specs.Parts.{without_values, linked_act}
@@ -62,6 +58,16 @@ pool_room pool k l = by (nat_eq pool.size 0) refl
     by : (b : Bool) → nat_eq pool.size 0 ≡ b → k < size_of (if b then [] else record { low = pos 0; high = pos (pool.size - 1) } ∷ [])
     by true e = let none : pool.size ≡ 0 = eqb-true pool.size 0 e in absurd (omega (arith, l, none))
     by false e = omega (arith, ints, l)
+
+-- a reference's pool has objects of its type
+pub object_of : (m : ModelTree) → IsSound m → (x : Act) → (of : IsActOf m x) → (r : ℕ) (f : Filled) → (has : slice_get x.references r ≡ Some f) → pool_object m f.pool ≡ slice_get m.objects (of.references r f has).reference.object
+object_of m sound x of r f has =
+    let own = of.references r f has in
+    let pool = served_pool m sound x.action x.instance r f.pool of.type of.is own.pool in
+    let at_type : slice_get of.type.references r ≡ Some own.reference = sym (ap (option_and_then (λ (type : ActionTree). slice_get type.references r)) of.is) ∙ own.is in
+    let listed = get_more (map (λ (y : Reference). y.object) of.type.references) (map (λ (y : Claim). y.object) of.type.claims) r own.reference.object (get_mapped (λ (y : Reference). y.object) of.type.references r own.reference at_type) in
+    let same : pool.0.object ≡ own.reference.object = same_Some pool.0.object own.reference.object (sym pool.2 ∙ listed) in
+    ap (option_and_then (λ (p : Pool). slice_get m.objects p.object)) pool.1 ∙ ap (slice_get m.objects) same
 
 module _ (m : ModelTree) (sound : IsSound m) (t : Scenario) (pre post : List Act) (x : Act) (of : IsActOf m x) where
   abbrev a : ℕ
@@ -138,22 +144,14 @@ module _ (m : ModelTree) (sound : IsSound m) (t : Scenario) (pre post : List Act
     abbrev with_values : List ℤ → Filled
     with_values known = record { pool = f.pool; flow = f.flow; values = known; link = f.link }
 
-    own : IsReferenceOf m x r f
+    abbrev own : IsReferenceOf m x r f
     own = of.references r f has
-
-    object_of : pool_object m f.pool ≡ slice_get m.objects own.reference.object
-    object_of =
-        let pool = served_pool m sound x.action x.instance r f.pool of.type of.is own.pool in
-        let at_type : slice_get of.type.references r ≡ Some own.reference = sym (ap (option_and_then (λ (type : ActionTree). slice_get type.references r)) of.is) ∙ own.is in
-        let listed = get_more (map (λ (y : Reference). y.object) of.type.references) (map (λ (y : Claim). y.object) of.type.claims) r own.reference.object (get_mapped (λ (y : Reference). y.object) of.type.references r own.reference at_type) in
-        let same : pool.0.object ≡ own.reference.object = same_Some pool.0.object own.reference.object (sym pool.2 ∙ listed) in
-        ap (option_and_then (λ (p : Pool). slice_get m.objects p.object)) pool.1 ∙ ap (slice_get m.objects) same
 
     output_by : (b : Bool) → is_output f.flow ≡ b → Steps m (if b then map (OfOutput a (length before)) (places (fields_of (pool_object m f.pool))) else []) (at (writing (before ++ with_values [] ∷ after))) (at (writing (before ++ f ∷ after)))
     output_by false e = ap (λ vs. at (writing (before ++ with_values vs ∷ after))) (own.input e)
     output_by true e =
         let object = object_values (slice_get m.objects own.reference.object) f.values (own.output e) in
-        let is : pool_object m f.pool ≡ Some object.0 = object_of ∙ object.1 in
+        let is : pool_object m f.pool ≡ Some object.0 = object_of m sound x of r f has ∙ object.1 in
         let there = λ (known : List ℤ). writing (before ++ with_values known ∷ after) in
         subst (λ o. Steps m (map (OfOutput a (length before)) (places (fields_of o))) (at (there [])) (at (there f.values))) (sym is)
         (values_steps m (OfOutput a (length before)) (λ known. at (there known)) object.0.fields

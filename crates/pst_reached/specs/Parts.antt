@@ -1,5 +1,5 @@
 -- What of a scenario its first parts read: its leaves alone, and then its links.
-use Rattle.std.specs.Prelude.{List, [], map, length, take}
+use Rattle.std.specs.Prelude.{[], map, length, take}
 use Rattle.pst_scen.specs.declared.act.Act.{Act}
 use Rattle.pst_scen.specs.declared.act.Filled.{Filled}
 use Rattle.pst_scen.specs.declared.act.Link.TheVariants.{Nothing}

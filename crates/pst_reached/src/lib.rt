@@ -1,4 +1,4 @@
-//! Every legal scenario is read: a list of choices leads to it, for every seed.
+//! Every legal scenario is read: some list of choices leads to it, whatever the seed is.
 //!
 //! Each law is the contract of a function that does nothing. A caller that needs a law in a proof
 //! calls its function.
@@ -6,4 +6,4 @@
 
 mod laws;
 
-pub use laws::activities_are_read;
+pub use laws::{activities_are_read, legal_scenarios_are_read, sources_are_read, values_are_read};
