@@ -51,9 +51,11 @@ to_action : (m : ModelTree) (action : ℕ) (top : Option ℕ) (look : Look) (bel
 to_action m action top look below way =
     let instances = action_instances m (Some way.type) top in
     let k = in_place instances way.instance (in_contains instances way.instance way.inside) in
-    subst (λ t. LeadsTo (action_menu m action top t) look below) (sym way.is)
-    (k.0, slice_get_within instances k.0 way.instance k.1,
-    subst (λ o. LeadsTo (instance_menu way.type action o) look below) (sym k.1) (to_content way.type way.type.content action way.instance look below way.content))
+    subst (λ t. LeadsTo (action_menu m action top t) look below) (sym way.is) (
+      k.0,
+      slice_get_within instances k.0 way.instance k.1,
+      subst (λ o. LeadsTo (instance_menu way.type action o) look below) (sym k.1) (to_content way.type way.type.content action way.instance look below way.content),
+    )
 
 -- ---- blocks that wait for branches
 

@@ -72,7 +72,6 @@ put_look m s parent (Leaf action instance) known v =
     ap (λ ns. record { level = s.level; nodes = ns; actions = s.actions ++ open_act m action instance (Some (length s.nodes)) ∷ []; firsts = s.firsts })
     (put_last v s.nodes (record { parent = parent; fill = fill.Leaf (length s.actions) }))
 
-
 -- ---- sizes
 
 pub record IsAtMost (s t : Scenario) : Type 0 where

@@ -94,11 +94,12 @@ supplied_read m root seed s sound scenario fits supplied =
     let one = activities_read m root seed s sound scenario fits in
     let two = sources_read m root seed one.end s scenario fits supplied in
     let three = values_read m root seed two.end s sound scenario fits in
-    let first = two.choices ++ three.choices in
-    (one.choices ++ (two.choices ++ (three.choices ++ [])),
-    ap (λ r. answer_of (then_read (then_read r (read_supply m seed)) (read_values m seed))) (one.reads (two.choices ++ (three.choices ++ [])))
-    ∙ ap (λ r. answer_of (then_read r (read_values m seed))) (two.reads (three.choices ++ []))
-    ∙ ap answer_of (three.reads []))
+    let first = two.choices ++ three.choices in (
+      one.choices ++ (two.choices ++ (three.choices ++ [])),
+      ap (λ r. answer_of (then_read (then_read r (read_supply m seed)) (read_values m seed))) (one.reads (two.choices ++ (three.choices ++ [])))
+          ∙ ap (λ r. answer_of (then_read r (read_values m seed))) (two.reads (three.choices ++ []))
+          ∙ ap answer_of (three.reads []),
+    )
 
 pub legal_read : LegalScenariosAreRead
 legal_read m root seed s sound legal = supplied_read m root seed s sound legal.scenario legal.fits legal.supplied
