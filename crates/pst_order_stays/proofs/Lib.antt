@@ -1,0 +1,4 @@
+pub mod Steps
+pub mod Longer
+pub mod Stays
+mod Refused
