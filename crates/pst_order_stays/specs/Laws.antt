@@ -1,7 +1,8 @@
 -- What of the order stays as a list of choices grows.
-use Rattle.std.specs.Prelude.{◌≡◌, ◌≢◌, ℕ, ◌<◌, List, ◌++◌, length}
+use Rattle.std.specs.Prelude.{◌≡◌, ◌↔◌, ◌≢◌, ℕ, ◌<◌, List, ◌++◌, length}
 use Rattle.pst_model.specs.ModelTree.{ModelTree}
 use Rattle.pst_scen.specs.declared.scenario.Scenario.{Scenario}
+use Rattle.pst_scen.specs.Scenarios.{AreLinked, IsWellFormed}
 use Rattle.pst_scen.specs.Order.{Before, Together, Cause, Must}
 use Rattle.pst_scen.specs.Conflicts.{Conflict}
 use Rattle.pst_scen.specs.Plans.{Contend, ClashesAlone, StandParallel}
@@ -67,3 +68,10 @@ abbrev pub ParallelClashesStay : Type 0
 ParallelClashesStay =
     (m : ModelTree) (root seed level : ℕ) (choices : List ℕ) (s : Scenario) (a b : ℕ)
     → HasRead (read m root seed level choices) s → StandParallel s a b → a ≢ b → Contend s a b → IsBarren m root seed level choices
+
+-- A plan looks at no value: two linked scenarios of which each goes on from the other, so that they differ in values alone, have
+-- the same groups, the same order and the same conflicts.
+abbrev pub PlansLookAtNoValue : Type 0
+PlansLookAtNoValue =
+    (s t : Scenario) → AreLinked s.actions → AreLinked t.actions → IsWellFormed s → IsWellFormed t → GoesOn s t → GoesOn t s → (a b : ℕ)
+    → (Together s a b ↔ Together t a b) × (Must s a b ↔ Must t a b) × (Conflict s a b ↔ Conflict t a b)

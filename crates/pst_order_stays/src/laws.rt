@@ -1,6 +1,6 @@
 //! Laws of the order of scenarios that are still being read.
 use pst_order::whole_is_sound;
-ghost use Rattle.pst_order_stays.specs.Laws.{LongerListsGoOn, OrdersStay, CyclesStay, GroupClashesStay, OwnClashesStay, ParallelOrdersStay, ParallelClashesStay};
+ghost use Rattle.pst_order_stays.specs.Laws.{LongerListsGoOn, OrdersStay, CyclesStay, GroupClashesStay, OwnClashesStay, ParallelOrdersStay, ParallelClashesStay, PlansLookAtNoValue};
 
 /// What a longer list reads goes on from what the list has read: nodes, actions, links and claims
 /// stay, and further ones come.
@@ -30,4 +30,10 @@ pub fn clashes_stay()
 pub fn parallel_disputes_stay()
     ensures orders { ParallelOrdersStay }
     ensures clashes { ParallelClashesStay }
+{}
+
+/// A plan looks at no value: two linked scenarios that differ in values alone have the same groups,
+/// the same order and the same conflicts.
+pub fn plans_look_at_no_value()
+    ensures { PlansLookAtNoValue }
 {}

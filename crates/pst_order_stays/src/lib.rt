@@ -6,4 +6,6 @@
 
 mod laws;
 
-pub use laws::{clashes_stay, longer_lists_go_on, orders_stay, parallel_disputes_stay};
+pub use laws::{
+    clashes_stay, longer_lists_go_on, orders_stay, parallel_disputes_stay, plans_look_at_no_value,
+};
