@@ -79,7 +79,6 @@ before_passed [] (x ∷ xs) h = tt
 before_passed (o ∷ os) (x ∷ xs) (inl l) = inl l
 before_passed (o ∷ os) (x ∷ xs) (inr e) = inr (e.0, before_passed os xs e.1)
 
-
 pub not_itself : (xs : List ℕ) → IsBefore xs xs → ⊥
 not_itself [] h = h
 not_itself (x ∷ xs) (inl l) = omega (arith, l)

@@ -1,14 +1,12 @@
 -- The steps of a search pass no list that reads a legal scenario.
-use Rattle.std.proofs.Common.{◌≡◌, ◌⊎◌, ℕ, zero, suc, ◌+◌, ◌<◌, ◌≤◌, List, [], ◌∷◌, ◌++◌, length, get_or, All, AllPairs, refl, sym, ap, ◌∙◌, subst, inl, inr, ⊎_elim, arith, length-append}
+use Rattle.std.proofs.Common.{◌≡◌, ◌⊎◌, ℕ, zero, suc, ◌+◌, ◌<◌, ◌≤◌, List, [], ◌∷◌, ◌++◌, length, get_or, AllPairs, refl, sym, ap, ◌∙◌, subst, inl, inr, ⊎_elim, arith, length-append}
 use Rattle.std.proofs.lemmas.Bool.{cases_lt}
 use Rattle.std.proofs.lemmas.List.{get_or_append_left, get_or-append-add}
-use Rattle.pst_model.specs.ModelTree.{ModelTree}
 use Rattle.pst_scen.specs.declared.scenario.Scenario.{Scenario}
-use Rattle.pst_legal.specs.ValueReading.{Answer, Options, Dead, Whole, read}
-use Rattle.pst_legal.specs.First.{IsBefore, ReadsLegal, NoneBefore, IsLive, last_of, AreLive}
+use Rattle.pst_legal.specs.ValueReading.{Dead, Whole, read}
+use Rattle.pst_legal.specs.First.{IsBefore, ReadsLegal, IsLive, last_of}
 use Rattle.pst_longer.specs.Laws.{ChoicesNameOptions}
 use Rattle.pst_reached.specs.Laws.{LegalScenariosAreRead}
-use Rattle.pst_list_order.specs.Passed.{IsPassed, NonePassed}
 use Rattle.pst_list_order.specs.Laws.{NothingIsFirst, GoesDown, GoesToNext, GoesUp, GoesOver, LevelsEnd, LiveListsRise}
 use Rattle.pst_list_order.proofs.Order.{before_zero, before_next, GoesOn, passed_front, Begins, passed_cases, before_then}
 

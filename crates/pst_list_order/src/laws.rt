@@ -1,7 +1,8 @@
 //! Laws of the order of lists of choices.
+ghost use Rattle.pst_list_order.specs.Laws.{BeforeIsStrict, BeforeGoesOn, NothingIsFirst, GoesDown, GoesToNext, GoesUp, GoesOver, LevelsEnd, LiveListsRise};
+
 use pst_longer::places_go_on;
 use pst_reached::legal_scenarios_are_read;
-ghost use Rattle.pst_list_order.specs.Laws.{BeforeIsStrict, BeforeGoesOn, NothingIsFirst, GoesDown, GoesToNext, GoesUp, GoesOver, LevelsEnd, LiveListsRise};
 
 /// The lexicographic order is strict and goes on from list to list.
 pub fn before_is_an_order()

@@ -1,16 +1,14 @@
 -- Scenarios that differ in values alone have one order.
-use Rattle.std.proofs.Common.{◌≡◌, ◌≢◌, ℕ, Some, refl, sym, ap, ◌∙◌, subst}
+use Rattle.std.proofs.Common.{◌≢◌, ℕ, ap, ◌∙◌, subst}
 use Rattle.std.specs.Prelude.{slice_get}
 use Rattle.std.specs.Option.{option_and_then}
 use Rattle.pst_scen.specs.declared.act.Act.{Act}
-use Rattle.pst_scen.specs.declared.act.Flow.TheVariants.{StateIn}
 use Rattle.pst_scen.specs.declared.act.Link.{Link}
 use Rattle.pst_scen.specs.declared.act.Link.TheVariants as link
 use Rattle.pst_scen.specs.declared.scenario.Scenario.{Scenario}
-use Rattle.pst_scen.specs.Scenarios.{IsLinkOf, AreLinked, IsWellFormed}
+use Rattle.pst_scen.specs.Scenarios.{IsLinkOf, AreLinked}
 use Rattle.pst_scen.specs.Flows.{Reads}
 use Rattle.pst_scen.specs.Order.{Cause, Sequence, Buffer, Source, Previous, Replaced, Must, Directly, Through}
-use Rattle.pst_order_stays.specs.GoesOn.{GoesOn}
 use Rattle.pst_order_stays.specs.SoFar as so-far
 use Rattle.pst_order_stays.specs.SoFar.{CauseSoFar, MustSoFar}
 use Rattle.pst_order_stays.specs.Laws.{PlansLookAtNoValue}

@@ -1,6 +1,7 @@
 //! Laws of the order of scenarios that are still being read.
-use pst_order::whole_is_sound;
 ghost use Rattle.pst_order_stays.specs.Laws.{LongerListsGoOn, OrdersStay, CyclesStay, GroupClashesStay, OwnClashesStay, ParallelOrdersStay, ParallelClashesStay, PlansLookAtNoValue};
+
+use pst_order::whole_is_sound;
 
 /// What a longer list reads goes on from what the list has read: nodes, actions, links and claims
 /// stay, and further ones come.

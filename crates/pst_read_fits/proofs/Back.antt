@@ -1,17 +1,17 @@
 -- What blanks that are filled one after another come to.
-use Rattle.std.proofs.Common.{◌≡◌, ℕ, zero, suc, ◌+◌, ◌<◌, ℤ, pos, List, [], ◌∷◌, ◌++◌, map, length, get_or, Option, Some, None, refl, sym, ap, ◌∙◌, subst, arith, append_assoc, append-nil, length-append}
+use Rattle.std.proofs.Common.{◌≡◌, ℕ, zero, suc, ◌+◌, ◌<◌, ℤ, pos, List, [], ◌∷◌, ◌++◌, map, length, get_or, Some, refl, sym, ap, ◌∙◌, subst, arith, append_assoc, append-nil, length-append}
 use Rattle.std.specs.Prelude.{slice_get, flat_map}
 use Rattle.std.specs.List.{enumerate_from, range_with_len, AllZip}
 use Rattle.std.proofs.lemmas.Option.{none-some, same_Some}
 use Rattle.pst_rng.specs.Words.{start_of}
-use Rattle.pst_expr.specs.Spans.{IsDomain, values, size_of}
+use Rattle.pst_expr.specs.Spans.{values, size_of}
 use Rattle.pst_expr.specs.Laws.{DomainsListValues}
 use Rattle.pst_model.specs.declared.action.Field.{Field}
 use Rattle.pst_model.specs.ModelTree.{ModelTree}
 use Rattle.pst_scen.specs.declared.scenario.Scenario.{Scenario}
 use Rattle.pst_legal.specs.Pieces.{IsValueOf}
 use Rattle.pst_legal.specs.Blanks.{Blank, domain_of, options, option_value}
-use Rattle.pst_legal.specs.Reading.{Reading, Reads, Reader, value_number}
+use Rattle.pst_legal.specs.Reading.{Reads, Reader, value_number}
 use Rattle.pst_legal.specs.ValueReading.{with_option, read_blanks}
 use Rattle.pst_reached.proofs.Blanks.{Steps, at_length}
 use Rattle.pst_read_fits.proofs.Went.{place_went, value_of, AreDomains}

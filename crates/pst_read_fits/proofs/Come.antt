@@ -1,39 +1,34 @@
 -- What the values of an action come to: each in its domain.
 use Rattle.std.proofs.Common.{◌≡◌, ℕ, zero, suc, ◌+◌, ◌-◌, ◌<◌, ℤ, pos, List, [], ◌∷◌, ◌++◌, map, length, Bool, true, false, nat_eq, if◌then◌else◌, Option, Some, None, refl, sym, ap, ◌∙◌, subst, arith, append_assoc, append-nil, length-append}
 use Rattle.std.specs.Prelude.{slice_get, flat_map, option_to_list}
-use Rattle.std.specs.List.{enumerate_from, range_with_len, AllZip}
+use Rattle.std.specs.List.{enumerate_from, range_with_len}
 use Rattle.std.specs.Option.{option_and_then, unwrap_or}
 use Rattle.std.proofs.lemmas.Bool.{eq-eqb, false≢true}
 use Rattle.std.proofs.lemmas.Int.{ints}
 use Rattle.std.proofs.lemmas.List.{map-id, length-map}
 use Rattle.std.proofs.lemmas.Option.{none-some, same_Some, slice_get_within}
-use Rattle.pst_expr.specs.declared.ranges.Span.{Span}
 use Rattle.pst_expr.specs.Spans.{size_of}
 use Rattle.pst_expr.specs.Laws.{DomainsListValues}
-use Rattle.pst_model.specs.declared.action.Field.{Field}
 use Rattle.pst_model.specs.declared.action.Claim.{Claim}
 use Rattle.pst_model.specs.declared.model.Pool.{Pool}
 use Rattle.pst_model.specs.declared.object.ObjectKind.TheVariants.{Resource}
 use Rattle.pst_model.specs.ModelTree.{ModelTree, ActionTree, ObjectTree}
-use Rattle.pst_model.specs.SoundSlots.{IsOfKind}
 use Rattle.pst_model.specs.Sound.{IsSound, IsSoundAction, IsSoundObject, IsSoundField, IsSoundClaim}
 use Rattle.pst_scen.specs.declared.act.Act.{Act}
 use Rattle.pst_scen.specs.declared.act.Filled.{Filled}
 use Rattle.pst_scen.specs.declared.act.Claimed.{Claimed}
 use Rattle.pst_scen.specs.declared.scenario.Scenario.{Scenario}
-use Rattle.pst_scen.specs.Scenarios.{reference_at}
-use Rattle.pst_legal.specs.Types.{type_of, action_field, object_field, action_reference, action_claim, served_claim, pool_object, reference_flow, is_output}
-use Rattle.pst_legal.specs.Pieces.{IsValueOf}
+use Rattle.pst_legal.specs.Types.{type_of, action_field, object_field, action_claim, served_claim, pool_object, is_output}
 use Rattle.pst_legal.specs.Fits.{AreObjectValues, IsReferenceOf, IsClaimOf, IsActOf}
-use Rattle.pst_legal.specs.Blanks.{Blank, Instance, OfAct, OfOutput, OfClaim, places, fields_of, claims_of, act_fields, instance_blanks, output_blanks, resource_blanks, act_blanks, instances_in, claim_instances, pool_field, claim_field, domain_in, domain_of, options, option_value}
+use Rattle.pst_legal.specs.Blanks.{Instance, OfAct, OfOutput, OfClaim, places, fields_of, claims_of, act_fields, instance_blanks, output_blanks, resource_blanks, act_blanks, instances_in, claim_instances, pool_field, claim_field, domain_in, domain_of, option_value}
 use Rattle.pst_legal.specs.SupplyReading.{alter}
-use Rattle.pst_legal.specs.ValueReading.{is_lock, claimed_as, with_claim, act_with_value, filled_with_value, claimed_with_value, with_output_value, with_claim_value, with_option}
+use Rattle.pst_legal.specs.ValueReading.{is_lock, claimed_as, with_claim, act_with_value, filled_with_value, claimed_with_value, with_output_value, with_claim_value}
 use Rattle.pst_built.proofs.SoundActs.{all_get, some_and}
 use Rattle.pst_reached.proofs.Lists.{get_below, get_mapped, zipped}
 use Rattle.pst_reached.proofs.Blanks.{Steps, at_length, alter_at}
 use Rattle.pst_reached.proofs.Values.{pool_field_is}
 use Rattle.pst_read_fits.proofs.Went.{AreDomains}
-use Rattle.pst_read_fits.proofs.Back.{steps_cut, Valued, values_come, Rows, rows_back}
+use Rattle.pst_read_fits.proofs.Back.{steps_cut, values_come, rows_back}
 use Rattle.pst_read_fits.proofs.Filled.{all_domains}
 use Rattle.pst_read_fits.proofs.Fresh.{IsFresh}
 use Rattle.pst_read_fits.proofs.Served.{IsOpenReference, open_is, as_many}

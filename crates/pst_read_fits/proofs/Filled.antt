@@ -1,10 +1,8 @@
 -- What is read fills the activity.
-use Rattle.std.proofs.Common.{◌≡◌, ℕ, zero, suc, ◌+◌, ◌≤◌, ℤ, pos, negsuc, List, [], ◌∷◌, ◌++◌, map, length, take, Bool, true, false, nat_lt, nat_le, if◌then◌else◌, Option, Some, None, refl, sym, ap, ◌∙◌, subst, arith, inl, inr}
-use Rattle.std.specs.Prelude.{slice_get, All}
+use Rattle.std.proofs.Common.{◌≡◌, ℕ, zero, suc, ◌+◌, ℤ, pos, negsuc, List, [], ◌∷◌, ◌++◌, length, Bool, true, false, nat_lt, nat_le, if◌then◌else◌, Option, Some, None, refl, sym, ◌∙◌, subst, arith}
+use Rattle.std.specs.Prelude.{slice_get}
 use Rattle.std.specs.List.{enumerate_from, find, AllZip}
-use Rattle.std.proofs.lemmas.Bool.{leb-true, and_parts}
 use Rattle.std.proofs.lemmas.List.{take_all}
-use Rattle.std.proofs.lemmas.Option.{none-some, same_Some, slice_get_within}
 use Rattle.pst_rng.specs.Words.{start_of}
 use Rattle.pst_rng.specs.Weights.{weighted_start_of}
 use Rattle.pst_expr.specs.Laws.{DomainsListValues}
@@ -19,21 +17,20 @@ use Rattle.pst_scen.specs.declared.tree.Fill.TheVariants as fill
 use Rattle.pst_scen.specs.declared.act.Act.{Act}
 use Rattle.pst_scen.specs.declared.scenario.Scenario.{Scenario}
 use Rattle.pst_legal.specs.Types.{type_of, action_instances}
-use Rattle.pst_legal.specs.Growing.{nothing_yet, Look, with_look, most_nodes, most_acts, most_levels, IsWithin, is_within}
+use Rattle.pst_legal.specs.Growing.{nothing_yet, with_look, most_levels}
 use Rattle.pst_legal.specs.Pieces.{Context, Piece, Action, Statement, Turning, statements, value_in, mask}
 use Rattle.pst_legal.specs.Menus.{Menu, Way, Place, Weighted, Closed, plain, content_menu, instance_menu, action_menu, join_menu, block_menu, available, branch_menu, repeat_menu, if_menu, is_in_arm, arm_menu, match_menu, statement_menu, menu}
-use Rattle.pst_legal.specs.Reading.{Reading, Wants, Stops, Reads, Reader, then_read, read_pieces, read_way, read_menu, read_piece, read_tree}
+use Rattle.pst_legal.specs.Reading.{Reading, Wants, Stops, Reads, Reader, then_read, read_pieces, read_menu, read_piece, read_tree}
 use Rattle.pst_legal.specs.SupplyReading.{read_supply}
-use Rattle.pst_legal.specs.ValueReading.{Whole, read_values, answer_of, read_all, read}
-use Rattle.pst_legal.specs.Fits.{Filling, FillAll, Fills, IsSameLeaf, FillsRoot}
-use Rattle.pst_built.proofs.Members.{In}
+use Rattle.pst_legal.specs.ValueReading.{Whole, read_values, answer_of, read_all}
+use Rattle.pst_legal.specs.Fits.{Filling, FillAll, Fills, IsSameLeaf}
 use Rattle.pst_built.proofs.SoundActs.{all_get}
-use Rattle.pst_built.proofs.Gives.{Gives, gives_then, gives_more}
+use Rattle.pst_built.proofs.Gives.{Gives}
 use Rattle.pst_built.proofs.Trees.{IsGrowth, tree_grows}
 use Rattle.pst_read_fits.specs.Laws.{ActivitiesFillTheirRoot, WholeReadingsFillTheirRoot}
 use Rattle.pst_read_fits.proofs.Ways.{from_menu}
-use Rattle.pst_read_fits.proofs.Went.{AreDomains, HasDomains, place_went, Twice, twice, menu_went, no_stops}
-use Rattle.pst_read_fits.proofs.Keeps.{Keeps, keeps_then, supply_keeps, values_keep, zip_each}
+use Rattle.pst_read_fits.proofs.Went.{AreDomains, HasDomains, place_went, twice, menu_went, no_stops}
+use Rattle.pst_read_fits.proofs.Keeps.{keeps_then, supply_keeps, values_keep, zip_each}
 
 -- ---- fields of a sound model have domains
 
@@ -142,9 +139,12 @@ module _ (m : ModelTree) (sound : IsSound m) where
   piece_fills : DomainsListValues → (seed levels : ℕ) → Fitting (read_piece m seed levels) (Fills m levels)
   piece_fills listed seed zero x parent s t place left end rest e = absurd (no_level seed (menu m x) s t place left end rest e)
   piece_fills listed seed (suc levels) x parent s t place left end rest e =
-      let w = menu_went listed m seed (menu m x) (read_piece m seed levels) parent s t place left end rest (menu_domains x) e in
-      (w.look, w.below, from_menu m x w.look w.below w.leads,
-      pieces_fill (read_piece m seed levels) (Fills m levels) (piece_fills listed seed levels) w.below (length s.nodes) (with_look m s parent w.look) t w.place w.left end rest w.reads)
+      let w = menu_went listed m seed (menu m x) (read_piece m seed levels) parent s t place left end rest (menu_domains x) e in (
+        w.look,
+        w.below,
+        from_menu m x w.look w.below w.leads,
+        pieces_fill (read_piece m seed levels) (Fills m levels) (piece_fills listed seed levels) w.below (length s.nodes) (with_look m s parent w.look) t w.place w.left end rest w.reads,
+      )
 
 -- ---- the root
 
@@ -157,15 +157,16 @@ same_leaf (x ∷ xs) = (record { action = refl; instance = refl; node = refl }, 
 
 pub fill_root : DomainsListValues → ActivitiesFillTheirRoot
 fill_root listed m root seed level place choices left s next sound e =
-    let growth = gives_here (IsGrowth level (nothing_yet level) None) (read_tree m seed root (nothing_yet level) place choices) s next left (tree_grows m seed root level place choices) e in
-    (record {
-      tree = s;
-      fills = subst (λ l. Fills m most_levels (Action root None) None (nothing_yet l) s) (sym growth.grown.of_level)
-          (piece_fills m sound listed seed most_levels (Action root None) None (nothing_yet level) s place choices next left e);
-      nodes = refl;
-      leaves = subst (λ acts. AllZip IsSameLeaf acts s.actions) (sym (take_all (length s.actions) s.actions (omega arith))) (same_leaf s.actions);
-    },
-    growth.within)
+    let growth = gives_here (IsGrowth level (nothing_yet level) None) (read_tree m seed root (nothing_yet level) place choices) s next left (tree_grows m seed root level place choices) e in (
+      record {
+        tree = s;
+        fills = subst (λ l. Fills m most_levels (Action root None) None (nothing_yet l) s) (sym growth.grown.of_level)
+            (piece_fills m sound listed seed most_levels (Action root None) None (nothing_yet level) s place choices next left e);
+        nodes = refl;
+        leaves = subst (λ acts. AllZip IsSameLeaf acts s.actions) (sym (take_all (length s.actions) s.actions (omega arith))) (same_leaf s.actions);
+      },
+      growth.within,
+    )
 
 -- what is answered whole is read to its end
 pub answered : (r : Reading) (s : Scenario) → answer_of r ≡ Whole s → (place : ℕ) × (r ≡ Reads s place [])

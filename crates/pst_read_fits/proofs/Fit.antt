@@ -1,38 +1,35 @@
 -- What is read whole has its values.
 use Rattle.std.proofs.Common.{◌≡◌, ◌≢◌, ℕ, zero, suc, ◌+◌, ◌<◌, ◌≤◌, ℤ, List, [], ◌∷◌, ◌++◌, map, length, cond, Bool, true, false, nat_eq, ◌&&◌, if◌then◌else◌, Option, Some, None, refl, sym, ap, ap₂, ◌∙◌, subst, arith, append_assoc, inl, inr, ⊎_elim}
 use Rattle.std.specs.Prelude.{slice_get, flat_map}
-use Rattle.std.specs.List.{enumerate_from, filter, list_any, range_with_len, AllZip}
+use Rattle.std.specs.List.{enumerate_from, filter, list_any, range_with_len}
 use Rattle.std.specs.Option.{option_and_then}
 use Rattle.std.proofs.lemmas.Bool.{and_parts, eqb-true, eq-eqb, false≢true, false_from_ne_true}
-use Rattle.std.proofs.lemmas.List.{map-id, length-map}
+use Rattle.std.proofs.lemmas.List.{map-id}
 use Rattle.std.proofs.lemmas.Option.{none-some, same_Some, slice_get_within}
 use Rattle.pst_expr.specs.Laws.{DomainsListValues}
 use Rattle.pst_model.specs.declared.model.Pool.{Pool}
 use Rattle.pst_model.specs.declared.object.ObjectKind.TheVariants.{State}
-use Rattle.pst_model.specs.ModelTree.{ModelTree, ActionTree, ObjectTree}
+use Rattle.pst_model.specs.ModelTree.{ModelTree, ObjectTree}
 use Rattle.pst_model.specs.Sound.{IsSound}
 use Rattle.pst_scen.specs.declared.act.Act.{Act}
 use Rattle.pst_scen.specs.declared.act.Claimed.{Claimed}
 use Rattle.pst_scen.specs.declared.scenario.First.{First}
 use Rattle.pst_scen.specs.declared.scenario.Scenario.{Scenario}
 use Rattle.pst_legal.specs.Types.{type_of, pool_object, is_state_pool, has_kind}
-use Rattle.pst_legal.specs.Pieces.{IsValueOf, Action}
 use Rattle.pst_legal.specs.Growing.{nothing_yet}
-use Rattle.pst_legal.specs.Fits.{AreObjectValues, IsActOf, HasValues, Fits}
-use Rattle.pst_legal.specs.Blanks.{Blank, OfFirst, places, fields_of, claims_of, refers_to, used_state_pools, first_blanks, instance_blanks, act_blanks, claim_blanks, value_blanks, domain_in, option_value}
+use Rattle.pst_legal.specs.Fits.{AreObjectValues, IsActOf, HasValues}
+use Rattle.pst_legal.specs.Blanks.{OfFirst, places, fields_of, claims_of, refers_to, used_state_pools, first_blanks, instance_blanks, act_blanks, claim_blanks, value_blanks, domain_in, option_value}
 use Rattle.pst_legal.specs.Reading.{Reads, then_read, read_tree}
 use Rattle.pst_legal.specs.SupplyReading.{read_supply}
 use Rattle.pst_legal.specs.ValueReading.{more_values, first_with_value, empty_first, with_firsts, read_blanks, read_values, read_all}
-use Rattle.pst_built.specs.Laws.{IsConcreteRoot}
 use Rattle.pst_built.proofs.Members.{In, in_append, in_map, in_filter}
-use Rattle.pst_built.proofs.SoundActs.{in_place}
 use Rattle.pst_built.proofs.Whole.{whole_is_within}
 use Rattle.pst_reached.proofs.Lists.{get_below, get_mapped, zipped}
 use Rattle.pst_reached.proofs.Blanks.{Steps}
 use Rattle.pst_reached.proofs.Values.{pool_field_is}
 use Rattle.pst_read_fits.specs.Laws.{WholeReadingsFit}
-use Rattle.pst_read_fits.proofs.Went.{AreDomains, Twice, twice}
-use Rattle.pst_read_fits.proofs.Back.{blanks_went, Cut, steps_cut, Valued, values_come, Rows, rows_back}
+use Rattle.pst_read_fits.proofs.Went.{twice}
+use Rattle.pst_read_fits.proofs.Back.{blanks_went, steps_cut, values_come, rows_back}
 use Rattle.pst_read_fits.proofs.Filled.{answered, gives_here, whole_fills_root}
 use Rattle.pst_read_fits.proofs.Fresh.{AreFresh, fresh_tree, fresh_supply}
 use Rattle.pst_read_fits.proofs.Come.{object_domains, IsClaimRead, with_claims, claims_come, act_come}

@@ -1,5 +1,5 @@
 -- Before claims and values are read, nothing but its links is known of an action, which is concrete.
-use Rattle.std.proofs.Common.{◌≡◌, ℕ, zero, suc, ◌+◌, ℤ, List, [], ◌∷◌, ◌++◌, map, length, Bool, true, false, not, nat_eq, if◌then◌else◌, Option, Some, None, refl, sym, ap, ◌∙◌, subst, arith, inl, inr, ⊎_elim}
+use Rattle.std.proofs.Common.{◌≡◌, ℕ, zero, suc, ◌+◌, ℤ, List, [], ◌∷◌, ◌++◌, map, length, Bool, true, false, nat_eq, if◌then◌else◌, Option, Some, None, refl, sym, ap, ◌∙◌, subst, arith, ⊎_elim}
 use Rattle.std.specs.Prelude.{slice_get}
 use Rattle.std.specs.List.{enumerate_from}
 use Rattle.std.specs.Option.{option_map}
@@ -20,13 +20,13 @@ use Rattle.pst_legal.specs.Growing.{nothing_yet, Look, Inner, Leaf, open_act, op
 use Rattle.pst_legal.specs.Pieces.{Piece, Action}
 use Rattle.pst_legal.specs.Menus.{menu}
 use Rattle.pst_legal.specs.Reading.{Stops, Reader, read_pieces, read_way, read_piece, read_tree}
-use Rattle.pst_legal.specs.SupplyReading.{Spot, Source, Initially, From, New, alter, with_link, act_with_link, put_link, linked_to, is_stream, is_inferable, supplied_by, read_supply}
+use Rattle.pst_legal.specs.SupplyReading.{Spot, Source, Initially, From, New, with_link, act_with_link, put_link, linked_to, is_stream, is_inferable, supplied_by, read_supply}
 use Rattle.pst_built.proofs.Gives.{Gives, gives_if, gives_pieces}
 use Rattle.pst_built.proofs.Bares.{alter_same}
 use Rattle.pst_built.proofs.Parents.{get_cases}
 use Rattle.pst_built.proofs.Ways.{gives_menu}
 use Rattle.pst_built.proofs.Trees.{gives_fields}
-use Rattle.pst_built.proofs.Spots.{IsNew, Suits}
+use Rattle.pst_built.proofs.Spots.{Suits}
 use Rattle.pst_built.proofs.Supply.{gives_supply}
 use Rattle.pst_built.proofs.SoundActs.{IsConcrete}
 use Rattle.pst_built.proofs.SoundPieces.{IsSoundPiece, IsSoundLook, IsSoundWay, menu_sound}

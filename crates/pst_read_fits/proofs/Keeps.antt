@@ -1,5 +1,5 @@
 -- Sources and values change no node and no leaf.
-use Rattle.std.proofs.Common.{◌≡◌, ℕ, zero, suc, ◌+◌, List, [], ◌∷◌, ◌++◌, map, length, take, Bool, true, false, nat_eq, if◌then◌else◌, Option, Some, None, refl, sym, ap, ◌∙◌, subst, arith}
+use Rattle.std.proofs.Common.{◌≡◌, ℕ, zero, suc, ◌+◌, List, [], ◌∷◌, ◌++◌, map, length, take, Bool, true, false, nat_eq, if◌then◌else◌, Some, None, refl, sym, ap, ◌∙◌, subst, arith}
 use Rattle.std.specs.Prelude.{slice_get}
 use Rattle.std.specs.List.{enumerate_from, AllZip}
 use Rattle.std.specs.Option.{option_map}
@@ -17,7 +17,7 @@ use Rattle.pst_legal.specs.Blanks.{Blank, Instance, OfFirst, OfAct, OfOutput, Of
 use Rattle.pst_legal.specs.ValueReading.{with_option, with_claim, act_with_value, with_output_value, with_claim_value, with_firsts, read_values}
 use Rattle.pst_built.proofs.Parents.{get_more}
 use Rattle.pst_longer.specs.StepsOf.{BlankSteps}
-use Rattle.pst_longer.proofs.Goes.{Stands, Goes, stands}
+use Rattle.pst_longer.proofs.Goes.{Stands, stands}
 use Rattle.pst_longer.proofs.Readers.{goes_supply, goes_values}
 
 -- the leaves that there are stay

@@ -1,5 +1,5 @@
 -- What a fresh action's references are: pools and kinds of the model.
-use Rattle.std.proofs.Common.{◌≡◌, ◌≢◌, ℕ, ◌+◌, ◌<◌, List, [], map, length, Bool, true, false, ◌&&◌, is_some, IsSomeAnd, IsSome, Option, Some, None, refl, sym, ap, ◌∙◌, subst, arith}
+use Rattle.std.proofs.Common.{◌≡◌, ◌≢◌, ℕ, ◌+◌, [], map, length, Bool, true, false, ◌&&◌, is_some, IsSomeAnd, Option, Some, None, refl, sym, ap, ◌∙◌, subst, arith}
 use Rattle.std.specs.Prelude.{slice_get}
 use Rattle.std.specs.List.{enumerate_from, filter}
 use Rattle.std.specs.Option.{option_map, option_and_then, unwrap_or}
@@ -20,11 +20,11 @@ use Rattle.pst_scen.specs.declared.act.Act.{Act}
 use Rattle.pst_scen.specs.declared.act.Filled.{Filled}
 use Rattle.pst_scen.specs.declared.act.Flow.{Flow}
 use Rattle.pst_scen.specs.declared.act.Flow.TheVariants.{BufferIn}
-use Rattle.pst_legal.specs.Types.{type_of, same_name, is_under, action_instances, served, flow_of, reference_flow, pool_object}
+use Rattle.pst_legal.specs.Types.{same_name, is_under, action_instances, served, flow_of, reference_flow, pool_object}
 use Rattle.pst_legal.specs.Growing.{open_reference, open_references}
 use Rattle.pst_built.proofs.Members.{In, in_map, in_filter, in_numbered}
 use Rattle.pst_built.proofs.Parents.{get_more}
-use Rattle.pst_built.proofs.SoundActs.{all_get, some_and, served_pool, IsConcrete}
+use Rattle.pst_built.proofs.SoundActs.{all_get, some_and, served_pool}
 use Rattle.pst_reached.proofs.Lists.{get_mapped, length_numbered}
 use Rattle.pst_reached.proofs.Shown.{get_numbered}
 use Rattle.pst_read_fits.proofs.Fresh.{unlinked, IsFresh}

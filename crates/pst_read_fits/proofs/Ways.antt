@@ -1,24 +1,22 @@
 -- A menu leads to no other ways than those to fill its piece.
-use Rattle.std.proofs.Common.{◌≡◌, ◌⊎◌, ℕ, zero, suc, ◌+◌, ◌<◌, ◌≤◌, ℤ, pos, negsuc, ◌≤ℤ◌, int_le, List, [], ◌∷◌, ◌++◌, length, Bool, true, false, cond, not, nat_lt, nat_le, if◌then◌else◌, Option, Some, None, refl, sym, ap, ◌∙◌, subst, arith, append_assoc, append-nil, inl, inr}
+use Rattle.std.proofs.Common.{◌≡◌, ℕ, zero, suc, ◌≤◌, ℤ, pos, negsuc, ◌≤ℤ◌, int_le, List, [], ◌∷◌, ◌++◌, length, Bool, true, false, cond, not, nat_lt, nat_le, if◌then◌else◌, Option, Some, None, refl, sym, ap, ◌∙◌, subst, arith, append_assoc, append-nil, inl, inr}
 use Rattle.std.specs.Prelude.{slice_get, count_by, Any}
-use Rattle.std.specs.List.{enumerate_from, find, AllZip}
+use Rattle.std.specs.List.{enumerate_from, find}
 use Rattle.std.proofs.lemmas.Bool.{leb-true, and_parts, and_from, false≢true}
 use Rattle.std.proofs.lemmas.Int.{ints}
 use Rattle.std.proofs.lemmas.List.Sums.{sum_by-cons}
-use Rattle.std.proofs.lemmas.Option.{none-some, same_Some}
 use Rattle.pst_expr.specs.declared.ranges.Span.{Span}
 use Rattle.pst_expr.specs.Spans.{IsInSpan}
 use Rattle.pst_expr.specs.Value.{is_false}
-use Rattle.pst_model.specs.declared.action.Field.{Field}
 use Rattle.pst_model.specs.declared.activity.Join.{Join}
 use Rattle.pst_model.specs.declared.activity.Join.TheVariants.{Fixed, Choose}
-use Rattle.pst_model.specs.ActivityTree.{StepTree, Traverse, Sequence, Parallel, Schedule, Joined, Select, Repeat, If, Match, BranchTree, ArmTree, steps_of, branches_of, arms_of, step_of, guard_of, branch_step, spans_of, arm_step}
+use Rattle.pst_model.specs.ActivityTree.{StepTree, Traverse, Sequence, Parallel, Schedule, Joined, Select, Repeat, If, Match, BranchTree, ArmTree, steps_of, branches_of, arms_of, step_of, guard_of, spans_of}
 use Rattle.pst_model.specs.ModelTree.{ModelTree, ActionTree, ContentTree, Atomic, Compound}
 use Rattle.pst_scen.specs.declared.tree.Fill.TheVariants as fill
 use Rattle.pst_legal.specs.Types.{type_of, action_instances}
-use Rattle.pst_legal.specs.Growing.{Look, Inner, Leaf}
-use Rattle.pst_legal.specs.Pieces.{Context, Piece, Action, Statement, Turning, in_turn, value_in, holds_in, statements, optional, turns, mask, IsValueOf, IsContent, IsActionWay, IsJoined, IsSelectWay, Matches, IsMatchWay, IsStatementWay, IsWay}
-use Rattle.pst_legal.specs.Menus.{Menu, Way, Place, Weighted, Closed, plain, is_in_span, content_menu, instance_menu, action_menu, join_menu, block_menu, available, branch_menu, branches_menu, repeat_menu, if_menu, is_in_arm, other_menu, arm_menu, match_menu, statement_menu, menu}
+use Rattle.pst_legal.specs.Growing.{Look, Inner}
+use Rattle.pst_legal.specs.Pieces.{Context, Piece, Action, Statement, Turning, value_in, holds_in, statements, optional, turns, mask, IsContent, IsActionWay, IsJoined, IsSelectWay, IsMatchWay, IsStatementWay, IsWay}
+use Rattle.pst_legal.specs.Menus.{Menu, Place, Closed, plain, is_in_span, content_menu, instance_menu, action_menu, join_menu, block_menu, available, branch_menu, branches_menu, repeat_menu, if_menu, is_in_arm, other_menu, arm_menu, match_menu, statement_menu, menu}
 use Rattle.pst_built.proofs.Members.{In, in_get, in_find, in_filter, in_numbered, to_numbered, none_found, any_found, any_from, to_contains, from_contains}
 use Rattle.pst_reached.proofs.Menus.{LeadsTo}
 
@@ -161,8 +159,10 @@ from_other c (Some step) look below leads = (step, refl, leads.2, leads.3)
 from_arm : (c : Context) (v : ℤ) (arms : List ArmTree) (other : Option StepTree) (look : Look) (below : List Piece) (o : Option (ℕ × ArmTree)) → find (is_in_arm v) (enumerate_from 0 arms) ≡ o → LeadsTo (arm_menu c other o) look below
     → IsMatchWay c v arms other look below
 from_arm c v arms other look below None e leads =
-    inr (λ index arm matches. absurd (false≢true (sym (none_found (is_in_arm v) (enumerate_from 0 arms) (index, arm) e (to_numbered arms index arm matches.0)) ∙ tested v index arm (in_arm v arm matches.1))),
-    from_other c other look below leads)
+    inr (
+      λ index arm matches. absurd (false≢true (sym (none_found (is_in_arm v) (enumerate_from 0 arms) (index, arm) e (to_numbered arms index arm matches.0)) ∙ tested v index arm (in_arm v arm matches.1))),
+      from_other c other look below leads,
+    )
 from_arm c v arms other look below (Some found) e leads =
     let f = in_find (is_in_arm v) (enumerate_from 0 arms) found e in
     let has = untested v found f.1 in

@@ -1,18 +1,16 @@
 -- What is read went one of the ways.
-use Rattle.std.proofs.Common.{◌≡◌, ℕ, zero, suc, ◌+◌, ◌<◌, ◌≤◌, ℤ, pos, List, [], ◌∷◌, ◌++◌, length, get_or, Bool, true, false, nat_lt, if◌then◌else◌, Option, Some, None, refl, sym, ap, ◌∙◌, subst, arith, append_assoc, append-nil, inl, inr}
-use Rattle.std.specs.Prelude.{slice_get, All}
+use Rattle.std.proofs.Common.{◌≡◌, ℕ, zero, suc, ◌+◌, ◌<◌, ℤ, pos, List, [], ◌∷◌, ◌++◌, length, get_or, Bool, true, false, nat_lt, if◌then◌else◌, Option, refl, sym, ap, ◌∙◌, arith, append_assoc, append-nil}
 use Rattle.std.specs.List.{AllZip}
-use Rattle.std.proofs.lemmas.Bool.{ltb-true, leb-true, and_parts}
+use Rattle.std.proofs.lemmas.Bool.{ltb-true}
 use Rattle.std.proofs.Math.Nat.{mod-lt}
 use Rattle.pst_rng.specs.Words.{start_of}
 use Rattle.pst_rng.specs.Weights.{weighted_start_of}
-use Rattle.pst_expr.specs.Spans.{IsDomain, IsInSpans, values, size_of}
+use Rattle.pst_expr.specs.Spans.{IsDomain, values, size_of}
 use Rattle.pst_expr.specs.Laws.{DomainsListValues}
 use Rattle.pst_model.specs.declared.action.Field.{Field}
-use Rattle.pst_model.specs.ActivityTree.{StepTree, Traverse, Sequence, Parallel, Schedule, Joined, Select, Repeat, If, Match}
-use Rattle.pst_model.specs.ModelTree.{ModelTree, ActionTree, ContentTree, Atomic, Compound}
+use Rattle.pst_model.specs.ModelTree.{ModelTree}
 use Rattle.pst_scen.specs.declared.scenario.Scenario.{Scenario}
-use Rattle.pst_legal.specs.Growing.{Look, with_look, IsWithin, is_within}
+use Rattle.pst_legal.specs.Growing.{Look, with_look, is_within}
 use Rattle.pst_legal.specs.Pieces.{Piece, IsValueOf}
 use Rattle.pst_legal.specs.Menus.{Menu, Way, Place, Weighted, Closed}
 use Rattle.pst_legal.specs.Reading.{Reading, Wants, Stops, Reads, Reader, then_read, option_at, read_place, put_value, value_number, read_fields, read_menu, read_pieces, read_way}

@@ -1,6 +1,7 @@
 //! Laws of what lists of choices read.
-use pst_expr::domains_list_values;
 ghost use Rattle.pst_read_fits.specs.Laws.{ActivitiesFillTheirRoot, WholeReadingsFillTheirRoot, WholeReadingsFit};
+
+use pst_expr::domains_list_values;
 
 /// An activity that is read through, of a sound model, fills the root, within the limits on its
 /// size. So does a scenario that is read whole.
