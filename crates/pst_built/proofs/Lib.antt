@@ -1,24 +1,24 @@
 pub mod Members
-mod Gives
-mod Ways
-mod Bares
-mod Values
-mod Looks
+pub mod Gives
+pub mod Ways
+pub mod Bares
+pub mod Values
+pub mod Looks
 pub mod Parents
-mod Opens
-mod Leaves
-mod Trees
-mod Links
-mod Ends
-mod Spots
-mod Linking
-mod Supply
+pub mod Opens
+pub mod Leaves
+pub mod Trees
+pub mod Links
+pub mod Ends
+pub mod Spots
+pub mod Linking
+pub mod Supply
 pub mod SoundActs
-mod SoundPieces
-mod PooledTrees
-mod Firsts
-mod Built
-mod WellFormed
-mod Linked
-mod Inferred
-mod Whole
+pub mod SoundPieces
+pub mod PooledTrees
+pub mod Firsts
+pub mod Built
+pub mod WellFormed
+pub mod Linked
+pub mod Inferred
+pub mod Whole

@@ -1,0 +1,4 @@
+pub mod Goes
+pub mod Readers
+pub mod Read
+pub mod Counts

@@ -1,0 +1,16 @@
+pub mod Lists
+pub mod Led
+pub mod Domains
+pub mod Menus
+pub mod Nodes
+pub mod Tree
+pub mod Activity
+pub mod Splits
+pub mod Shown
+pub mod Naming
+pub mod Links
+pub mod Sources
+pub mod Blanks
+pub mod Values
+pub mod Firsts
+pub mod Whole

@@ -1,0 +1,9 @@
+pub mod Ways
+pub mod Went
+pub mod Keeps
+pub mod Filled
+pub mod Fresh
+pub mod Served
+pub mod Back
+pub mod Come
+pub mod Fit
