@@ -1,0 +1,4 @@
+mod TrailLemmas
+mod NarrowLemmas
+mod PartLemmas
+mod ListLemmas

@@ -1,0 +1,5 @@
+pub mod Trail
+pub mod Solutions
+pub mod Narrowing
+pub mod Cuts
+pub mod Parts

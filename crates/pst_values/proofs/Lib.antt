@@ -1,0 +1,4 @@
+mod SolverLemmas
+mod OptionLemmas
+mod SearchLemmas
+mod KeptLemmas

@@ -1,0 +1,10 @@
+//! The values of variables under constraints, in the order of a seed.
+#![tactic(auto)]
+
+mod options;
+mod search;
+mod solver;
+mod tried;
+
+pub use search::ValueSearch;
+pub use tried::Tried;
