@@ -1,11 +1,11 @@
 -- Events are cut into blocks in one way.
-use Rattle.std.proofs.Common.{◌≡◌, ℕ, ◌<◌, List, [], ◌∷◌, ◌++◌, length, true, false, refl, sym, ap, ap₂, ◌∙◌, subst, arith, append_assoc, append-nil}
+use Rattle.std.proofs.Common.{◌≡◌, ℕ, ◌<◌, List, [], ◌∷◌, ◌++◌, length, true, false, refl, sym, ap, ap₂, ◌∙◌, arith, append_assoc, append-nil}
 use Rattle.pst_scen.specs.declared.scenario.Scenario.{Scenario}
 use Rattle.pst_scen.specs.declared.event.Event.{Event}
 use Rattle.pst_scen.specs.declared.event.Event.TheVariants.{Start, End}
-use Rattle.pst_scen.specs.Trace.{Block, Starts, Ends, starts_of, events_of, events, AreLegal}
+use Rattle.pst_scen.specs.Trace.{Block, Starts, Ends, starts_of, events, AreLegal}
 use Rattle.pst_order.specs.Rule.{AreByRule}
-use Rattle.pst_check.specs.Blocks.{AreBlocks, onward, AreOnward}
+use Rattle.pst_check.specs.Blocks.{AreBlocks}
 
 -- the blocks of events behind some blocks, where a block has begun with some members on some lanes
 abbrev cut : List Block → List ℕ → List ℕ → List Event → List Block

@@ -6,7 +6,7 @@ use Rattle.pst_scen.specs.declared.event.Event.{Event}
 use Rattle.pst_scen.specs.declared.event.Event.TheVariants.{Start, End}
 use Rattle.pst_scen.specs.declared.act.Link.{Link}
 use Rattle.pst_scen.specs.declared.act.Link.TheVariants as link
-use Rattle.pst_scen.specs.Trace.{StartsOn, Started, Ended, Runs, Names}
+use Rattle.pst_scen.specs.Trace.{Started, Ended, Runs, Names}
 use Rattle.pst_check.proofs.Elements.{none_in, cons_cases, cons_first, cons_rest}
 
 pub ended_or : (t : List Event) (a : ℕ) → Ended t a ⊎ (Ended t a → ⊥)

@@ -1,17 +1,14 @@
 -- A block that breaks no rule begins a whole legal trace with those before it, and one that does breaks none.
-use Rattle.std.proofs.Common.{◌≡◌, ◌≢◌, ◌⊎◌, ◌+◌, ℕ, ◌<◌, ◌≤◌, List, [], ◌∷◌, ◌++◌, length, get_or, refl, sym, subst, inl, inr, ⊎_elim, arith}
-use Rattle.std.specs.Prelude.{Contains}
+use Rattle.std.proofs.Common.{◌+◌, ℕ, ◌≤◌, List, ◌∷◌, subst, arith}
 use Rattle.pst_scen.specs.declared.scenario.Scenario.{Scenario}
 use Rattle.pst_scen.specs.declared.event.Event.{Event}
-use Rattle.pst_scen.specs.declared.act.Link.{Link}
-use Rattle.pst_scen.specs.Flows.{Reads, Writes}
-use Rattle.pst_scen.specs.Trace.{Block, Starts, Ends, events, MayCome, MayStart, AreLegal, IsLegalTrace, Ended, Prefix}
+use Rattle.pst_scen.specs.Trace.{Block, Starts, Ends, events, MayCome, AreLegal, IsLegalTrace, Prefix}
 use Rattle.pst_scen.specs.Judging.{Breaks, NoGroup, StartsAgain, LaneIsBusy, LaneIsNamedTwice, StatementIsOpen, ProducerIsOpen, SourceIsAnother, PreviousIsAnother, ConflictsRunning, ConflictsInside, EndsNothing, ReaderIsOpen, IsBlock}
 use Rattle.pst_scen.specs.Laws.{WiderTracesAreLegal, PrefixesAreLegal}
 use Rattle.pst_scen.specs.Plan.{Entries, widest}
 use Rattle.pst_scen.specs.Plans.{IsPlanOf}
 use Rattle.pst_order.specs.Facts.{LinksStates}
-use Rattle.pst_order.specs.Rule.{AreByRule, KeepsReaders, AllKeepReaders}
+use Rattle.pst_order.specs.Rule.{KeepsReaders, AllKeepReaders}
 use Rattle.pst_order.specs.Laws.{MembersAreThose, PlanGroupsAreWhole, WholeGroupsAreOne, PrefixIsByRule, RuleKeepsReaders, KeptIsPrefix}
 use Rattle.pst_check.specs.Blocks.{AreBlocks}
 use Rattle.pst_check.specs.Verdicts.{IsBegun}

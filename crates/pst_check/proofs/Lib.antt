@@ -8,3 +8,4 @@ pub mod Places
 pub mod Meanings
 pub mod Going
 pub mod Marking
+pub mod OneVerdict

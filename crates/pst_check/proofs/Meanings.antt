@@ -1,17 +1,14 @@
 -- What it means that a block breaks the rule of a number.
-use Rattle.std.proofs.Common.{◌≡◌, ◌≢◌, ◌≤◌, ◌<◌, ◌+◌, ◌⊎◌, ◌↔◌, ℕ, List, Bool, true, false, length, get_or, map, refl, sym, ap, ◌∙◌, subst, inl, inr, ⊎_elim, arith, Option, Some, slice_get}
+use Rattle.std.proofs.Common.{◌≡◌, ◌≢◌, ◌≤◌, ◌<◌, ◌+◌, ◌⊎◌, ◌↔◌, ℕ, List, Bool, true, false, length, get_or, map, refl, sym, ◌∙◌, subst, inl, inr, ⊎_elim, arith}
 use Rattle.std.specs.Prelude.{Contains, nat_eq}
 use Rattle.std.proofs.lemmas.Bool.{cases_lt, cases_eq}
-use Rattle.std.proofs.lemmas.Option.{slice_get_within, same_Some}
+use Rattle.std.proofs.lemmas.Option.{slice_get_within}
 use Rattle.pst_scen.specs.declared.scenario.Scenario.{Scenario}
 use Rattle.pst_scen.specs.declared.event.Event.{Event}
-use Rattle.pst_scen.specs.declared.act.Act.{Act}
-use Rattle.pst_scen.specs.declared.act.Filled.{Filled}
 use Rattle.pst_scen.specs.declared.act.Flow.{Flow}
-use Rattle.pst_scen.specs.declared.act.Flow.TheVariants.{StateIn, StateOut, BufferIn}
+use Rattle.pst_scen.specs.declared.act.Flow.TheVariants.{StateIn, StateOut}
 use Rattle.pst_scen.specs.declared.act.Link.{Link}
-use Rattle.pst_scen.specs.declared.act.Link.TheVariants as link
-use Rattle.pst_scen.specs.Flows.{IsAct, Refers, Feeds, Reads, Writes}
+use Rattle.pst_scen.specs.Flows.{Refers, Feeds, Reads, Writes}
 use Rattle.pst_scen.specs.Order.{Before, Sequence, Itself, Directly}
 use Rattle.pst_scen.specs.Conflicts.{Conflict, Clash, Resource, FirstWrites, SecondWrites}
 use Rattle.pst_scen.specs.Trace.{Started, Ended, Runs, IsHeld, IsWholeGroup, Names, last_writer, Block, Starts, Ends}
@@ -22,7 +19,7 @@ use Rattle.pst_scen.specs.Plans.{AreEntriesOf, IsPlanOf}
 use Rattle.pst_scen.specs.Laws.{IsPreorder, HasOneLeafEach, BeforeIsNeverItself}
 use Rattle.pst_order.specs.Laws.{MustIsInside}
 use Rattle.pst_check.specs.Blocks.{act_of, lane_of, starts_in}
-use Rattle.pst_check.specs.Tests.{AtSome, NamesBefore, NamesTwice, AreInside, HasStatementOpen, HasProducerOpen, HasOtherWriter, HasInTheWay, IsReaderOf, HasReference, IsOpenReader, HasReaderOpen}
+use Rattle.pst_check.specs.Tests.{AtSome, NamesTwice, AreInside, HasStatementOpen, HasProducerOpen, HasOtherWriter, HasInTheWay, HasReference, HasReaderOpen}
 use Rattle.pst_check.specs.Verdicts.{IsFreeBelow, IsUnbroken}
 use Rattle.pst_check.proofs.Places.{mapped, unmapped, mapped_at, at_mapped}
 

@@ -1,5 +1,5 @@
 -- The first block of events that are blocks.
-use Rattle.std.proofs.Common.{◌≡◌, ◌≤◌, ◌<◌, ◌+◌, ℕ, zero, suc, List, [], ◌∷◌, ◌++◌, length, map, take, drop, get_or, Bool, true, false, refl, sym, ap, ap₂, ◌∙◌, subst, arith, append_assoc, zero-add}
+use Rattle.std.proofs.Common.{◌≡◌, ◌≤◌, ◌<◌, ◌+◌, ℕ, zero, suc, List, [], ◌∷◌, ◌++◌, length, map, take, drop, get_or, Bool, refl, sym, ap, ap₂, ◌∙◌, subst, arith, append_assoc, zero-add}
 use Rattle.std.specs.Prelude.{Contains}
 use Rattle.pst_scen.specs.declared.event.Event.{Event}
 use Rattle.pst_scen.specs.declared.event.Event.TheVariants.{Start, End}

@@ -52,20 +52,6 @@ module _ {X : Type 0} (f : X → ℕ) (P : ℕ → Type 0) where
       (λ k. let r = unmapped ys a k h in record { place = suc r.place; element = r.element; is = r.is; has = r.has })
       (cons_cases (f y) a (map f ys) c)
 
--- a list that contains an element has it at a place
-pub placed : {X : Type 0} (P : X → Type 0) (xs : List X) (x : X) → Contains xs x → P x → AtSome xs P
-placed P [] x c h = absurd (none_in x c)
-placed P (y ∷ ys) x c h =
-    ⊎_elim
-    (λ e. record { place = 0; element = y; is = refl; has = subst P (sym e) h })
-    (λ k. let r = placed P ys x k h in record { place = suc r.place; element = r.element; is = r.is; has = r.has })
-    (cons_cases y x ys c)
-
-pub contained : {X : Type 0} (xs : List X) (k : ℕ) (x : X) → slice_get xs k ≡ Some x → Contains xs x
-contained [] k x e = cc
-contained (y ∷ ys) zero x e = subst (λ z. Contains (y ∷ ys) z) (same_Some y x e) (cons_first y ys)
-contained (y ∷ ys) (suc k) x e = cons_rest y x ys (contained ys k x e)
-
 pub mapped_at : {X : Type 0} (f : X → ℕ) (xs : List X) (k : ℕ) (x : X) → slice_get xs k ≡ Some x → (k < length (map f xs)) × (get_or (map f xs) k 0 ≡ f x)
 mapped_at f [] k x e = cc
 mapped_at f (y ∷ ys) zero x e = (omega arith, ap f (same_Some y x e))

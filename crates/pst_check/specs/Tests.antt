@@ -1,5 +1,5 @@
 -- What the tests of a block of starts look for, by the places of lists.
-use Rattle.std.specs.Prelude.{◌≡◌, ◌≢◌, ◌<◌, ◌⊎◌, ℕ, List, length, get_or, map, slice_get, Option, Some}
+use Rattle.std.specs.Prelude.{◌≡◌, ◌≢◌, ◌<◌, ◌⊎◌, ℕ, List, length, get_or, map, slice_get, Some}
 use Rattle.pst_scen.specs.declared.act.Filled.{Filled}
 use Rattle.pst_scen.specs.declared.act.Act.{Act}
 use Rattle.pst_scen.specs.declared.act.Flow.TheVariants.{BufferIn, StateIn, StateOut}
@@ -9,7 +9,7 @@ use Rattle.pst_scen.specs.declared.event.Event.{Event}
 use Rattle.pst_scen.specs.declared.event.Event.TheVariants.{Start, End}
 use Rattle.pst_scen.specs.Flows.{IsAct}
 use Rattle.pst_scen.specs.Order.{Before}
-use Rattle.pst_scen.specs.Trace.{Started, Ended, Runs, IsHeld, Names, last_writer}
+use Rattle.pst_scen.specs.Trace.{Ended, Runs, Names, last_writer}
 use Rattle.pst_scen.specs.Rows.{Has}
 use Rattle.pst_scen.specs.Plan.{Entries, members}
 use Rattle.pst_check.specs.Blocks.{act_of, lane_of}

@@ -13,5 +13,5 @@ mod starts;
 mod verdict;
 
 pub use checking::check;
-pub use laws::unbroken_is_begun;
+pub use laws::{unbroken_is_begun, verdicts_are_one};
 pub use verdict::Verdict;

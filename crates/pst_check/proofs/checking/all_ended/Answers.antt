@@ -1,5 +1,4 @@
 use Rattle.std.proofs.Common.{below_more}
-use Rattle.std.specs.Prelude.{refl}
 use Rattle.pst_check.proofs.checking.all_ended.Goals as goal
 
 pub loop-a-preserved : goal.loop-a-preserved

@@ -1,4 +1,4 @@
-use Rattle.std.proofs.Common.{◌≡◌, ◌<◌, ℕ, slice_get, Some}
+use Rattle.std.proofs.Common.{◌<◌, ℕ}
 use Rattle.pst_scen.specs.Trace.{Ended}
 use Rattle.pst_check.proofs.checking.all_ended.Given as goal
 

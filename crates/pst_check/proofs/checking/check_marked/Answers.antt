@@ -1,4 +1,4 @@
-use Rattle.std.proofs.Common.{◌≡◌, ◌≤◌, ◌∙◌, length, sym, subst, arith}
+use Rattle.std.proofs.Common.{◌≤◌, ◌∙◌, length, arith}
 use Rattle.std.proofs.lemmas.Bool.Decides.{nat_tests}
 use Rattle.pst_check.proofs.Going.{judged_first, judged_few, judged_all, next_at, bad_at, marks_at, completed_is}
 use Rattle.pst_check.proofs.checking.check_marked.Goals as goal

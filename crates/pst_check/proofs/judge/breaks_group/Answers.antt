@@ -1,5 +1,4 @@
-use Rattle.std.proofs.Common.{length, map}
-use Rattle.pst_scen.specs.Trace.{IsWholeGroup}
+use Rattle.std.proofs.Common.{map}
 use Rattle.pst_scen.specs.Judging.{Breaks, NoGroup}
 use Rattle.pst_check.specs.Blocks.{act_of, lane_of, starts_in}
 use Rattle.pst_check.specs.Tests.{AreGroup}

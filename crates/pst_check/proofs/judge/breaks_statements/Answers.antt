@@ -1,7 +1,3 @@
-use Rattle.std.proofs.Common.{◌<◌, ℕ, length, map, subst, sym, ◌≡◌, arith}
-use Rattle.std.specs.Prelude.{Contains}
-use Rattle.pst_scen.specs.Order.{Before}
-use Rattle.pst_check.specs.Blocks.{act_of}
 use Rattle.pst_check.proofs.Places.{and_then}
 use Rattle.pst_check.proofs.Meanings.{statement, before_inside}
 use Rattle.pst_check.proofs.judge.breaks_statements.Goals as goal

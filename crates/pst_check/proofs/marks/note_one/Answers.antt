@@ -1,4 +1,4 @@
-use Rattle.std.proofs.Common.{◌++◌, ◌∷◌, [], List, Bool, subst, sym}
+use Rattle.std.proofs.Common.{◌++◌, ◌∷◌, [], subst, sym}
 use Rattle.pst_scen.specs.declared.event.Event.{Event}
 use Rattle.pst_check.specs.Marks.{AreMarks}
 use Rattle.pst_check.proofs.Marking.{start_noted, end_noted}

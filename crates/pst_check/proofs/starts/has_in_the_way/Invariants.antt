@@ -1,4 +1,4 @@
-use Rattle.std.proofs.Common.{◌≡◌, ◌<◌, ℕ, slice_get, Some}
+use Rattle.std.proofs.Common.{◌<◌, ℕ}
 use Rattle.pst_check.specs.Tests.{IsInTheWay}
 use Rattle.pst_check.proofs.starts.has_in_the_way.Given as goal
 

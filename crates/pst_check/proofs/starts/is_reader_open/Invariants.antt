@@ -1,4 +1,4 @@
-use Rattle.std.proofs.Common.{◌≡◌, ◌<◌, ℕ, slice_get, Some}
+use Rattle.std.proofs.Common.{◌<◌, ℕ}
 use Rattle.pst_check.specs.Tests.{IsOpenReader}
 use Rattle.pst_check.proofs.starts.is_reader_open.Given as goal
 
