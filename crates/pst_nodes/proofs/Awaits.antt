@@ -10,6 +10,16 @@ use Rattle.pst_scen.specs.Laws.{IsPreorder, HasOneLeafEach}
 use Rattle.pst_nodes.specs.Over.{IsLeafOf, Over, IsFree, IsAwaited, IsBranchBeside}
 use Rattle.pst_nodes.proofs.Climbs.{one_parent, one_child}
 
+pub awaited_later : (nodes : List Node) (leaf other n sequence later : ℕ) → IsPreorder nodes → IsChild nodes n sequence → IsChild nodes later sequence → StandsUnder nodes later other → IsAwaited nodes leaf other n → n < later
+awaited_later nodes leaf other n sequence later preorder child of_later under a =
+    let parent_is : a.sequence ≡ sequence = one_parent nodes n a.sequence sequence a.is_child child in
+    let moved : IsChild nodes a.later sequence = subst (λ (q : ℕ). IsChild nodes a.later q) parent_is a.later_child in
+    subst (λ (k : ℕ). n < k) (one_child nodes sequence a.later later other preorder moved of_later a.under under) a.order
+
+pub awaited_kept : (nodes : List Node) (leaf other n sequence : ℕ) → IsChild nodes n sequence → IsAwaited nodes leaf other n → Over nodes (IsFree nodes sequence) leaf → ⊥
+awaited_kept nodes leaf other n sequence child a =
+    subst (λ (q : ℕ). Over nodes (IsFree nodes q) leaf → ⊥) (one_parent nodes n a.sequence sequence a.is_child child) a.kept
+
 pub leaf_within : (nodes : List Node) (act n : ℕ) → IsLeafOf nodes act n → n < length nodes
 leaf_within nodes act n leaf = slice_get_within nodes n leaf.node leaf.is
 

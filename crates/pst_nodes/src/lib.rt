@@ -7,9 +7,11 @@ mod behind;
 mod beside;
 mod climb;
 mod parallel;
+mod statements;
 mod tables;
 
 pub use behind::add_behinds;
 pub use beside::first_beside;
 pub use parallel::{stand_parallel, stands_in_parallel};
+pub use statements::stands_before;
 pub use tables::Tables;

@@ -94,7 +94,7 @@ fn is_leaf_in_branch(nodes: &[Node], leaf: usize) -> bool
 }
 
 /// The node that the action names, if there is one.
-fn node_of(scenario: &Scenario, a: u32) -> Option<u32>
+pub(crate) fn node_of(scenario: &Scenario, a: u32) -> Option<u32>
     ensures { (act : Act) → IsAct scenario.now a act → result ≡ act.node }
 {
     match scenario.actions.as_slice().get(a as usize) {

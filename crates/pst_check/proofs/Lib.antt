@@ -1,0 +1,11 @@
+pub mod Elements
+pub mod Decided
+pub mod Cutting
+pub mod Grouped
+pub mod Judged
+pub mod Onward
+pub mod Places
+pub mod Meanings
+pub mod Going
+pub mod Marking
+pub mod OneVerdict

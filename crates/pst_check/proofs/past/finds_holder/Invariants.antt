@@ -1,0 +1,7 @@
+use Rattle.std.proofs.Common.{◌≡◌, ◌<◌, ℕ, slice_get, Some}
+use Rattle.pst_scen.specs.declared.event.Event.{Event}
+use Rattle.pst_check.specs.Tests.{HoldsLane}
+use Rattle.pst_check.proofs.past.finds_holder.Given as goal
+
+abbrev pub invariant-loop-i : goal.invariant-loop-i
+invariant-loop-i l = (i : ℕ) (x : Event) → i < l.i → slice_get l.events i ≡ Some x → HoldsLane l.past l.lane x → ⊥

@@ -1,0 +1,5 @@
+pub mod Blocks
+pub mod Marks
+pub mod Tests
+pub mod Verdicts
+pub mod Laws
