@@ -1,0 +1,2 @@
+pub mod NodeKinds
+pub mod Shapes
