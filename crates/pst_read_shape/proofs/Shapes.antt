@@ -1,9 +1,10 @@
 -- Scenarios that fit, fit in shape.
-use Rattle.std.proofs.Common.{◌≡◌, ℕ, zero, suc, ◌+◌, ◌<◌, ◌≤◌, ℤ, List, [], ◌∷◌, map, length, take, Bool, true, false, Option, Some, None, refl, sym, ap, ◌∙◌, subst, arith, length-take, inl, inr, ⊎_elim}
+use Rattle.std.proofs.Common.{◌≡◌, ℕ, zero, suc, ◌<◌, ◌≤◌, ℤ, List, [], ◌∷◌, ◌++◌, map, length, replicate, take, Bool, true, false, Option, Some, None, refl, sym, ap, ◌∙◌, subst, arith, ⊎_elim}
 use Rattle.std.specs.Prelude.{slice_get}
 use Rattle.std.specs.List.{AllZip}
 use Rattle.std.specs.Option.{option_and_then}
-use Rattle.std.proofs.lemmas.Bool.{cases_lt, false≢true}
+use Rattle.std.proofs.lemmas.Bool.{cases_lt}
+use Rattle.std.proofs.lemmas.List.{length-map}
 use Rattle.std.proofs.lemmas.Option.{none-some, same_Some, slice_get_within, option_and_then_some}
 use Rattle.pst_model.specs.declared.action.Field.{Field}
 use Rattle.pst_model.specs.declared.action.Reference.{Reference}
@@ -12,22 +13,25 @@ use Rattle.pst_model.specs.declared.object.ObjectKind.{ObjectKind}
 use Rattle.pst_model.specs.declared.object.ObjectKind.TheVariants.{Buffer, Stream, State, Resource}
 use Rattle.pst_model.specs.ModelTree.{ModelTree, ActionTree, ObjectTree}
 use Rattle.pst_model.specs.Sound.{IsSound}
-use Rattle.pst_scen.specs.declared.tree.Fill.TheVariants as fill
 use Rattle.pst_scen.specs.declared.act.Act.{Act}
 use Rattle.pst_scen.specs.declared.act.Flow.{Flow}
 use Rattle.pst_scen.specs.declared.scenario.Scenario.{Scenario}
-use Rattle.pst_legal.specs.Types.{type_of, activity_in, pool_object, flow_of, reference_flow, is_output, action_instances}
+use Rattle.pst_scen.specs.Scenarios.{leaves_of, IsScenario}
+use Rattle.pst_legal.specs.Types.{activity_in, pool_object, flow_of, is_output, action_instances}
 use Rattle.pst_legal.specs.Growing.{most_levels}
 use Rattle.pst_legal.specs.Pieces.{IsValueOf}
-use Rattle.pst_legal.specs.Shape.{HasObjectShape, HasShape}
+use Rattle.pst_legal.specs.Shape.{HasObjectShape, HasActShape}
 use Rattle.pst_legal.specs.Supplied.{IsInferable}
-use Rattle.pst_legal.specs.Fits.{IsSameLeaf, AreObjectValues, IsActOf, Fits}
+use Rattle.pst_legal.specs.Fits.{IsSameLeaf, AreObjectValues, Fits}
 use Rattle.pst_built.specs.Laws.{WholeReadingsAreScenarios, WholeReadingsHaveSources}
 use Rattle.pst_built.proofs.SoundActs.{served_pool}
-use Rattle.pst_reached.proofs.Lists.{in_contains, get_below}
+use Rattle.pst_reached.specs.Parts.{bare_act}
+use Rattle.pst_reached.proofs.Lists.{in_contains, get_mapped}
+use Rattle.pst_reached.proofs.Shown.{take_get}
+use Rattle.pst_reached.proofs.Activity.{tree_is}
 use Rattle.pst_read_fits.specs.Laws.{WholeReadingsFit}
 use Rattle.pst_read_shape.specs.Laws.{FittingScenariosHaveShape, WholeReadingsHaveShape}
-use Rattle.pst_read_shape.proofs.Kinds.{instance_there, IsAtomicAct, AreKinds, tree_kinds}
+use Rattle.pst_read_shape.proofs.NodeKinds.{instance_there, IsAtomicAct, AreKinds, tree_kinds}
 
 values_many : (fields : List Field) (values : List ℤ) → AllZip IsValueOf fields values → length values ≡ length fields
 values_many [] [] zip = refl
@@ -55,6 +59,28 @@ leaf_at xs [] zip k x y at is = absurd (none-some y is)
 leaf_at [] (y ∷ ys) zip k x z at is = absurd (none-some x at)
 leaf_at (x ∷ xs) (y ∷ ys) zip zero a b at is = subst (λ v. IsSameLeaf v b) (same_Some x a at) (subst (IsSameLeaf x) (same_Some y b is) zip.0)
 leaf_at (x ∷ xs) (y ∷ ys) zip (suc k) a b at is = leaf_at xs ys zip.1 k a b at is
+
+behind : (n a : ℕ) (y : Option ℕ) → slice_get (replicate n None) a ≡ Some y → y ≡ None
+behind zero a y is = absurd (none-some y is)
+behind (suc n) zero y is = sym (same_Some None y is)
+behind (suc n) (suc a) y is = behind n a y is
+
+behind_all : (xs : List (Option ℕ)) (n a : ℕ) (y : Option ℕ) → length xs ≤ a → slice_get (xs ++ replicate n None) a ≡ Some y → y ≡ None
+behind_all [] n a y most is = behind n a y is
+behind_all (x ∷ xs) n zero y most is = absurd (omega (arith, most))
+behind_all (x ∷ xs) n (suc a) y most is = behind_all xs n a y (omega (arith, most)) is
+
+-- an action behind the leaves has no node
+behind_leaves : (m : ModelTree) (root : ℕ) (s : Scenario) → IsScenario s → (fits : Fits m root s) → (a : ℕ) (act : Act) → slice_get s.actions a ≡ Some act → slice_get fits.tree.tree.actions a ≡ None → act.node ≡ None
+behind_leaves m root s scenario fits a act at none =
+    let leaves = length (leaves_of s.nodes) in
+    let gone : slice_get (map bare_act (take leaves s.actions)) a ≡ None = ap (λ (t : Scenario). slice_get t.actions a) (sym (tree_is m root s fits)) ∙ none in
+    ⊎_elim (λ (l : a < leaves). absurd (none-some (bare_act act) (sym gone ∙ get_mapped bare_act (take leaves s.actions) a act (take_get leaves s.actions a l ∙ at))))
+    (λ (l : leaves ≤ a).
+    let many = length-map (leaves_of s.nodes) (λ e. Some e.1) in
+    behind_all (map (λ e. Some e.1) (leaves_of s.nodes)) s.level a act.node (omega (arith, many, l))
+    (sym (ap (λ xs. slice_get xs a) scenario.leaves.nodes) ∙ get_mapped (λ (x : Act). x.node) s.actions a act at))
+    (cases_lt a leaves)
 
 module _ (m : ModelTree) (root : ℕ) (s : Scenario) (sound : IsSound m) (fits : Fits m root s) (atomic : (a : ℕ) (act : Act) → slice_get s.actions a ≡ Some act → IsAtomicAct m act.action act.instance) where
   act_shape : (a : ℕ) (act : Act) → slice_get s.actions a ≡ Some act → HasActShape m act

@@ -1,7 +1,8 @@
 //! Laws of the shape of scenarios.
+ghost use Rattle.pst_read_shape.specs.Laws.{FittingScenariosHaveShape, WholeReadingsHaveShape};
+
 use pst_built::{whole_readings_are_scenarios, whole_readings_have_sources};
 use pst_read_fits::whole_readings_fit;
-ghost use Rattle.pst_read_shape.specs.Laws.{FittingScenariosHaveShape, WholeReadingsHaveShape};
 
 /// A scenario of a sound model that fits, and whose inferred actions may be inferred, fits in shape,
 /// which is what each call on a model and a scenario asks for. So does one that a list of choices

@@ -1,12 +1,12 @@
 -- The nodes and leaves of a filled-in activity are of types of their kind, in instances that there are.
-use Rattle.std.proofs.Common.{◌≡◌, ℕ, zero, suc, ◌+◌, ◌<◌, ℤ, List, [], ◌∷◌, ◌++◌, map, length, not, ◌&&◌, Option, Some, None, refl, sym, ap, ◌∙◌, subst, inl, inr, ⊎_elim}
+use Rattle.std.proofs.Common.{◌≡◌, ℕ, zero, suc, ◌<◌, ℤ, List, [], ◌∷◌, length, not, ◌&&◌, Option, Some, None, refl, sym, ap, subst, inl, inr, ⊎_elim}
 use Rattle.std.specs.Prelude.{slice_get}
 use Rattle.std.specs.List.{enumerate_from, filter, AllZip}
-use Rattle.std.proofs.lemmas.Option.{none-some, same_Some, slice_get_within}
+use Rattle.std.proofs.lemmas.Option.{none-some, slice_get_within}
 use Rattle.pst_expr.specs.Value.{is_false}
 use Rattle.pst_model.specs.declared.action.Field.{Field}
 use Rattle.pst_model.specs.declared.model.Part.{Part}
-use Rattle.pst_model.specs.ActivityTree.{StepTree, Traverse, Sequence, Parallel, Schedule, Joined, Select, Repeat, If, Match, ArmTree, ActivityTree, arms_of, step_of}
+use Rattle.pst_model.specs.ActivityTree.{StepTree, Traverse, Sequence, Parallel, Schedule, Joined, Select, Repeat, If, Match, ArmTree, arms_of, step_of}
 use Rattle.pst_model.specs.ModelTree.{ModelTree, ActionTree, ContentTree, Atomic, Compound}
 use Rattle.pst_scen.specs.declared.tree.Node.{Node}
 use Rattle.pst_scen.specs.declared.tree.Fill.{Fill}
@@ -41,7 +41,6 @@ FillFits m f = (action instance : ℕ) (fields : List ℤ) → f ≡ fill.Compou
 abbrev LookFits : ModelTree → Look → Type 0
 LookFits m (Inner f) = FillFits m f
 LookFits m (Leaf action instance) = IsAtomicAct m action instance
-
 
 look_as : (m : ModelTree) (look other : Look) → look ≡ other → LookFits m other → LookFits m look
 look_as m look other e is = subst (LookFits m) (sym e) is

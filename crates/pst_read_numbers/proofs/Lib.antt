@@ -1,0 +1,4 @@
+pub mod Sorted
+pub mod Turns
+pub mod Came
+pub mod Numbers
