@@ -30,14 +30,16 @@ to_high x z s at below = go (is_in_range z)
     go false = at.1
 
 sums_are : (spans : Parts) (w : Span) → AreOperands ◌+ℤ◌ spans w (of_sum spans w)
-sums_are spans w x y left right at =
-    ((from_low x (w.low -ℤ spans.right.high) spans.left left (omega (arith, ints, right.1, at.0)), to_high x (w.high -ℤ spans.right.low) spans.left left (omega (arith, ints, right.0, at.1))),
-     (from_low y (w.low -ℤ spans.left.high) spans.right right (omega (arith, ints, left.1, at.0)), to_high y (w.high -ℤ spans.left.low) spans.right right (omega (arith, ints, left.0, at.1))))
+sums_are spans w x y left right at = (
+  (from_low x (w.low -ℤ spans.right.high) spans.left left (omega (arith, ints, right.1, at.0)), to_high x (w.high -ℤ spans.right.low) spans.left left (omega (arith, ints, right.0, at.1))),
+  (from_low y (w.low -ℤ spans.left.high) spans.right right (omega (arith, ints, left.1, at.0)), to_high y (w.high -ℤ spans.left.low) spans.right right (omega (arith, ints, left.0, at.1))),
+)
 
 differences_are : (spans : Parts) (w : Span) → AreOperands ◌-ℤ◌ spans w (of_difference spans w)
-differences_are spans w x y left right at =
-    ((from_low x (w.low +ℤ spans.right.low) spans.left left (omega (arith, ints, right.0, at.0)), to_high x (w.high +ℤ spans.right.high) spans.left left (omega (arith, ints, right.1, at.1))),
-     (from_low y (spans.left.low -ℤ w.high) spans.right right (omega (arith, ints, left.0, at.1)), to_high y (spans.left.high -ℤ w.low) spans.right right (omega (arith, ints, left.1, at.0))))
+differences_are spans w x y left right at = (
+  (from_low x (w.low +ℤ spans.right.low) spans.left left (omega (arith, ints, right.0, at.0)), to_high x (w.high +ℤ spans.right.high) spans.left left (omega (arith, ints, right.1, at.1))),
+  (from_low y (spans.left.low -ℤ w.high) spans.right right (omega (arith, ints, left.0, at.1)), to_high y (spans.left.high -ℤ w.low) spans.right right (omega (arith, ints, left.1, at.0))),
+)
 
 -- a value that is there is the exact number
 exact : (z : ℤ) (w : Span) → IsIn w (in_range z) → IsInSpan z w

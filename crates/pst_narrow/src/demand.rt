@@ -16,7 +16,12 @@ use pst_expr::{Expr, Span};
 const LONGEST: usize = 256;
 
 /// Cuts the bounds to those under which the value of the expression can lie in `wanted`, false where it can't.
-pub fn demand_span(expr: &Expr, wanted: Span, bounds: &mut Bounds, trail: &mut Trail) -> Result<bool, NoMemory>
+pub fn demand_span(
+    expr: &Expr,
+    wanted: Span,
+    bounds: &mut Bounds,
+    trail: &mut Trail,
+) -> Result<bool, NoMemory>
     requires upright { AreUpright bounds.old }
     requires variables { HasVariablesBelow (length bounds.old) (view expr.now) }
     ensures step { IsStep (GivesIn (view expr.now) wanted) bounds.old bounds.new trail.old trail.new result }

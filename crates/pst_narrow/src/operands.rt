@@ -92,7 +92,13 @@ fn subtrahends(left: &Expr, right: &Expr, wanted: Span, bounds: &Bounds) -> Opti
 }
 
 /// The spans of the operands under which the value of an operator can lie in `wanted`, `None` where nothing is known.
-pub fn operand_spans(op: BinaryOp, left: &Expr, right: &Expr, wanted: Span, bounds: &Bounds) -> Option<Parts>
+pub fn operand_spans(
+    op: BinaryOp,
+    left: &Expr,
+    right: &Expr,
+    wanted: Span,
+    bounds: &Bounds,
+) -> Option<Parts>
     requires upright { AreUpright bounds.now }
     requires left { HasVariablesBelow (length bounds.now) (view left.now) }
     requires right { HasVariablesBelow (length bounds.now) (view right.now) }
