@@ -2,3 +2,4 @@ mod TrailLemmas
 mod NarrowLemmas
 mod PartLemmas
 mod ListLemmas
+mod OperandLemmas

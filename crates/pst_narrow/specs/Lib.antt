@@ -3,3 +3,4 @@ pub mod Solutions
 pub mod Narrowing
 pub mod Cuts
 pub mod Parts
+pub mod Operands

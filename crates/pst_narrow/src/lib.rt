@@ -4,8 +4,10 @@
 #![tactic(auto)]
 
 mod compare;
+mod demand;
 mod meet;
 mod narrowing;
+mod operands;
 mod parts;
 mod require;
 mod trail;

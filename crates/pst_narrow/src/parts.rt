@@ -6,7 +6,7 @@ ghost use Rattle.pst_narrow.specs.Narrowing.{IsStep};
 ghost use Rattle.pst_narrow.specs.Cuts.{IsSide, side};
 ghost use Rattle.pst_narrow.specs.Parts.{GiveIn, AreSpansOf, AreCutAhead};
 
-use crate::require::require;
+use crate::demand::demand_span;
 use crate::trail::Trail;
 use pst_base::NoMemory;
 use pst_domain::{Bounds, span_of};
@@ -46,10 +46,10 @@ pub fn require_both(
     ensures left { result ≡ Ok true → IsSide (view left.now) → IsInside (side (view left.now) bounds.new) (Some parts.left) }
     ensures right { result ≡ Ok true → IsSide (view right.now) → IsInside (side (view right.now) bounds.new) (Some parts.right) }
 {
-    if !require(right, parts.right, bounds, trail)? {
+    if !demand_span(right, parts.right, bounds, trail)? {
         return Ok(false);
     }
-    require(left, parts.left, bounds, trail)
+    demand_span(left, parts.left, bounds, trail)
 }
 
 /// The spans of x and y, of which x + gap <= y, `None` where there are none.

@@ -8,5 +8,5 @@ pub returns-clause-step : goal.returns-clause-step
 returns-clause-step c =
     let p = view c.args.left.now in
     let q = view c.args.right.now in
-    step_then (GiveIn p q c.args.parts) (GivesIn p c.args.parts.left) c.args.bounds.now c.require.new.bounds c.require-2.new.bounds c.args.trail.now c.require.new.trail c.require-2.new.trail c.require.result c.require-2.result
-    (step_from (GiveIn p q c.args.parts) (GivesIn q c.args.parts.right) c.args.bounds.now c.require.new.bounds c.args.trail.now c.require.new.trail c.require.result c.require.ensures.step (λ values holds within. holds.1)) c.require-2.ensures.step (λ values holds within. holds.0)
+    step_then (GiveIn p q c.args.parts) (GivesIn p c.args.parts.left) c.args.bounds.now c.demand_span.new.bounds c.demand_span-2.new.bounds c.args.trail.now c.demand_span.new.trail c.demand_span-2.new.trail c.demand_span.result c.demand_span-2.result
+    (step_from (GiveIn p q c.args.parts) (GivesIn q c.args.parts.right) c.args.bounds.now c.demand_span.new.bounds c.args.trail.now c.demand_span.new.trail c.demand_span.result c.demand_span.ensures.step (λ values holds within. holds.1)) c.demand_span-2.ensures.step (λ values holds within. holds.0)
