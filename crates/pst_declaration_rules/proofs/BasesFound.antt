@@ -11,7 +11,7 @@ use Rattle.pst_scope.specs.declared.declaration.Scope.{Scope}
 use Rattle.pst_scope.specs.declared.declaration.Scope.TheVariants.{Files, Part}
 use Rattle.pst_scope.specs.Lookups.{action_beside, base_in, base_of, component_named, look_up, second_of, type_by, type_here, type_named}
 use Rattle.pst_scope.specs.Sorts.{is_action, same_name, same_scope}
-use Rattle.pst_declaration_rules.proofs.Judged.{cons_first, cons_rest}
+use Rattle.pst_enum_rules.proofs.LeastOfEach.{cons_first, cons_rest}
 use Rattle.pst_declaration_rules.proofs.Tallying.{none_is_some, some_is}
 
 find_in : (p : Declaration → Bool) (xs : List Declaration) (x : Declaration) → find p xs ≡ Some x → Contains xs x

@@ -1,9 +1,9 @@
 -- What a declaration breaks is found, of it or of one of its bases.
-use Rattle.std.proofs.Common.{◌≡◌, ◌⊎◌, inl, inr, ⊎_elim, ℕ, ◌+◌, ◌<◌, ◌≤◌, Bool, true, false, ◌&&◌, ◌||◌, nat_lt, List, [], ◌∷◌, ◌++◌, map, length, Option, refl, sym, ap, subst, ◌∙◌, arith, true≢false}
+use Rattle.std.proofs.Common.{◌≡◌, ◌⊎◌, inl, inr, ⊎_elim, ℕ, ◌+◌, ◌<◌, ◌≤◌, Bool, true, false, ◌&&◌, ◌||◌, List, [], ◌∷◌, ◌++◌, map, length, Option, refl, sym, ap, subst, ◌∙◌, true≢false}
 use Rattle.std.specs.Prelude.{Some, None, Contains, if◌then◌else◌}
 use Rattle.std.specs.Bool.{beq}
 use Rattle.std.specs.List.{filter}
-use Rattle.std.specs.Option.{option_map, option_map_or}
+use Rattle.std.specs.Option.{option_map_or}
 use Rattle.pst_base.specs.declared.position.Place.{Place}
 use Rattle.pst_ast.specs.declared.shared.TypeName.{TypeName}
 use Rattle.pst_scope.specs.declared.declaration.Declaration.{Declaration}
@@ -15,9 +15,8 @@ use Rattle.pst_scope.specs.Lookups.{type_in, type_of}
 use Rattle.pst_scope.specs.NameRules.{finding}
 use Rattle.pst_scope.specs.Sorts.{is_claim, is_field, is_item, is_need, is_reference, is_resource, same_place}
 use Rattle.pst_type_rules.specs.Limits.{AddTogether, AddsFields, Claims, IsLimited, Items, Locals, Parameters, References, is_local, is_local_of, is_parameter}
-use Rattle.pst_type_rules.specs.Members.{AreMembers, WithoutBase, WithBase, activities_of, bodies_of, own_members, those_that}
-use Rattle.pst_type_rules.specs.Sites.{DeclaredAction, action_at}
-use Rattle.pst_type_rules.specs.TypeRules.{ActivityAndBody, ClaimOfNoResource, CompoundWithNeed, DeclarationBreaks, ManyFields, ReferenceOfResource, TooMany, TwoActivities, TwoBodies}
+use Rattle.pst_type_rules.specs.Members.{AreMembers, WithoutBase, WithBase, own_members, those_that}
+use Rattle.pst_type_rules.specs.TypeRules.{ClaimOfNoResource, CompoundWithNeed, DeclarationBreaks, ManyFields, ReferenceOfResource, TooMany, Twofold}
 use Rattle.pst_model.specs.Limits.{most_fields}
 use Rattle.pst_evaluate.specs.Laws.{ConstantsAreFound}
 use Rattle.pst_name_rules.specs.Leasts.{IsIn}
@@ -28,14 +27,13 @@ use Rattle.pst_declaration_rules.specs.declared.tally.Tally.{Tally}
 use Rattle.pst_declaration_rules.specs.Counted.{over, total}
 use Rattle.pst_declaration_rules.specs.Findings.{activity_finding, findings, is_positive, resource_by, resource_finding}
 use Rattle.pst_declaration_rules.specs.Judged.{BreaksItself, findings_at, locals_of, own_of, shape_in}
-use Rattle.pst_declaration_rules.specs.Shapes.{is_twofold, shape_of}
 use Rattle.pst_declaration_rules.specs.Tallies.{with_own}
 use Rattle.pst_declaration_rules.specs.Tallied.{AreKnown, IsStart, NoBase, OfBase, adding, units_of}
 use Rattle.pst_declaration_rules.proofs.BasesFound.{base_there}
 use Rattle.pst_declaration_rules.proofs.FieldsCounted.{adds_from, apart}
 use Rattle.pst_declaration_rules.proofs.Judging.{inherited_one, members_one}
 use Rattle.pst_declaration_rules.proofs.Needs.{one_there}
-use Rattle.pst_declaration_rules.proofs.Overrun.{finds, lt_is, over_cases, too_many}
+use Rattle.pst_declaration_rules.proofs.Overrun.{finds, over_cases, too_many}
 use Rattle.pst_declaration_rules.proofs.Splits.{filter_again, was_split}
 use Rattle.pst_declaration_rules.proofs.Tallying.{map_both, some_is, tallied}
 
@@ -92,7 +90,7 @@ module _ (k : TypeSources) (d : Declaration) (t : Tally) (f : Finding) where
   unfolding findings
   at_resource e = inr (inr (inr (inr (inr (inr (inl e))))))
 
-  at_activity : activity_finding d.name.place (shape_in k d) (with_own t (own_of k d) (shape_in k d)) ≡ Some f → IsThere
+  at_activity : activity_finding d.name.place (with_own t (own_of k d) (shape_in k d)) ≡ Some f → IsThere
   unfolding findings
   at_activity e = inr (inr (inr (inr (inr (inr (inr (inl e)))))))
 
@@ -181,40 +179,25 @@ module _ (k : TypeSources) (known : AreKnown k) (law : ConstantsAreFound) (start
     abbrev all : Tally
     all = with_own start (own_of k d) (shape_in k d)
 
-    sixteen : (is_twofold (shape_in k d) || (all.compound && (is_positive all.references || is_positive all.claims))) ≡ true → Itself (record { place = d.name.place; rule = 16 })
+    sixteen : (all.twofold || (all.compound && (is_positive all.references || is_positive all.claims))) ≡ true → Itself (record { place = d.name.place; rule = 16 })
     sixteen so = itself _ (at_activity k d start _ (ap (λ (b : Bool). if b then finding d.name.place 16 else None) so))
-
-    twofold_found : (a : DeclaredAction) → action_at (units_of k) d.name.place ≡ Some a
-        → (nat_lt 1 (length (activities_of a)) || (nat_lt 1 (length (bodies_of a)) || (nat_lt 0 (length (activities_of a)) && nat_lt 0 (length (bodies_of a))))) ≡ true → Itself (record { place = d.name.place; rule = 16 })
-    twofold_found a at so = sixteen (or_left (is_twofold (shape_in k d)) _ (ap (λ (o : Option DeclaredAction). is_twofold (option_map shape_of o)) at ∙ so))
 
     need_cases : (s : Sort) → is_need s ≡ true → (is_reference s ≡ true) ⊎ (is_claim s ≡ true)
     need_cases (sort.Reference of output) e = inl refl
     need_cases (sort.Claim of) e = inr refl
     need_cases _ e = absurd (true≢false (sym e))
 
-    longer : {X : Type 0} (xs : List X) (x : X) (more : List X) → xs ≡ x ∷ more → 0 < length xs
-    longer xs x more e = omega (arith, ap length e)
-
-    two_long : {X : Type 0} (xs : List X) (x y : X) (more : List X) → xs ≡ x ∷ y ∷ more → 1 < length xs
-    two_long xs x y more e = omega (arith, ap length e)
-
     pub breaks_found : {p : Place} {rule : ℕ} → DeclarationBreaks (units_of k) k.names.now d p rule → Itself (record { place = p; rule = rule })
     breaks_found (TooMany counted front more m most limited split count) = too_many_found counted most limited front more m split count
     breaks_found (ManyFields members front more m n j are split together adds few many) = many_fields_found members front more m n j are split together adds few many
     breaks_found (ReferenceOfResource type name is in_sort of_type resource) = itself _ (at_resource k d start _ (type_here type of_type ∙ reference_of d.sort name type is in_sort resource))
     breaks_found (ClaimOfNoResource type name is in_sort of_type resource) = itself _ (at_resource k d start _ (type_here type of_type ∙ claim_of d.sort name type is in_sort resource))
-    breaks_found (TwoActivities a first second more at is) = twofold_found a at (or_left (nat_lt 1 (length (activities_of a))) _ (lt_is 1 (length (activities_of a)) (two_long (activities_of a) first second more is)))
-    breaks_found (TwoBodies a first second more at is) =
-        twofold_found a at (or_right (nat_lt 1 (length (activities_of a))) _ (or_left (nat_lt 1 (length (bodies_of a))) _ (lt_is 1 (length (bodies_of a)) (two_long (bodies_of a) first second more is))))
-    breaks_found (ActivityAndBody a activity body activities bodies at is also) =
-        twofold_found a at (or_right (nat_lt 1 (length (activities_of a))) _ (or_right (nat_lt 1 (length (bodies_of a))) _
-        (both_are (nat_lt 0 (length (activities_of a))) (nat_lt 0 (length (bodies_of a))) (lt_is 0 (length (activities_of a)) (longer (activities_of a) activity activities is)) (lt_is 0 (length (bodies_of a)) (longer (bodies_of a) body bodies also)))))
+    breaks_found (Twofold twofold) = sixteen (or_left all.twofold _ ((tallied k known d start (starts d among).1).twofold.1 twofold))
     breaks_found (CompoundWithNeed statements members m has are there need) =
         let it = tallied k known d start (starts d among).1 in
         let same : members ≡ it.members = members_one k.index.now d d members it.members (these members are) it.are refl in
         let in_it : Contains it.members m = subst (λ (ms : List Declaration). Contains ms m) same there in
-        sixteen (or_right (is_twofold (shape_in k d)) _ (both_are all.compound _ (it.compound.1 (statements, has))
+        sixteen (or_right all.twofold _ (both_are all.compound _ (it.compound.1 (statements, has))
         (⊎_elim
         (λ r. or_left (is_positive all.references) _ (ap is_positive it.totals.references ∙ one_there kind.Reference k (λ x. refl) it.members m in_it r))
         (λ c. or_right (is_positive all.references) (is_positive all.claims) (ap is_positive it.totals.claims ∙ one_there kind.Claim k (λ x. refl) it.members m in_it c))

@@ -17,7 +17,7 @@ use Rattle.pst_declaration_rules.specs.declared.sources.TypeSources.{TypeSources
 use Rattle.pst_declaration_rules.specs.declared.tally.Tally.{Tally}
 use Rattle.pst_declaration_rules.specs.Judged.{BreaksItself, IsJudged, IsOwnFinding, findings_at, least_finding}
 use Rattle.pst_declaration_rules.specs.Tallied.{AreInherited, adding, IsStart, NoBase, OfBase}
-use Rattle.pst_declaration_rules.proofs.Judged.{none_in}
+use Rattle.pst_enum_rules.proofs.LeastOfEach.{none_in}
 use Rattle.pst_declaration_rules.proofs.Tallying.{none_is_some, some_is}
 
 -- ---- a type has one list of members
@@ -42,12 +42,13 @@ module _ (k : TypeSources) (d : Declaration) where
   one_answer false true to from = from refl
   one_answer false false to from = refl
 
-  same_tally : (t u : Tally) → t.references ≡ u.references → t.claims ≡ u.claims → t.fields ≡ u.fields → t.compound ≡ u.compound → t ≡ u
-  same_tally t u r c f b =
-      ap (λ (x : Option ℕ). record { references = x; claims = t.claims; fields = t.fields; compound = t.compound }) r
-      ∙ (ap (λ (x : Option ℕ). record { references = u.references; claims = x; fields = t.fields; compound = t.compound }) c
-      ∙ (ap (λ (x : Option ℕ). record { references = u.references; claims = u.claims; fields = x; compound = t.compound }) f
-      ∙ ap (λ (x : Bool). record { references = u.references; claims = u.claims; fields = u.fields; compound = x }) b))
+  same_tally : (t u : Tally) → t.references ≡ u.references → t.claims ≡ u.claims → t.fields ≡ u.fields → t.compound ≡ u.compound → t.twofold ≡ u.twofold → t ≡ u
+  same_tally t u r c f b w =
+      ap (λ (x : Option ℕ). record { references = x; claims = t.claims; fields = t.fields; compound = t.compound; twofold = t.twofold }) r
+      ∙ (ap (λ (x : Option ℕ). record { references = u.references; claims = x; fields = t.fields; compound = t.compound; twofold = t.twofold }) c
+      ∙ (ap (λ (x : Option ℕ). record { references = u.references; claims = u.claims; fields = x; compound = t.compound; twofold = t.twofold }) f
+      ∙ (ap (λ (x : Bool). record { references = u.references; claims = u.claims; fields = u.fields; compound = x; twofold = t.twofold }) b
+      ∙ ap (λ (x : Bool). record { references = u.references; claims = u.claims; fields = u.fields; compound = u.compound; twofold = x }) w)))
 
   start_one : (t u : Tally) → IsStart k d t → IsStart k d u → t ≡ u
   start_one t u a b =
@@ -57,6 +58,7 @@ module _ (k : TypeSources) (d : Declaration) where
       (a.totals.claims ∙ (ap (λ (ms : List Declaration). total Claim (Some 0) (map (adding k) ms)) same ∙ sym b.totals.claims))
       (a.totals.fields ∙ (ap (λ (ms : List Declaration). total Field (Some 0) (map (adding k) ms)) same ∙ sym b.totals.fields))
       (one_answer t.compound u.compound (λ so. b.compound.1 (a.compound.0 so)) (λ so. a.compound.1 (b.compound.0 so)))
+      (one_answer t.twofold u.twofold (λ so. b.twofold.1 (a.twofold.0 so)) (λ so. a.twofold.1 (b.twofold.0 so)))
 
   own_least : BeforeGoesOn → (found : Option Finding) → IsOwnFinding k d found → IsLeastOf (BreaksItself k d) found
   unfolding least_finding

@@ -1,6 +1,3 @@
-mod SameSeen
-mod Judged
-mod EnumsJudged
 mod Grouping
 mod Tallying
 mod Judging

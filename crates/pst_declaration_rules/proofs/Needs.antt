@@ -7,7 +7,7 @@ use Rattle.pst_declaration_rules.specs.declared.sources.TypeSources.{TypeSources
 use Rattle.pst_declaration_rules.specs.Counted.{is_of, most_of, one_or_none, plus, total, weight}
 use Rattle.pst_declaration_rules.specs.Findings.{is_positive}
 use Rattle.pst_declaration_rules.specs.Tallied.{adding}
-use Rattle.pst_declaration_rules.proofs.Judged.{cons_cases, cons_first, cons_rest, none_in}
+use Rattle.pst_enum_rules.proofs.LeastOfEach.{cons_cases, cons_first, cons_rest, none_in}
 use Rattle.pst_declaration_rules.proofs.Overrun.{lt_is, plus_is}
 
 module _ (kd : Kind) (k : TypeSources) (one : (d : Declaration) → weight kd (adding k d) ≡ one_or_none (is_of kd d.sort)) where

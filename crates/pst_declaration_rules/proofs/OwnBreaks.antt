@@ -1,10 +1,9 @@
 -- What is found of a declaration, it breaks.
-use Rattle.std.proofs.Common.{◌≡◌, ◌⊎◌, inl, inr, ⊎_elim, ℕ, ◌<◌, Bool, true, false, ◌&&◌, ◌||◌, nat_lt, cond, List, [], ◌∷◌, ◌++◌, append_assoc, map, length, Option, refl, sym, ap, subst, ◌∙◌, arith, true≢false}
+use Rattle.std.proofs.Common.{◌≡◌, ◌⊎◌, inl, inr, ⊎_elim, ℕ, Bool, true, false, ◌&&◌, ◌||◌, cond, List, ◌∷◌, ◌++◌, append_assoc, map, length, Option, refl, sym, ap, subst, ◌∙◌, arith, true≢false}
 use Rattle.std.specs.Prelude.{Some, None, if◌then◌else◌}
 use Rattle.std.specs.Bool.{beq}
 use Rattle.std.specs.List.{filter}
-use Rattle.std.specs.Option.{option_map, option_map_or}
-use Rattle.std.proofs.lemmas.Bool.{ltb-true}
+use Rattle.std.specs.Option.{option_map_or}
 use Rattle.std.proofs.lemmas.List.Elements.{filter-append}
 use Rattle.pst_ast.specs.declared.shared.TypeName.{TypeName}
 use Rattle.pst_scope.specs.declared.declaration.Declaration.{Declaration}
@@ -16,9 +15,8 @@ use Rattle.pst_scope.specs.Lookups.{type_in, type_of}
 use Rattle.pst_scope.specs.NameRules.{finding}
 use Rattle.pst_scope.specs.Sorts.{is_claim, is_field, is_item, is_need, is_reference, is_resource, same_place}
 use Rattle.pst_type_rules.specs.Limits.{Claims, IsLimited, Items, Locals, Parameters, References, is_local, is_local_of, is_parameter, most_items}
-use Rattle.pst_type_rules.specs.Members.{AreMembers, activities_of, bodies_of, own_members, those_that}
-use Rattle.pst_type_rules.specs.Sites.{DeclaredAction, action_at}
-use Rattle.pst_type_rules.specs.TypeRules.{ActivityAndBody, ClaimOfNoResource, CompoundWithNeed, DeclarationBreaks, ManyFields, ReferenceOfResource, TooMany, TwoActivities, TwoBodies}
+use Rattle.pst_type_rules.specs.Members.{AreMembers, own_members, those_that}
+use Rattle.pst_type_rules.specs.TypeRules.{ClaimOfNoResource, CompoundWithNeed, DeclarationBreaks, ManyFields, ReferenceOfResource, TooMany, Twofold}
 use Rattle.pst_evaluate.specs.Laws.{ConstantsAreFound}
 use Rattle.pst_name_rules.specs.Leasts.{IsIn}
 use Rattle.pst_declaration_rules.specs.declared.counted.Kind.{Kind}
@@ -28,7 +26,6 @@ use Rattle.pst_declaration_rules.specs.declared.tally.Tally.{Tally}
 use Rattle.pst_declaration_rules.specs.Counted.{most_of, over, total, weight}
 use Rattle.pst_declaration_rules.specs.Findings.{findings, is_positive, resource_by, resource_finding, unless_resource}
 use Rattle.pst_declaration_rules.specs.Judged.{findings_at, locals_of, own_of, shape_in}
-use Rattle.pst_declaration_rules.specs.Shapes.{is_twofold, shape_of}
 use Rattle.pst_declaration_rules.specs.Tallies.{with_own}
 use Rattle.pst_declaration_rules.specs.Tallied.{AreKnown, IsStart, adding, units_of}
 use Rattle.pst_declaration_rules.proofs.FieldsCounted.{adds_to, together, weight_none}
@@ -40,28 +37,6 @@ use Rattle.pst_declaration_rules.proofs.Tallying.{members_by, none_is_some, some
 or_cases : (a b : Bool) → (a || b) ≡ true → (a ≡ true) ⊎ (b ≡ true)
 or_cases true b e = inl refl
 or_cases false b e = inr e
-
--- ---- as many as a list has
-
-record HasFirst {X : Type 0} (xs : List X) : Type 0 where
-  first : X
-  more : List X
-  is : xs ≡ first ∷ more
-
-first_of : {X : Type 0} (xs : List X) → 0 < length xs → HasFirst xs
-first_of [] h = absurd (omega (arith, h))
-first_of (x ∷ xs) h = record { first = x; more = xs; is = refl }
-
-record HasTwo {X : Type 0} (xs : List X) : Type 0 where
-  first : X
-  second : X
-  more : List X
-  is : xs ≡ first ∷ second ∷ more
-
-two_of : {X : Type 0} (xs : List X) → 1 < length xs → HasTwo xs
-two_of [] h = absurd (omega (arith, h))
-two_of (x ∷ []) h = absurd (omega (arith, h))
-two_of (x ∷ y ∷ xs) h = record { first = x; second = y; more = xs; is = refl }
 
 local_so : (d x : Declaration) → is_local_of d x ≡ true → is_local x.sort ≡ true
 local_so d x e = (and_both (is_local x.sort) (option_map_or (same_place d.name.place) x.inside false) e).0
@@ -175,20 +150,6 @@ module _ (k : TypeSources) (known : AreKnown k) (law : ConstantsAreFound) (d : D
   abbrev Sixteen : Type 0
   Sixteen = DeclarationBreaks (units_of k) k.names.now d d.name.place 16
 
-  twofold_by : (o : Option DeclaredAction) → action_at (units_of k) d.name.place ≡ o → is_twofold (option_map shape_of o) ≡ true → Sixteen
-  twofold_by None at e = absurd (true≢false (sym e))
-  twofold_by (Some a) at e = ⊎_elim
-      (λ two. let r = two_of (activities_of a) (ltb-true 1 (length (activities_of a)) two) in TwoActivities a r.first r.second r.more at r.is)
-      (λ rest. ⊎_elim
-      (λ two. let r = two_of (bodies_of a) (ltb-true 1 (length (bodies_of a)) two) in TwoBodies a r.first r.second r.more at r.is)
-      (λ both.
-      let each = and_both (nat_lt 0 (length (activities_of a))) (nat_lt 0 (length (bodies_of a))) both in
-      let x = first_of (activities_of a) (ltb-true 0 (length (activities_of a)) each.0) in
-      let y = first_of (bodies_of a) (ltb-true 0 (length (bodies_of a)) each.1) in
-      ActivityAndBody a x.first y.first x.more y.more at x.is y.is)
-      (or_cases (nat_lt 1 (length (bodies_of a))) (nat_lt 0 (length (activities_of a)) && nat_lt 0 (length (bodies_of a))) rest))
-      (or_cases (nat_lt 1 (length (activities_of a))) (nat_lt 1 (length (bodies_of a)) || (nat_lt 0 (length (activities_of a)) && nat_lt 0 (length (bodies_of a)))) e)
-
   abbrev all : Tally
   all = with_own t (own_of k d) (shape_in k d)
 
@@ -212,12 +173,12 @@ module _ (k : TypeSources) (known : AreKnown k) (law : ConstantsAreFound) (d : D
       (λ c. let m = has_one kind.Claim k (λ x. refl) it.members (ap is_positive (sym it.totals.claims) ∙ c) in CompoundWithNeed statements it.members m.m has they m.among (claim_needs m.m.sort m.is))
       need
 
-  activity_by : (f : Finding) (b : Bool) → (is_twofold (shape_in k d) || (all.compound && (is_positive all.references || is_positive all.claims))) ≡ b → (if b then finding d.name.place 16 else None) ≡ Some f → Breaks f
+  activity_by : (f : Finding) (b : Bool) → (all.twofold || (all.compound && (is_positive all.references || is_positive all.claims))) ≡ b → (if b then finding d.name.place 16 else None) ≡ Some f → Breaks f
   activity_by f false is e = absurd (none_is_some f e)
   activity_by f true is e = subst Breaks (some_is _ f e) (⊎_elim
-      (λ two. twofold_by (action_at (units_of k) d.name.place) refl two)
+      (λ two. Twofold ((tallied k known d t start).twofold.0 two))
       (λ both. let each = and_both all.compound (is_positive all.references || is_positive all.claims) both in compound_breaks each.0 (or_cases (is_positive all.references) (is_positive all.claims) each.1))
-      (or_cases (is_twofold (shape_in k d)) (all.compound && (is_positive all.references || is_positive all.claims)) is))
+      (or_cases all.twofold (all.compound && (is_positive all.references || is_positive all.claims)) is))
 
   -- ---- all of them
 

@@ -1,5 +1,5 @@
 -- The counts of types with their bases.
-use Rattle.std.proofs.Common.{◌≡◌, ◌⊎◌, inl, inr, ⊎_elim, ℕ, suc, ◌<◌, Bool, true, false, List, [], ◌∷◌, ◌++◌, map, length, nat_lt, set, get_or, Option, refl, sym, ap, subst, ◌∙◌, arith, true≢false}
+use Rattle.std.proofs.Common.{◌≡◌, ◌⊎◌, inl, inr, ⊎_elim, ℕ, suc, ◌+◌, ◌<◌, Bool, true, false, ◌||◌, List, [], ◌∷◌, ◌++◌, map, length, nat_lt, set, get_or, Option, refl, sym, ap, subst, ◌∙◌, arith, true≢false}
 use Rattle.std.specs.Prelude.{Some, None, is_some, slice_get, slice_index_or, IsTrue, if◌then◌else◌}
 use Rattle.std.specs.Option.{option_map, unwrap_or}
 use Rattle.std.proofs.lemmas.List.{get_or-set_same, get_or-set_other}
@@ -8,7 +8,7 @@ use Rattle.pst_ast.specs.ActivityTree.{StatementTree}
 use Rattle.pst_ast.specs.BodyTree.{BodyTree}
 use Rattle.pst_scope.specs.declared.declaration.Declaration.{Declaration}
 use Rattle.pst_scope.specs.Lookups.{base_of}
-use Rattle.pst_type_rules.specs.Members.{AreMembers, WithoutBase, WithBase, Own, Inherited, own_members, activities_of, bodies_of}
+use Rattle.pst_type_rules.specs.Members.{AreMembers, WithoutBase, WithBase, Own, Inherited, own_members, activities_of, bodies_of, IsTwofold, TwoActivities, TwoBodies, ActivityAndBody, TwofoldBase}
 use Rattle.pst_type_rules.specs.Sites.{DeclaredAction, action_at}
 use Rattle.pst_declaration_rules.specs.declared.counted.Kind.{Kind}
 use Rattle.pst_declaration_rules.specs.declared.counted.Kind.TheVariants.{Claim, Field, Reference}
@@ -17,7 +17,7 @@ use Rattle.pst_declaration_rules.specs.declared.sources.TypeSources.{TypeSources
 use Rattle.pst_declaration_rules.specs.declared.tally.Tally.{Tally}
 use Rattle.pst_declaration_rules.specs.Counted.{most_of, plus, total, weight}
 use Rattle.pst_declaration_rules.specs.Judged.{own_of, shape_in}
-use Rattle.pst_declaration_rules.specs.Shapes.{is_compound, shape_of}
+use Rattle.pst_declaration_rules.specs.Shapes.{is_compound, is_twofold, shape_of}
 use Rattle.pst_declaration_rules.specs.Tallies.{nothing, with_own}
 use Rattle.pst_declaration_rules.specs.Tallied.{AreInherited, AreKnown, AreTallied, BaseHas, HasActivity, IsStart, IsTallied, NoBase, OfBase, adding, units_of}
 
@@ -35,6 +35,7 @@ start_nothing k d is = record {
   are = NoBase is;
   totals = record { references = refl; claims = refl; fields = refl };
   compound = (λ e. absurd (true≢false (sym e)), λ (has : BaseHas k d (HasActivity k)). absurd (none_is_some has.0 (sym is ∙ has.1)));
+  twofold = (λ e. absurd (true≢false (sym e)), λ (has : BaseHas k d (IsTwofold (units_of k))). absurd (none_is_some has.0 (sym is ∙ has.1)));
 }
 
 pub start_kept : (k : TypeSources) (d base : Declaration) (t : Tally) → base_of k.index.now d ≡ Some base → IsTallied k base t → IsStart k d t
@@ -43,6 +44,7 @@ start_kept k d base t is it = record {
   are = OfBase base it.members is it.are;
   totals = it.totals;
   compound = (λ so. (base, is, it.compound.0 so), λ (has : BaseHas k d (HasActivity k)). it.compound.1 (subst (HasActivity k) (some_is has.0 base (sym has.1 ∙ is)) has.2));
+  twofold = (λ so. (base, is, it.twofold.0 so), λ (has : BaseHas k d (IsTwofold (units_of k))). it.twofold.1 (subst (IsTwofold (units_of k)) (some_is has.0 base (sym has.1 ∙ is)) has.2));
 }
 
 -- ---- totals
@@ -112,6 +114,82 @@ module _ (k : TypeSources) (known : AreKnown k) (d : Declaration) (inherited : B
   pub compound_so : Both (is_compound (shape_in k d) inherited)
   compound_so = by_action here refl
 
+-- ---- two activities, two bodies, or one of each
+
+more_than_one : (n : ℕ) → nat_lt 1 (suc (suc n)) ≡ true
+more_than_one n = grind arith
+
+module _ (k : TypeSources) (known : AreKnown k) (d : Declaration) (inherited : Bool) (bases : (IsTrue inherited → BaseHas k d (IsTwofold (units_of k))) × (BaseHas k d (IsTwofold (units_of k)) → IsTrue inherited)) where
+  abbrev BothWays : Bool → Type 0
+  BothWays b = (IsTrue b → IsTwofold (units_of k) d) × (IsTwofold (units_of k) d → IsTrue b)
+
+  abbrev its_action : Option DeclaredAction
+  its_action = action_at (units_of k) d.name.place
+
+  never_so : (IsTwofold (units_of k) d → ⊥) → BothWays false
+  never_so never = (λ e. absurd (true≢false (sym e)), λ has. absurd (never has))
+
+  always_so : (b : Bool) → b ≡ true → IsTwofold (units_of k) d → BothWays b
+  always_so b is has = (λ e. has, λ h. is)
+
+  missing : its_action ≡ None → IsTwofold (units_of k) d → ⊥
+  missing is (TwoActivities _ a first second more at own) = none_is_some a (sym is ∙ at)
+  missing is (TwoBodies _ a first second more at own) = none_is_some a (sym is ∙ at)
+  missing is (ActivityAndBody _ a activity body activities bodies at own also) = none_is_some a (sym is ∙ at)
+  missing is (TwofoldBase _ base a at none bare has_base has) = none_is_some a (sym is ∙ at)
+
+  -- two or more of its own, or those of the base
+  abbrev HasTwo : DeclaredAction → Type 0
+  HasTwo a = 1 < length (activities_of a) + length (bodies_of a)
+
+  abbrev TakesTwo : DeclaredAction → Type 0
+  TakesTwo a = (length (activities_of a) + length (bodies_of a) ≡ 0) × BaseHas k d (IsTwofold (units_of k))
+
+  counted : IsTwofold (units_of k) d → (a : DeclaredAction) → its_action ≡ Some a → HasTwo a ⊎ TakesTwo a
+  counted (TwoActivities _ b first second more at own) a is = inl (omega (arith, ap length (ap activities_of (some_is a b (sym is ∙ at)) ∙ own)))
+  counted (TwoBodies _ b first second more at own) a is = inl (omega (arith, ap length (ap bodies_of (some_is a b (sym is ∙ at)) ∙ own)))
+  counted (ActivityAndBody _ b activity body activities bodies at own also) a is =
+      inl (omega (arith, ap length (ap activities_of (some_is a b (sym is ∙ at)) ∙ own), ap length (ap bodies_of (some_is a b (sym is ∙ at)) ∙ also)))
+  counted (TwofoldBase _ base b at none bare has_base has) a is =
+      inr (
+        omega (arith, ap length (ap activities_of (some_is a b (sym is ∙ at)) ∙ none), ap length (ap bodies_of (some_is a b (sym is ∙ at)) ∙ bare)),
+        (base, subst (λ (ds : List Declaration). base_of ds d ≡ Some base) (sym known.declared) has_base, has),
+      )
+
+  single : (a : DeclaredAction) → its_action ≡ Some a → length (activities_of a) + length (bodies_of a) ≡ 1 → IsTwofold (units_of k) d → ⊥
+  single a at one has = ⊎_elim (λ (two : HasTwo a). absurd (omega (arith, one, two))) (λ (none : TakesTwo a). absurd (omega (arith, one, none.0))) (counted has a at)
+
+  abbrev answer : ℕ → ℕ → Bool
+  answer n m = is_twofold (Some (record { activities = n; bodies = m })) inherited
+
+  by_first : (n m : ℕ) → answer (suc n) m ≡ (nat_lt 1 (suc n) || nat_lt 0 m)
+  by_first n m = ap (λ (b : Bool). if b then nat_lt 1 (suc n) || nat_lt 0 m else (if nat_lt 0 m then nat_lt 1 m else inherited)) (positive n)
+
+  by_second : (m : ℕ) → answer 0 (suc m) ≡ nat_lt 1 (suc m)
+  by_second m = ap (λ (b : Bool). if b then nat_lt 1 (suc m) else inherited) (positive m)
+
+  by_two : (a : DeclaredAction) (activities : List (List StatementTree)) (bodies : List BodyTree) → its_action ≡ Some a → activities_of a ≡ activities → bodies_of a ≡ bodies → BothWays (answer (length activities) (length bodies))
+  by_two a (x ∷ y ∷ more) bodies at are bare =
+      always_so _ (by_first (suc (length more)) (length bodies) ∙ ap (λ (b : Bool). b || nat_lt 0 (length bodies)) (more_than_one (length more))) (TwoActivities d a x y more at are)
+  by_two a (x ∷ []) (b ∷ more) at are bare = always_so _ (by_first 0 (suc (length more)) ∙ positive (length more)) (ActivityAndBody d a x b [] more at are bare)
+  by_two a (x ∷ []) [] at are bare = never_so (single a at (omega (arith, ap length are, ap length bare)))
+  by_two a [] (b ∷ c ∷ more) at are bare = always_so _ (by_second (suc (length more)) ∙ more_than_one (length more)) (TwoBodies d a b c more at bare)
+  by_two a [] (b ∷ []) at are bare = never_so (single a at (omega (arith, ap length are, ap length bare)))
+  by_two a [] [] at are bare = (to, from)
+    where
+      to : IsTrue inherited → IsTwofold (units_of k) d
+      to so = let (base, is, has) = bases.0 so in TwofoldBase d base a at are bare (subst (λ (ds : List Declaration). base_of ds d ≡ Some base) known.declared is) has
+
+      from : IsTwofold (units_of k) d → IsTrue inherited
+      from has = ⊎_elim (λ (two : HasTwo a). absurd (omega (arith, two, ap length are, ap length bare))) (λ (none : TakesTwo a). bases.1 none.1) (counted has a at)
+
+  by_its_action : (o : Option DeclaredAction) → its_action ≡ o → BothWays (is_twofold (option_map shape_of o) inherited)
+  by_its_action None is = never_so (missing is)
+  by_its_action (Some a) is = by_two a (activities_of a) (bodies_of a) is refl refl
+
+  pub twofold_so : BothWays (is_twofold (shape_in k d) inherited)
+  twofold_so = by_its_action its_action refl
+
 -- ---- one type more
 
 module _ (k : TypeSources) (known : AreKnown k) (d : Declaration) (t : Tally) (start : IsStart k d t) where
@@ -129,6 +207,7 @@ module _ (k : TypeSources) (known : AreKnown k) (d : Declaration) (t : Tally) (s
       fields = total_of_both Field (adding k) t.fields start.members (own_members k.index.now d) start.totals.fields;
     };
     compound = compound_so k known d t.compound start.compound;
+    twofold = twofold_so k known d t.twofold start.twofold;
   }
 
 -- ---- keeping counts

@@ -15,7 +15,6 @@ use Rattle.pst_declaration_rules.specs.declared.member.Member.{Member}
 use Rattle.pst_declaration_rules.specs.declared.shape.Shape.{Shape}
 use Rattle.pst_declaration_rules.specs.declared.tally.Tally.{Tally}
 use Rattle.pst_declaration_rules.specs.Counted.{over}
-use Rattle.pst_declaration_rules.specs.Shapes.{is_twofold}
 use Rattle.pst_declaration_rules.specs.Tallies.{with_own}
 
 -- rule 15 at a type name, unless the type is a resource or not, as is wanted
@@ -37,8 +36,8 @@ is_positive None = false
 is_positive (Some n) = nat_lt 0 n
 
 -- two activities, two bodies or one of each, or an activity and a reference or claim
-abbrev pub activity_finding : Place → Option Shape → Tally → Option Finding
-activity_finding place shape all = if is_twofold shape || (all.compound && (is_positive all.references || is_positive all.claims)) then finding place 16 else None
+abbrev pub activity_finding : Place → Tally → Option Finding
+activity_finding place all = if all.twofold || (all.compound && (is_positive all.references || is_positive all.claims)) then finding place 16 else None
 
 -- what a declaration breaks, given the counts of its base, its own members, its locals, and how many activities and bodies it has
 unfoldable pub findings : List Declaration → Declaration → Tally → List Member → List Member → Option Shape → List (Option Finding)
@@ -50,5 +49,5 @@ findings ds d start own locals shape =
     ∷ over kind.Claim start.claims own
     ∷ over kind.Field start.fields own
     ∷ resource_finding ds d
-    ∷ activity_finding d.name.place shape (with_own start own shape)
+    ∷ activity_finding d.name.place (with_own start own shape)
     ∷ []

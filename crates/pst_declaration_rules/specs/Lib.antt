@@ -1,5 +1,4 @@
 pub mod Breaches
-pub mod Enums
 pub mod Counted
 pub mod Fields
 pub mod Grouped

@@ -8,7 +8,7 @@ use Rattle.pst_ast.specs.DeclarationView.{view_unit}
 use Rattle.pst_scope.specs.declared.declaration.Declaration.{Declaration}
 use Rattle.pst_scope.specs.Declarations.{declarations}
 use Rattle.pst_scope.specs.Lookups.{base_of}
-use Rattle.pst_type_rules.specs.Members.{AreMembers, IsCompound}
+use Rattle.pst_type_rules.specs.Members.{AreMembers, IsCompound, IsTwofold}
 use Rattle.pst_evaluate.specs.Kept.{known_in}
 use Rattle.pst_evaluate.specs.Settled.{AreItemValues}
 use Rattle.pst_declaration_rules.specs.declared.counted.Kind.TheVariants.{Claim, Field, Reference}
@@ -52,6 +52,7 @@ pub record IsTallied (k : TypeSources) (d : Declaration) (t : Tally) : Type 0 wh
   pub are : AreMembers k.index.now d members
   pub totals : AreTotals k members t
   pub compound : IsTrue t.compound ↔ HasActivity k d
+  pub twofold : IsTrue t.twofold ↔ IsTwofold (units_of k) d
 
 -- a type has no base, or that one
 abbrev pub BaseHas : TypeSources → Declaration → (Declaration → Type 0) → Type 0
@@ -68,6 +69,7 @@ pub record IsStart (k : TypeSources) (d : Declaration) (t : Tally) : Type 0 wher
   pub are : AreInherited k d members
   pub totals : AreTotals k members t
   pub compound : IsTrue t.compound ↔ BaseHas k d (HasActivity k)
+  pub twofold : IsTrue t.twofold ↔ BaseHas k d (IsTwofold (units_of k))
 
 -- what is kept are the counts of declarations, by their numbers
 abbrev pub AreTallied : TypeSources → List (Option Tally) → Type 0

@@ -4,7 +4,7 @@ ghost use Rattle.std.specs.Option.{option_map};
 ghost use Rattle.pst_ast.specs.DeclarationView.{view_unit};
 ghost use Rattle.pst_scope.specs.Declarations.{declarations};
 ghost use Rattle.pst_evaluate.specs.Kept.{known_in};
-ghost use Rattle.pst_sites.specs.Sited.{view_field_site};
+ghost use Rattle.pst_site_lists.specs.Sited.{view_field_site};
 ghost use Rattle.pst_declaration_rules.specs.Fields;
 
 use crate::member::Member;

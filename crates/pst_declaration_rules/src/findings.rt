@@ -9,7 +9,7 @@ ghost use Rattle.pst_declaration_rules.specs.Tallied.{AreKnown, AreTallied};
 use crate::counted::{Kind, over};
 use crate::grouped::group_at;
 use crate::member::Member;
-use crate::shape::{Shape, is_twofold, shape_at};
+use crate::shape::{Shape, shape_at};
 use crate::sources::TypeSources;
 use crate::tally::{Tally, start_of, with_own};
 use pst_ast::{ObjectWord, TypeName};
@@ -67,12 +67,10 @@ fn is_positive(count: Option<u64>) -> bool
 }
 
 // Two activities, two bodies or one of each, or an activity and a reference or claim.
-fn activity_finding(place: Place, shape: Option<Shape>, all: &Tally) -> Option<Finding>
-    ensures { result ≡ Findings.activity_finding place shape all.now }
+fn activity_finding(place: Place, all: &Tally) -> Option<Finding>
+    ensures { result ≡ Findings.activity_finding place all.now }
 {
-    if is_twofold(shape)
-        || (all.compound && (is_positive(all.references) || is_positive(all.claims)))
-    {
+    if all.twofold || (all.compound && (is_positive(all.references) || is_positive(all.claims))) {
         return Some(Finding { place, rule: 16 });
     }
     None
@@ -98,7 +96,7 @@ fn finding_by(
     least = earlier(least, over(Kind::Field, start.fields, own));
     least = earlier(least, resource_finding(index, declaration));
     let all = with_own(start, own, shape);
-    earlier(least, activity_finding(declaration.name.place, shape, &all))
+    earlier(least, activity_finding(declaration.name.place, &all))
 }
 
 // The same, given the counts of all types.

@@ -66,14 +66,21 @@ pub fn shape_at(sites: &Sites, place: Place) -> Option<Shape>
     }
 }
 
-/// Whether an action has two activities, two bodies, or one of each.
-pub fn is_twofold(shape: Option<Shape>) -> bool
-    ensures { result ≡ Shapes.is_twofold shape }
+/// Whether an action has two activities, two bodies, or one of each, where its base has them or
+/// not.
+pub fn is_twofold(shape: Option<Shape>, inherited: bool) -> bool
+    ensures { result ≡ Shapes.is_twofold shape inherited }
 {
     match shape {
         None => false,
         Some(shape) => {
-            shape.activities > 1 || (shape.bodies > 1 || (shape.activities > 0 && shape.bodies > 0))
+            if shape.activities > 0 {
+                shape.activities > 1 || shape.bodies > 0
+            } else if shape.bodies > 0 {
+                shape.bodies > 1
+            } else {
+                inherited
+            }
         }
     }
 }

@@ -7,12 +7,12 @@ ghost use Rattle.pst_declaration_rules.specs.declared.tally.Tally.{Tally as ATal
 use crate::counted::{Kind, total};
 use crate::grouped::group_at;
 use crate::member::Member;
-use crate::shape::{Shape, is_compound, shape_at};
+use crate::shape::{Shape, is_compound, is_twofold, shape_at};
 use crate::sources::TypeSources;
 use pst_members::is_same_action;
 use pst_scope::Declaration;
 
-/// How many members a type has with those of its bases, and whether it has an activity.
+/// How many members a type has with those of its bases, and which activities and bodies.
 #[derive(Clone, Copy)]
 pub struct Tally {
     /// References.
@@ -23,6 +23,9 @@ pub struct Tally {
     pub fields: Option<u64>,
     /// Whether an action has an activity, its own or that of its base.
     pub compound: bool,
+    /// Whether an action has two activities, two bodies, or one of each, its own or those of its
+    /// base.
+    pub twofold: bool,
 }
 
 // No members.
@@ -34,6 +37,7 @@ fn nothing() -> Tally
         claims: Some(0),
         fields: Some(0),
         compound: false,
+        twofold: false,
     }
 }
 
@@ -46,6 +50,7 @@ pub fn with_own(start: &Tally, own: &[Member], shape: Option<Shape>) -> Tally
         claims: total(Kind::Claim, start.claims, own),
         fields: total(Kind::Field, start.fields, own),
         compound: is_compound(shape, start.compound),
+        twofold: is_twofold(shape, start.twofold),
     }
 }
 

@@ -12,7 +12,7 @@ use Rattle.pst_scope.specs.Declarations.{next_item}
 use Rattle.pst_scope.specs.Sorts.{same_place}
 use Rattle.pst_constants.specs.Enums.{DeclaredItem, enum_of, items_behind}
 use Rattle.pst_places.specs.Numbers.{number_from, number_in}
-use Rattle.pst_sites.specs.declared.site.EnumSite.{EnumSite}
+use Rattle.pst_site_lists.specs.declared.site.EnumSite.{EnumSite}
 use Rattle.pst_evaluate.specs.Kept.{Kept, known_in}
 use Rattle.pst_enum_values.specs.Gathered.{EnumPlaces, EnumRow, IsRow, are_known, enum_places, place_of_item, places_in, values_of}
 use Rattle.pst_enum_values.specs.Kept.{IsFound, IsRowOf, enum_in, places_of_site}

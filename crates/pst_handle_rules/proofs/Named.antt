@@ -92,6 +92,7 @@ inherited_alone (Uses.Judges at Uses.Constrains expr) m there e = let n = map_ca
 inherited_alone (Uses.Judges at Uses.InBody expr) m there e = let n = map_cases (mention at false) (first_names at expr) m there in of_body at n.0 m n.1 e
 inherited_alone (Uses.Repeats at first rest) m there e = of_member at first.name m (single_in (mention at (is_member_constraint at) first.name) m there) e
 inherited_alone (Uses.Ends at handle reference) m there e = of_body at handle m (single_in (mention at false handle) m there) e
+inherited_alone (Uses.Assigns at name) m there e = of_body at name m (single_in (mention at false name) m there) e
 inherited_alone (Uses.Judges at (Uses.Width signed) expr) m there e = absurd (none_in m there)
 inherited_alone (Uses.Judges at Uses.LowestBit expr) m there e = absurd (none_in m there)
 inherited_alone (Uses.Judges at Uses.RangeEnd expr) m there e = absurd (none_in m there)
@@ -114,7 +115,6 @@ inherited_alone (Uses.TakesItem at component enum item) m there e = absurd (none
 inherited_alone (Uses.NamesType component wanted name) m there e = absurd (none_in m there)
 inherited_alone (Uses.NamesBase action name) m there e = absurd (none_in m there)
 inherited_alone (Uses.Calls component name) m there e = absurd (none_in m there)
-inherited_alone (Uses.Assigns at name) m there e = absurd (none_in m there)
 inherited_alone (Uses.Traverses at name) m there e = absurd (none_in m there)
 inherited_alone (Uses.Joins labels name) m there e = absurd (none_in m there)
 inherited_alone (Uses.Binds component pool) m there e = absurd (none_in m there)

@@ -270,8 +270,8 @@ impl<'a> Visitor for HandleUses<'a> {
         Ok(())
     }
 
-    fn assigns(&mut self, _at: &Environment, _name: Name) -> Result<(), NoMemory> {
-        Ok(())
+    fn assigns(&mut self, at: &Environment, name: Name) -> Result<(), NoMemory> {
+        self.keep_judging(at, name, false)
     }
 
     fn traverses(&mut self, _at: &Environment, _name: Name) -> Result<(), NoMemory> {

@@ -1,2 +1,1 @@
-pub mod Sited
 pub mod Kept

@@ -5,12 +5,12 @@ ghost use Rattle.std.specs.Option.{option_map};
 ghost use Rattle.pst_ast.specs.DeclarationView.{view_action, view_function};
 ghost use Rattle.pst_scope.specs.Sorts.{same_place};
 ghost use Rattle.pst_type_rules.specs.Sites.{action_of, function_of};
-ghost use Rattle.pst_sites.specs.Sited.{view_enum_site, view_field_site};
+ghost use Rattle.pst_site_lists.specs.Sited.{view_enum_site, view_field_site};
 
-use crate::site::{EnumSite, FieldSite};
 use pst_ast::{ActionNode, FunctionNode};
 use pst_base::{NoMemory, Place};
 use pst_places::PlaceList;
+use pst_site_lists::{EnumSite, FieldSite};
 use std::alloc::Global;
 
 /// The places of the names of actions.

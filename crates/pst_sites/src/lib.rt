@@ -2,12 +2,7 @@
 #![tactic(auto)]
 
 mod find;
-mod list_actions;
-mod list_enums;
-mod list_fields;
-mod list_functions;
-mod site;
 mod sites;
 
-pub use site::{EnumSite, FieldSite};
+pub use pst_site_lists::{EnumSite, FieldSite};
 pub use sites::Sites;

@@ -4,20 +4,16 @@ ghost use Rattle.std.specs.Option.{option_map};
 ghost use Rattle.pst_ast.specs.DeclarationView.{view_action, view_function, view_unit};
 ghost use Rattle.pst_constants.specs.Enums;
 ghost use Rattle.pst_type_rules.specs.Sites as tree;
-ghost use Rattle.pst_sites.specs.Sited.{view_enum_site, view_field_site};
+ghost use Rattle.pst_site_lists.specs.Sited.{view_enum_site, view_field_site};
 
 use crate::find::{
     action_in, enum_in, field_in, function_in, places_of_actions, places_of_enums,
     places_of_fields, places_of_functions,
 };
-use crate::list_actions::list_actions;
-use crate::list_enums::list_enums;
-use crate::list_fields::list_fields;
-use crate::list_functions::list_functions;
-use crate::site::{EnumSite, FieldSite};
 use pst_ast::{ActionNode, FunctionNode, Unit};
 use pst_base::{NoMemory, Place};
 use pst_places::PlaceList;
+use pst_site_lists::{EnumSite, FieldSite, list_actions, list_enums, list_fields, list_functions};
 use std::alloc::Global;
 use std::marker::Model;
 

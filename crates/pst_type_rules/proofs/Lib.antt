@@ -4,3 +4,4 @@ mod RulesTried
 mod WidthTried
 mod MoreTried
 mod RightTried
+mod PartsTried

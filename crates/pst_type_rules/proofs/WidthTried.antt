@@ -19,11 +19,11 @@ use Rattle.pst_scope.specs.Sorts.{same_place, same_scope, is_item, is_field, is_
 use Rattle.pst_scope.specs.Lookups.{look_up, base_of}
 use Rattle.pst_scope.specs.Uses.{Use, HasType, HasPlain, Judges, Width, environment, uses}
 use Rattle.pst_type_rules.specs.Sites.{DeclaredAction, DeclaredField, action_of, action_at, field_at}
-use Rattle.pst_type_rules.specs.Members.{own_members, AreMembers, WithoutBase, WithBase, activities_of, bodies_of, IsCompound, Own, Inherited}
+use Rattle.pst_type_rules.specs.Members.{own_members, AreMembers, WithoutBase, WithBase, activities_of, bodies_of, IsCompound, Own, Inherited, IsTwofold, TwoActivities, TwoBodies, ActivityAndBody, TwofoldBase}
 use Rattle.pst_type_rules.specs.Limits.{is_parameter, is_local_of, IsLimited, Items, Parameters, Locals, References, Claims, AddsFields, One, Array, WrongArray, AddTogether, Nothing, More}
 use Rattle.pst_type_rules.specs.Handles.{Mention, mentions}
 use Rattle.pst_type_rules.specs.Binds.{pairs}
-use Rattle.pst_type_rules.specs.TypeRules.{UseBreaks, WidthOutside, LowestNotZero, ReversedInDomain, Empty, InnerIn, NotConstant, ValueOutside, DeclarationBreaks, TooMany, ManyFields, ReferenceOfResource, ClaimOfNoResource, TwoActivities, TwoBodies, ActivityAndBody, CompoundWithNeed, TypeBreach, OfUse, OfEnum, OfDeclaration, Unsteady, BoundTwice}
+use Rattle.pst_type_rules.specs.TypeRules.{UseBreaks, WidthOutside, LowestNotZero, ReversedInDomain, Empty, InnerIn, NotConstant, ValueOutside, DeclarationBreaks, TooMany, ManyFields, ReferenceOfResource, ClaimOfNoResource, Twofold, CompoundWithNeed, TypeBreach, OfUse, OfEnum, OfDeclaration, Unsteady, BoundTwice}
 use Rattle.pst_type_rules.specs.Tried.{on, name, number, names, bits, wide}
 use Rattle.pst_type_rules.proofs.SourcesTried.{is_missing, width}
 
@@ -154,6 +154,12 @@ not_compound : (d : Declaration) (statements : List StatementTree) → base_of d
 not_compound d statements none (Own _ a _ more found is) = not_filled _ _ _ (performs_nothing d.name.place a found).0 is
 not_compound d statements none (Inherited _ base a _ found no_activity no_body some rest) = is_missing base (sym none ∙ some)
 
+not_twofold : (d : Declaration) → base_of ds d ≡ None → IsTwofold units d → ⊥
+not_twofold d none (TwoActivities _ a first second more found is) = not_filled _ _ _ (performs_nothing d.name.place a found).0 is
+not_twofold d none (TwoBodies _ a first second more found is) = not_filled _ _ _ (performs_nothing d.name.place a found).1 is
+not_twofold d none (ActivityAndBody _ a activity body activities bodies found is also) = not_filled _ _ _ (performs_nothing d.name.place a found).0 is
+not_twofold d none (TwofoldBase _ base a found no_activity no_body some rest) = is_missing base (sym none ∙ some)
+
 true_or_false : (b : Bool) → b ≡ false → IsTrue b → ⊥
 true_or_false b none some = true≢false (sym some ∙ none)
 
@@ -164,9 +170,7 @@ of_declaration d p r among (ManyFields members front more m n k are is together 
     omega (arith, filter_short (λ (x : Declaration). is_field x.sort) members 3 (few_members d members are (without_base d among)), longer _ front more m is, adds_few front n together, adds_one m k adds, many)
 of_declaration d p r among (ReferenceOfResource type name must has is resource) = true_or_false _ (no_type d among).0 must
 of_declaration d p r among (ClaimOfNoResource type name must has is resource) = true_or_false _ (no_type d among).1 must
-of_declaration d p r among (TwoActivities a first second more found is) = not_filled _ _ _ (performs_nothing d.name.place a found).0 is
-of_declaration d p r among (TwoBodies a first second more found is) = not_filled _ _ _ (performs_nothing d.name.place a found).1 is
-of_declaration d p r among (ActivityAndBody a activity body activities bodies found is also) = not_filled _ _ _ (performs_nothing d.name.place a found).0 is
+of_declaration d p r among (Twofold twofold) = not_twofold d (without_base d among) twofold
 of_declaration d p r among (CompoundWithNeed statements members m compound are has need) = not_compound d statements (without_base d among) compound
 
 -- ---- all

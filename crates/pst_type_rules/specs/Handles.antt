@@ -13,7 +13,7 @@ use Rattle.pst_scope.specs.declared.referent.Traversal.{Traversal}
 use Rattle.pst_scope.specs.Declarations.{declarations}
 use Rattle.pst_scope.specs.Sorts.{same_name}
 use Rattle.pst_scope.specs.Lookups.{member_of, traversed, traversed_member}
-use Rattle.pst_scope.specs.Uses.{Use, Judges, Reads, Repeats, Ends, Constrains, InBody, expr_uses}
+use Rattle.pst_scope.specs.Uses.{Use, Judges, Reads, Repeats, Ends, Assigns, Constrains, InBody, expr_uses}
 use Rattle.pst_type_rules.specs.Members.{IsOrDerives, IsCompound}
 
 -- ---- traversals of a handle
@@ -93,6 +93,7 @@ mentions (Judges at Constrains expr) = map (mention at (is_member_constraint at)
 mentions (Judges at InBody expr) = map (mention at false) (first_names at expr)
 mentions (Repeats at first rest) = mention at (is_member_constraint at) first.name ∷ []
 mentions (Ends at handle reference) = mention at false handle ∷ []
+mentions (Assigns at name) = mention at false name ∷ []
 mentions _ = []
 
 -- the action whose activity must traverse the handle that is mentioned

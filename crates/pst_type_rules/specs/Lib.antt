@@ -11,3 +11,4 @@ pub mod Tried
 pub mod TriedRules
 pub mod TriedMore
 pub mod TriedRight
+pub mod TriedParts

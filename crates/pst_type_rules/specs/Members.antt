@@ -54,3 +54,13 @@ pub data IsCompound (units : List UnitTree) : Declaration → List StatementTree
       → activities_of a ≡ statements ∷ more → IsCompound units d statements
   Inherited : (d base : Declaration) (a : DeclaredAction) (statements : List StatementTree) → action_at units d.name.place ≡ Some a → activities_of a ≡ [] → bodies_of a ≡ []
       → base_of (declarations units) d ≡ Some base → IsCompound units base statements → IsCompound units d statements
+
+-- An action has two activities, two bodies, or one of each: of its own, or where it has neither an activity nor a body, those of its base.
+pub data IsTwofold (units : List UnitTree) : Declaration → Type 0 where
+  TwoActivities : (d : Declaration) (a : DeclaredAction) (first second : List StatementTree) (more : List (List StatementTree)) → action_at units d.name.place ≡ Some a → activities_of a ≡ first ∷ second ∷ more
+      → IsTwofold units d
+  TwoBodies : (d : Declaration) (a : DeclaredAction) (first second : BodyTree) (more : List BodyTree) → action_at units d.name.place ≡ Some a → bodies_of a ≡ first ∷ second ∷ more → IsTwofold units d
+  ActivityAndBody : (d : Declaration) (a : DeclaredAction) (activity : List StatementTree) (body : BodyTree) (activities : List (List StatementTree)) (bodies : List BodyTree) → action_at units d.name.place ≡ Some a
+      → activities_of a ≡ activity ∷ activities → bodies_of a ≡ body ∷ bodies → IsTwofold units d
+  TwofoldBase : (d base : Declaration) (a : DeclaredAction) → action_at units d.name.place ≡ Some a → activities_of a ≡ [] → bodies_of a ≡ [] → base_of (declarations units) d ≡ Some base → IsTwofold units base
+      → IsTwofold units d

@@ -9,7 +9,6 @@ use Rattle.pst_ast.specs.declared.activity.EndNode.{EndNode}
 use Rattle.pst_ast.specs.ExpressionTree.{ExprTree, RangeTree}
 use Rattle.pst_ast.specs.SharedTree.{LowTree, MakeLow, WidthTree, MakeWidth, PlainTree, PlainInt, PlainBit, PlainBool, TypeTree}
 use Rattle.pst_ast.specs.ActivityTree.{ArmLabelTree, ArmLabelRanges, ArmLabelDefault, StatementTree}
-use Rattle.pst_ast.specs.BodyTree.{BodyTree}
 use Rattle.pst_ast.specs.DeclarationTree.{UnitTree, AnswerVoid}
 use Rattle.pst_expr.specs.declared.ranges.Span.{Span}
 use Rattle.pst_expr.specs.Spans.{IsInSpan}
@@ -34,7 +33,7 @@ use Rattle.pst_constants.specs.Constants.{IsItemValue, IsConstant}
 use Rattle.pst_constants.specs.Domains.{HasWidth, IsSpanOf, IsInType, IsKnown, ranges_of, ranges_in}
 use Rattle.pst_type_rules.specs.Places.{expr_place, range_place, plain_place, type_place, ins}
 use Rattle.pst_type_rules.specs.Sites.{DeclaredAction, DeclaredFunction, action_at, function_at}
-use Rattle.pst_type_rules.specs.Members.{AreMembers, those_that, activities_of, bodies_of, IsCompound}
+use Rattle.pst_type_rules.specs.Members.{AreMembers, those_that, IsCompound, IsTwofold}
 use Rattle.pst_type_rules.specs.Limits.{most_unique, enum_values, limits_of, widths_of, is_local, IsLimited, AddsFields, AddTogether}
 use Rattle.pst_type_rules.specs.Handles.{Mention, mentions, IsJudgedBy, IsSteadyIn}
 use Rattle.pst_type_rules.specs.Binds.{Pair, pairs, reference_at, AreEnds, BindTwice}
@@ -168,12 +167,8 @@ pub data DeclarationBreaks (units : List UnitTree) (names : List (List ℕ)) (d 
       → DeclarationBreaks units names d name.first.place 15
   ClaimOfNoResource : (type : Declaration) (name : TypeName) → IsTrue (is_claim d.sort) → type_in d.sort ≡ Some name → type_of (declarations units) d ≡ Some type → IsFalse (is_resource type.sort)
       → DeclarationBreaks units names d name.first.place 15
-  -- an action has two activities, two bodies, or one of each: its name
-  TwoActivities : (a : DeclaredAction) (first second : List StatementTree) (more : List (List StatementTree)) → action_at units d.name.place ≡ Some a → activities_of a ≡ first ∷ second ∷ more
-      → DeclarationBreaks units names d d.name.place 16
-  TwoBodies : (a : DeclaredAction) (first second : BodyTree) (more : List BodyTree) → action_at units d.name.place ≡ Some a → bodies_of a ≡ first ∷ second ∷ more → DeclarationBreaks units names d d.name.place 16
-  ActivityAndBody : (a : DeclaredAction) (activity : List StatementTree) (body : BodyTree) (activities : List (List StatementTree)) (bodies : List BodyTree) → action_at units d.name.place ≡ Some a
-      → activities_of a ≡ activity ∷ activities → bodies_of a ≡ body ∷ bodies → DeclarationBreaks units names d d.name.place 16
+  -- with what it inherits an action has two activities, two bodies, or one of each: its name
+  Twofold : IsTwofold units d → DeclarationBreaks units names d d.name.place 16
   -- with what it inherits it has an activity, and a reference or claim: its name
   CompoundWithNeed : (statements : List StatementTree) (members : List Declaration) (m : Declaration) → IsCompound units d statements → AreMembers (declarations units) d members → Contains members m
       → IsTrue (is_need m.sort) → DeclarationBreaks units names d d.name.place 16

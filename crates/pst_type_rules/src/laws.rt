@@ -3,6 +3,7 @@ ghost use Rattle.pst_type_rules.specs.Laws.{TypeBreachesHaveOneLeast, ConstantsA
 ghost use Rattle.pst_type_rules.specs.Tried.{SourcesAreTried};
 ghost use Rattle.pst_type_rules.specs.TriedRules.{RulesAreTried};
 ghost use Rattle.pst_type_rules.specs.TriedMore.{MoreAreTried};
+ghost use Rattle.pst_type_rules.specs.TriedParts.{PartsAreTried};
 ghost use Rattle.pst_type_rules.specs.TriedRight.{RightIsTried};
 
 /// Of the breaches of the rules of types at most one is the least.
@@ -37,4 +38,9 @@ pub fn more_are_tried()
 /// Uses that break no rule, among them values at their limits.
 pub fn right_is_tried()
     ensures { RightIsTried }
+{}
+
+/// The same where activities are inherited, and where a body assigns to a handle.
+pub fn parts_are_tried()
+    ensures { PartsAreTried }
 {}

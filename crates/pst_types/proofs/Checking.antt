@@ -11,8 +11,8 @@ use Rattle.pst_type_rules.specs.TypeRules.{TypeBreach, OfUse, OfEnum, OfDeclarat
 use Rattle.pst_name_rules.specs.Earlier.{earlier}
 use Rattle.pst_name_rules.specs.Leasts.{IsLeastOf}
 use Rattle.pst_name_rules.proofs.Leasts.{told, least_of_both}
-use Rattle.pst_sites.specs.Sited.{view_enum_site}
-use Rattle.pst_sites.specs.declared.site.EnumSite.{EnumSite}
+use Rattle.pst_site_lists.specs.Sited.{view_enum_site}
+use Rattle.pst_site_lists.specs.declared.site.EnumSite.{EnumSite}
 use Rattle.pst_enum_values.specs.Gathered.{EnumPlaces, enum_places}
 use Rattle.pst_enum_values.specs.Kept.{places_of_site}
 use Rattle.pst_types.specs.Checked.{IsBreach, IsUseBreach, IsOtherBreach}

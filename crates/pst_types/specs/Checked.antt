@@ -13,7 +13,8 @@ use Rattle.pst_type_rules.specs.declared.typed.ConstantValue.{ConstantValue}
 use Rattle.pst_type_rules.specs.declared.typed.Typed.{Typed}
 use Rattle.pst_type_rules.specs.TypeRules.{TypeBreach, UseBreaks}
 use Rattle.pst_type_rules.specs.Typed.{AreConstants}
-use Rattle.pst_declaration_rules.specs.Breaches.{IsEnumBreach, IsDeclarationBreach}
+use Rattle.pst_enum_rules.specs.Breaches.{IsEnumBreach}
+use Rattle.pst_declaration_rules.specs.Breaches.{IsDeclarationBreach}
 use Rattle.pst_handle_rules.specs.Broken.{IsUnsteady, IsBoundTwice}
 
 -- they break none of the rules of types, and have these constants

@@ -1,5 +1,5 @@
 use Rattle.std.proofs.Common.{sym, ◌∙◌}
-use Rattle.pst_sites.specs.Sited.{view_field_site}
+use Rattle.pst_site_lists.specs.Sited.{view_field_site}
 use Rattle.pst_sites.proofs.Found.{found_none, found_some, lent, view_lent}
 use Rattle.pst_sites.proofs.find.field_in.Goals as goal
 

@@ -1,0 +1,3 @@
+mod SameSeen
+pub mod LeastOfEach
+mod EnumsJudged

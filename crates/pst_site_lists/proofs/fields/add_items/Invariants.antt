@@ -1,0 +1,11 @@
+use Rattle.std.proofs.Common.{◌≡◌, ◌++◌, drop, map}
+use Rattle.std.specs.List.{flat_map}
+use Rattle.pst_ast.specs.DeclarationView.{view_item}
+use Rattle.pst_type_rules.specs.Sites.{fields_in_item}
+use Rattle.pst_site_lists.specs.Sited.{view_field_site}
+use Rattle.pst_site_lists.proofs.fields.add_items.Given as goal
+
+abbrev pub invariant-loop-item : goal.invariant-loop-item
+invariant-loop-item l =
+    map view_field_site l.found.items ++ flat_map fields_in_item (map view_item (drop l.item-index l.items))
+    ≡ map view_field_site l.initial.found.items ++ flat_map fields_in_item (map view_item l.items)
