@@ -1,0 +1,6 @@
+pub mod Placed
+pub mod Levels
+pub mod Joins
+pub mod Closed
+pub mod Statements
+pub mod Stands

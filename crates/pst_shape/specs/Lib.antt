@@ -1,0 +1,6 @@
+pub mod Contexts
+pub mod Trees
+pub mod Pending
+pub mod Walks
+pub mod Choices
+pub mod Made
