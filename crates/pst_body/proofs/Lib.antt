@@ -1,0 +1,9 @@
+mod Coming
+mod Asking
+mod Rows
+mod Values
+mod Passing
+mod Steps
+mod Sizes
+mod Sound
+mod Running

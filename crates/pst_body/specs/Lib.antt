@@ -1,0 +1,9 @@
+pub mod Turns
+pub mod Sites
+pub mod Stores
+pub mod Kept
+pub mod Doing
+pub mod Passing
+pub mod Steps
+pub mod Ready
+pub mod Ran
