@@ -1,13 +1,13 @@
-// Files of a system that refuses access, or whose reads fail in the middle.
-use pst_io::{Failed, FileShelf, ReadEnd, Shelf, read_all};
-use std::alloc::Allocator;
+//! Files of a system that refuses access, or whose reads fail in the middle.
+use crate::shelves::taken;
+use pst_io::FileShelf;
+use std::alloc::{AllocError, Allocator, Global};
 use std::fs::{File, Metadata, OpenFile, OpenOptions};
+use std::io;
 use std::io::{ErrorKind, Read, Seek, SeekFrom, Write};
 use std::rt::Files;
-use std::test::Fail;
-use std::{fs, io};
 
-/// What no test asks for.
+// What no case asks for.
 fn unasked() -> io::Error {
     io::Error::from(ErrorKind::Unsupported)
 }
@@ -119,25 +119,13 @@ impl Files for BrokenFiles {
     }
 }
 
-#[test]
-fn refused_access_is_no_missing_file(rt: HostRuntime) -> Result<(), Fail> {
-    let files = BrokenFiles { whole: None };
+/// What a shelf of such files answers. The text is how many bytes each file has before its reads
+/// fail, or `-` where access is refused; ` | ` and commands.
+pub fn answer(alloc: Global, text: &str) -> Result<String, AllocError> {
+    let (whole, commands) = text.split_once(" | ").unwrap_or((text, ""));
+    let files = BrokenFiles {
+        whole: whole.parse::<usize>().ok(),
+    };
     let mut shelf = FileShelf::new(&files);
-    assert_eq!(rt; shelf.open("some file"), Err(Failed));
-    Ok(())
-}
-
-// What was read before is kept, and the fault is no end of the file.
-#[test]
-fn reads_fail_in_the_middle(rt: HostRuntime) -> Result<(), Fail> {
-    let files = BrokenFiles { whole: Some(5) };
-    let mut shelf = FileShelf::new(&files);
-    assert_eq!(rt; shelf.open("some file"), Ok(true));
-    let mut bytes = Vec::new(rt.alloc());
-    assert_eq!(rt;
-        read_all(&mut shelf, &mut bytes, 1000),
-        Err(ReadEnd::Failed)
-    );
-    assert_eq!(rt; bytes.as_slice(), b"xxxxx".as_slice());
-    Ok(())
+    taken(alloc, &mut shelf, commands)
 }
