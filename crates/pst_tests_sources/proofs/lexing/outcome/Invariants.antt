@@ -1,6 +1,6 @@
 use Rattle.std.proofs.Common.{◌≡◌, ◌+◌, ◌-◌, ◌≤◌, length, take}
 use Rattle.pst_lexer.specs.Lexing.{HasItsTexts}
-use Rattle.pst_tests_parsers.proofs.lexing.outcome.Given as goal
+use Rattle.pst_tests_sources.proofs.lexing.outcome.Given as goal
 
 abbrev pub invariant-pieces : goal.invariant-pieces
 invariant-pieces l = record {

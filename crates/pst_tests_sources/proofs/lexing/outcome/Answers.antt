@@ -3,7 +3,7 @@ use Rattle.std.proofs.Math.Seq.{take-add}
 use Rattle.std.proofs.lemmas.Result.{err_from_is_err_and}
 use Rattle.pst_lexer.specs.declared.fault.LexFault.{LexFault}
 use Rattle.pst_lexer.specs.Fault.{HasFault, AlwaysHasFault}
-use Rattle.pst_tests_parsers.proofs.lexing.outcome.Goals as goal
+use Rattle.pst_tests_sources.proofs.lexing.outcome.Goals as goal
 
 -- one piece more of the text
 taken_more : (text taken new : List ℕ) (at n : ℕ) → taken ≡ take at text → new ≡ taken ++ take (at + n - at) (drop at text) → new ≡ take (at + n) text

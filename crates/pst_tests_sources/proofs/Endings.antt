@@ -1,5 +1,6 @@
 -- Lists of tokens that end with `End`.
-use Rattle.std.proofs.Common.{◌<◌, List, [], ◌∷◌, length, length-append, ap, arith}
+use Rattle.std.proofs.Common.{◌≡◌, ◌<◌, List, [], ◌∷◌, ◌++◌, length, length-append, ap, arith}
+use Rattle.pst_token.specs.declared.kind.Kind.TheVariants as kind
 use Rattle.pst_token.specs.declared.token.Token.{Token}
 use Rattle.pst_token.specs.Laws.{EndsOnce}
 use Rattle.pst_reading.specs.Ended.{IsEnded}
