@@ -1,23 +1,10 @@
-//! Tests of names, numbers, expressions, spans of expressions, random words, files, their faults, and lanes.
+//! Tests of domains, of what may cross threads, and of laws. What numbers, expressions, spans and
+//! words are answered stands in the table of `pst_tests_numbers`.
 #![tactic(auto)]
 
 #[cfg(test)]
-mod arithmetic;
-#[cfg(test)]
-mod bounds;
-#[cfg(test)]
-mod broken;
-#[cfg(test)]
-mod expressions;
-#[cfg(test)]
-mod faults;
-#[cfg(test)]
-mod files;
-#[cfg(test)]
-mod lanes;
+mod domains;
 #[cfg(test)]
 mod laws;
 #[cfg(test)]
-mod names;
-#[cfg(test)]
-mod words;
+mod threads;

@@ -1,0 +1,56 @@
+//! The table of numbers: what is answered on whole numbers, expressions, spans, random words, names
+//! and places is compared with answers that were worked out by hand or by other programs.
+//!
+//! `stdin` is the table, in the form that `pst_cases` describes. What each call answers stands at
+//! the function that makes it.
+#![tactic(auto)]
+
+mod arithmetic;
+mod evaluating;
+mod naming;
+mod postfix;
+mod random;
+mod spanning;
+
+use pst_cases::{Heading, Score, framed, joined_lines, repeated};
+use std::alloc::{AllocError, Global};
+use std::io;
+use std::io::Read;
+
+/// The most bytes that are read.
+const LIMIT: u64 = 1 << 24;
+
+// What is answered to a call on a text.
+fn answer(alloc: Global, call: &str, text: &str) -> Result<String, AllocError> {
+    match call {
+        "number" => arithmetic::answer(alloc, text),
+        "value" | "copy" | "left" | "set" => evaluating::answer(alloc, call, text),
+        "span" | "refused" => spanning::answer(alloc, call, text),
+        "word" | "start" | "weighted" => random::answer(alloc, call, text),
+        _ => naming::answer(alloc, call, text),
+    }
+}
+
+// What must be answered to a case, and what is.
+fn compared(alloc: Global, heading: &Heading, line: &str) -> Result<(String, String), AllocError> {
+    let (owed, text) = line.split_once(": ").unwrap_or((line, ""));
+    let whole = framed(alloc, heading.frame.as_str(), text)?;
+    let written = repeated(alloc, whole.as_str())?;
+    let wanted = String::from_str(alloc, owed)?;
+    let found = answer(alloc, heading.call.as_str(), written.as_str())?;
+    Ok((wanted, found))
+}
+
+fn main(rt: HostRuntime) -> io::Result<()> {
+    let alloc = rt.alloc();
+    let table = io::read_to_string(alloc, rt.reader().take(LIMIT))?;
+    let mut heading = Heading::new(alloc);
+    let mut score = Score::new();
+    for line in &joined_lines(alloc, table.as_str())? {
+        if !heading.take(line.as_str())? {
+            let (wanted, found) = compared(alloc, &heading, line.as_str())?;
+            score.count(&rt, line.as_str(), wanted.as_str(), found.as_str())?;
+        }
+    }
+    score.print(&rt)
+}
