@@ -1,5 +1,5 @@
-//! The table of numbers: what is answered on whole numbers, expressions, spans, random words, names
-//! and places is compared with answers that were worked out by hand or by other programs.
+//! The table of numbers: what is answered on whole numbers, expressions, spans, random words, names,
+//! places and words of the command line is compared with answers that were worked out by hand or by other programs.
 //!
 //! `stdin` is the table, in the form that `pst_cases` describes. What each call answers stands at
 //! the function that makes it.
@@ -7,6 +7,7 @@
 
 mod arithmetic;
 mod evaluating;
+mod lines;
 mod naming;
 mod postfix;
 mod random;
@@ -21,12 +22,14 @@ use std::io::Read;
 const LIMIT: u64 = 1 << 24;
 
 // What is answered to a call on a text.
-fn answer(alloc: Global, call: &str, text: &str) -> Result<String, AllocError> {
+fn answer(alloc: Global, heading: &Heading, text: &str) -> Result<String, AllocError> {
+    let call = heading.call.as_str();
     match call {
         "number" => arithmetic::answer(alloc, text),
         "value" | "copy" | "left" | "set" => evaluating::answer(alloc, call, text),
         "span" | "refused" => spanning::answer(alloc, call, text),
         "word" | "start" | "weighted" => random::answer(alloc, call, text),
+        "line" | "alone" | "seeds" => lines::answer(alloc, call, text, heading.number),
         _ => naming::answer(alloc, call, text),
     }
 }
@@ -37,7 +40,7 @@ fn compared(alloc: Global, heading: &Heading, line: &str) -> Result<(String, Str
     let whole = framed(alloc, heading.frame.as_str(), text)?;
     let written = repeated(alloc, whole.as_str())?;
     let wanted = String::from_str(alloc, owed)?;
-    let found = answer(alloc, heading.call.as_str(), written.as_str())?;
+    let found = answer(alloc, heading, written.as_str())?;
     Ok((wanted, found))
 }
 
