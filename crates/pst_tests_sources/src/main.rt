@@ -1,4 +1,4 @@
-//! The table of sources: what is answered on small sources, from their tokens to their instances, is
+//! The table of sources: what is answered on small sources, from their tokens to their pools, is
 //! compared with answers that were worked out by hand.
 //!
 //! `stdin` is the table, in the form that `pst_cases` describes. What each call answers stands at
@@ -40,9 +40,15 @@ fn answer(alloc: Global, heading: &Heading, source: &Marked) -> Result<String, A
             shapes::answer(alloc, text.as_slice(), heading.call.as_str())
         }
         "item" => naming::item(alloc, files, source.marks.as_slice()),
-        "names" | "declared" | "meanings" | "instances" | "number" => {
-            judging::answer(alloc, files, heading.call.as_str())
-        }
+        "names"
+        | "declared"
+        | "meanings"
+        | "types"
+        | "values"
+        | "pools"
+        | "instances"
+        | "number"
+        | "map" => judging::answer(alloc, files, heading.call.as_str()),
         call => parsing::answer(alloc, text.as_slice(), call, number),
     }
 }

@@ -1,5 +1,6 @@
-//! Instances as texts.
+//! Instances and pools as texts.
 use pst_base::{NameId, Names};
+use pst_bind::PoolMap;
 use pst_tree::Tree;
 use std::alloc::{AllocError, Global};
 
@@ -14,7 +15,7 @@ fn text_of(names: &Names, id: NameId) -> &str {
 
 // Writes what stands between this row and the one before it.
 fn write_comma(answer: &mut String) -> Result<(), AllocError> {
-    if answer.is_empty() {
+    if answer.is_empty() || answer.ends_with(' ') {
         return Ok(());
     }
     answer.push_str(", ")
@@ -35,4 +36,27 @@ pub fn instance_rows(alloc: Global, names: &Names, tree: &Tree) -> Result<String
         write!(answer, " {}", instance.last)?;
     }
     Ok(answer)
+}
+
+/// The pools, each with the number of its instance and its name; `;`, and what they serve, each with
+/// the numbers of an action, an instance, a reference and a pool.
+pub fn pool_rows(alloc: Global, names: &Names, map: &PoolMap) -> Result<String, AllocError> {
+    let mut answer = String::new(alloc);
+    for pool in map.pools.as_slice() {
+        write_comma(&mut answer)?;
+        write!(answer, "{} ", pool.instance)?;
+        answer.push_str(text_of(names, pool.name))?;
+    }
+    answer.push_str("; ")?;
+    add_served(&mut answer, map)?;
+    Ok(answer)
+}
+
+fn add_served(answer: &mut String, map: &PoolMap) -> Result<(), AllocError> {
+    for served in map.served.as_slice() {
+        write_comma(answer)?;
+        write!(answer, "{} {}", served.action, served.instance)?;
+        write!(answer, " {} {}", served.reference, served.pool)?;
+    }
+    Ok(())
 }

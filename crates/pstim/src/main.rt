@@ -52,8 +52,6 @@ fn lanes_of(alloc: Global) -> Result<Vec<ScriptTarget>, AllocError> {
 }
 
 #[cfg(test)]
-mod syntax_tests;
-#[cfg(test)]
 mod tests;
 
 fn main(rt: HostRuntime) -> ExitCode {

@@ -33,7 +33,7 @@ done 1
 ";
 
 /// The words of a line.
-pub fn words(alloc: Global, file: &str) -> Result<Vec<String>, AllocError> {
+fn words(alloc: Global, file: &str) -> Result<Vec<String>, AllocError> {
     let mut words = Vec::new(alloc);
     for word in ["run", "root=pss_top::entry", file] {
         words.push(String::from_str(alloc, word)?)?;
@@ -42,7 +42,7 @@ pub fn words(alloc: Global, file: &str) -> Result<Vec<String>, AllocError> {
 }
 
 /// A shelf with one source, `a.pss`.
-pub fn shelf(alloc: Global, source: &[u8], failing: Vec<u64>) -> Result<MemoryShelf, AllocError> {
+fn shelf(alloc: Global, source: &[u8], failing: Vec<u64>) -> Result<MemoryShelf, AllocError> {
     let mut files = Vec::new(alloc);
     files.push((
         String::from_str(alloc, "a.pss")?,
