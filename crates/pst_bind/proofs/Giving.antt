@@ -11,7 +11,7 @@ use Rattle.pst_ast.specs.declared.instance.Instance.{Instance}
 use Rattle.pst_scope.specs.declared.declaration.Declaration.{Declaration}
 use Rattle.pst_scope.specs.Sorts.{same_place}
 use Rattle.pst_bind.specs.declared.explicit_rows.TargetKey.{TargetKey}
-use Rattle.pst_bind.specs.PoolBinds.{ExplicitBind}
+use Rattle.pst_pool_binds.specs.PoolBinds.{ExplicitBind}
 use Rattle.pst_bind.specs.Pools.{component_of}
 use Rattle.pst_bind.specs.Serving.{stands_in, pool_bound, led_to}
 use Rattle.pst_bind.specs.BindRows.{target_key, same_target, names_by, given}

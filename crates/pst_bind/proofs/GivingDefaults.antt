@@ -8,7 +8,7 @@ use Rattle.pst_ast.specs.declared.instance.Instance.{Instance}
 use Rattle.pst_scope.specs.declared.declaration.Declaration.{Declaration}
 use Rattle.pst_scope.specs.Sorts.{same_place}
 use Rattle.pst_bind.specs.declared.default_rows.ObjectKey.{ObjectKey}
-use Rattle.pst_bind.specs.PoolBinds.{DefaultBind}
+use Rattle.pst_pool_binds.specs.PoolBinds.{DefaultBind}
 use Rattle.pst_bind.specs.Pools.{component_of}
 use Rattle.pst_bind.specs.Serving.{stands_in, pool_bound}
 use Rattle.pst_bind.specs.BindRows.{object_key, key_place, same_object, object_of, is_object, given_default}

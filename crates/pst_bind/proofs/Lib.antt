@@ -4,6 +4,5 @@ mod Above
 mod Giving
 mod GivingDefaults
 mod NearestRows
-mod Collected
 mod Needing
 mod Pooling

@@ -12,7 +12,7 @@ use Rattle.pst_scope.specs.Lookups.{type_of}
 use Rattle.pst_scope.specs.NameRules.{named_in}
 use Rattle.pst_bind.specs.declared.explicit_rows.ExplicitRows.{ExplicitRows}
 use Rattle.pst_bind.specs.declared.default_rows.DefaultRows.{DefaultRows}
-use Rattle.pst_bind.specs.PoolBinds.{DefaultBind, explicit_binds, default_binds}
+use Rattle.pst_pool_binds.specs.PoolBinds.{DefaultBind, explicit_binds, default_binds}
 use Rattle.pst_bind.specs.Serving.{first_filled, stands_in, pool_bound, is_same, explicit_in, default_in, with_those_above, candidates}
 use Rattle.pst_bind.specs.BindRows.{target_key, object_key, pool_given, pool_by_default}
 use Rattle.pst_bind.specs.KeptBinds.{AreExplicitRows, AreDefaultRows}

@@ -20,7 +20,7 @@ use Rattle.pst_name_rules.proofs.Leasts.{told, least_in, same_some, some_is_none
 use Rattle.pst_bind.specs.declared.explicit_rows.ExplicitRows.{ExplicitRows}
 use Rattle.pst_bind.specs.declared.default_rows.DefaultRows.{DefaultRows}
 use Rattle.pst_bind.specs.declared.pool_map.Served.{Served}
-use Rattle.pst_bind.specs.PoolBinds.{explicit_binds, default_binds}
+use Rattle.pst_pool_binds.specs.PoolBinds.{explicit_binds, default_binds}
 use Rattle.pst_bind.specs.Serving.{only_one}
 use Rattle.pst_bind.specs.Needs.{Need, needs, candidates_for, served_by, serving}
 use Rattle.pst_bind.specs.PoolRules.{PoolBreach, NoPool, TwoPools}

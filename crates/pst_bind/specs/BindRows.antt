@@ -11,7 +11,7 @@ use Rattle.pst_scope.specs.Lookups.{type_of}
 use Rattle.pst_scope.specs.NameRules.{named_in}
 use Rattle.pst_bind.specs.declared.default_rows.ObjectKey.{ObjectKey}
 use Rattle.pst_bind.specs.declared.explicit_rows.TargetKey.{TargetKey}
-use Rattle.pst_bind.specs.PoolBinds.{ExplicitBind, DefaultBind}
+use Rattle.pst_pool_binds.specs.PoolBinds.{ExplicitBind, DefaultBind}
 use Rattle.pst_bind.specs.Serving.{stands_in, pool_bound, leads_to}
 
 -- the numbers of a row, which has none where nothing was added

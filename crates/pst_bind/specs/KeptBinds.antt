@@ -8,7 +8,7 @@ use Rattle.pst_bind.specs.declared.explicit_rows.TargetKey.{TargetKey}
 use Rattle.pst_bind.specs.declared.explicit_rows.ExplicitRows.{ExplicitRows}
 use Rattle.pst_bind.specs.declared.default_rows.ObjectKey.{ObjectKey}
 use Rattle.pst_bind.specs.declared.default_rows.DefaultRows.{DefaultRows}
-use Rattle.pst_bind.specs.PoolBinds.{ExplicitBind, DefaultBind}
+use Rattle.pst_pool_binds.specs.PoolBinds.{ExplicitBind, DefaultBind}
 use Rattle.pst_bind.specs.BindRows.{given, given_default, numbers_in, same_object, same_target}
 
 -- each row has what the binds give to its key, in their order

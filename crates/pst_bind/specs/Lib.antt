@@ -1,5 +1,4 @@
 pub mod Pools
-pub mod PoolBinds
 pub mod Serving
 pub mod Needs
 pub mod PoolRules
@@ -8,7 +7,6 @@ pub mod Tried
 pub mod Children
 pub mod Tables
 pub mod ListedPools
-pub mod FoundBinds
 pub mod BindRows
 pub mod KeptBinds
 pub mod Nearest

@@ -14,7 +14,7 @@ use Rattle.pst_scope.specs.Sorts.{is_pool, same_name, same_place}
 use Rattle.pst_scope.specs.Lookups.{type_of}
 use Rattle.pst_scope.specs.NameRules.{named_in}
 use Rattle.pst_bind.specs.Pools.{component_at, pool_number}
-use Rattle.pst_bind.specs.PoolBinds.{ExplicitBind, DefaultBind, explicit_binds, default_binds}
+use Rattle.pst_pool_binds.specs.PoolBinds.{ExplicitBind, DefaultBind, explicit_binds, default_binds}
 
 -- ---- instances
 

@@ -4,16 +4,16 @@ ghost use Rattle.std.specs.HashMap.{get};
 ghost use Rattle.pst_bind.specs.Pools;
 ghost use Rattle.pst_bind.specs.BindRows;
 ghost use Rattle.pst_bind.specs.BindRows.{given_default, same_object, numbers_in};
-ghost use Rattle.pst_bind.specs.FoundBinds.{view_default, view_defaults};
+ghost use Rattle.pst_pool_binds.specs.FoundBinds.{view_default, view_defaults};
 ghost use Rattle.pst_bind.specs.KeptBinds.{AreDefaultRows};
 
 use crate::bound::{pool_bound, stands_in};
-use crate::found_binds::FoundDefault;
 use crate::instance_table::InstanceTable;
 use crate::pool_table::PoolTable;
 use pst_base::{NoMemory, Place};
 use pst_index::Index;
 use pst_name_rules::pool_in;
+use pst_pool_binds::FoundDefault;
 use std::alloc::Global;
 use std::collections::HashMap;
 

@@ -4,15 +4,15 @@ ghost use Rattle.std.specs.HashMap.{get};
 ghost use Rattle.pst_bind.specs.Pools;
 ghost use Rattle.pst_bind.specs.BindRows;
 ghost use Rattle.pst_bind.specs.BindRows.{given, same_target, numbers_in};
-ghost use Rattle.pst_bind.specs.FoundBinds.{view_bind, view_binds};
+ghost use Rattle.pst_pool_binds.specs.FoundBinds.{view_bind, view_binds};
 ghost use Rattle.pst_bind.specs.KeptBinds.{AreExplicitRows};
 
 use crate::bound::{pool_bound, stands_in};
-use crate::found_binds::FoundBind;
 use crate::instance_table::InstanceTable;
 use crate::pool_table::PoolTable;
 use pst_base::{NameId, NoMemory};
 use pst_index::Index;
+use pst_pool_binds::FoundBind;
 use std::alloc::Global;
 use std::collections::HashMap;
 

@@ -1,12 +1,9 @@
 //! The pools of the component instances, and which of them serves each reference and claim.
 #![tactic(auto)]
 
-mod bind_defaults;
-mod bind_targets;
 mod bound;
 mod default_rows;
 mod explicit_rows;
-mod found_binds;
 mod instance_table;
 mod judge;
 mod laws;
@@ -16,11 +13,8 @@ mod pool_table;
 mod serving;
 mod sources;
 
-pub use bind_defaults::default_binds;
-pub use bind_targets::explicit_binds;
 pub use default_rows::DefaultRows;
 pub use explicit_rows::ExplicitRows;
-pub use found_binds::{FoundBind, FoundDefault};
 pub use instance_table::InstanceTable;
 pub use laws::{
     needs_are_served, pool_breaches_have_one_least, pool_maps_are_one, pools_are_tried,
@@ -28,5 +22,6 @@ pub use laws::{
 pub use need_list::{FoundNeed, list_needs};
 pub use pool_map::{PoolMap, PoolPlace, Served};
 pub use pool_table::{PoolTable, component_of};
+pub use pst_pool_binds::{FoundBind, FoundDefault, default_binds, explicit_binds};
 pub use serving::{candidates, only_one};
 pub use sources::pools;

@@ -15,7 +15,8 @@ use Rattle.pst_site_lists.specs.Sited.{view_enum_site}
 use Rattle.pst_site_lists.specs.declared.site.EnumSite.{EnumSite}
 use Rattle.pst_enum_values.specs.Gathered.{EnumPlaces, enum_places}
 use Rattle.pst_enum_values.specs.Kept.{places_of_site}
-use Rattle.pst_types.specs.Checked.{IsBreach, IsUseBreach, IsOtherBreach}
+use Rattle.pst_typed_uses.specs.Breaches.{IsUseBreach}
+use Rattle.pst_types.specs.Checked.{IsBreach, IsOtherBreach}
 
 -- ---- enums
 

@@ -1,6 +1,1 @@
-mod BehindPlaces
-mod InOrder
-mod Walked
-mod Least
-mod ConstantsListed
 mod Checking

@@ -1,17 +1,15 @@
 -- What judging the types of sources says of them.
 use Rattle.std.specs.Prelude.{◌⊎◌, ℕ, List}
-use Rattle.std.specs.List.{Contains}
 use Rattle.pst_ast.specs.DeclarationTree.{UnitTree}
 use Rattle.pst_scope.specs.declared.referent.Checked.{Checked}
 use Rattle.pst_scope.specs.declared.referent.Checked.TheVariants.{Is, Breaks}
 use Rattle.pst_scope.specs.declared.referent.Finding.{Finding}
 use Rattle.pst_scope.specs.Breaches.{IsLeast, IsNone}
-use Rattle.pst_scope.specs.Uses.{Use, uses}
 use Rattle.pst_names.specs.declared.end.RuleEnd.{RuleEnd}
 use Rattle.pst_names.specs.declared.end.RuleEnd.TheVariants as rule_end
 use Rattle.pst_type_rules.specs.declared.typed.ConstantValue.{ConstantValue}
 use Rattle.pst_type_rules.specs.declared.typed.Typed.{Typed}
-use Rattle.pst_type_rules.specs.TypeRules.{TypeBreach, UseBreaks}
+use Rattle.pst_type_rules.specs.TypeRules.{TypeBreach}
 use Rattle.pst_type_rules.specs.Typed.{AreConstants}
 use Rattle.pst_enum_rules.specs.Breaches.{IsEnumBreach}
 use Rattle.pst_declaration_rules.specs.Breaches.{IsDeclarationBreach}
@@ -29,10 +27,6 @@ IsUntyped units names rule_end.NoMemory = Unit {0}
 -- a breach of the rules of types
 abbrev pub IsBreach : List UnitTree → List (List ℕ) → Finding → Type 0
 IsBreach units names f = TypeBreach units names f.place f.rule
-
--- some use breaks it
-abbrev pub IsUseBreach : List UnitTree → List (List ℕ) → Finding → Type 0
-IsUseBreach units names f = (u : Use) × Contains (uses units) u × UseBreaks units names u f.place f.rule
 
 -- an enum, a declaration, a name of a handle, or a bind of an activity breaks it
 abbrev pub IsOtherBreach : List UnitTree → List (List ℕ) → Finding → Type 0

@@ -1,4 +1,1 @@
-pub mod Judged
-pub mod Found
 pub mod Checked
-pub mod InOrder

@@ -11,7 +11,6 @@ ghost use Rattle.pst_scope.specs.Scopes.{AreScopes};
 ghost use Rattle.pst_type_rules.specs.Typed.{AreConstants};
 ghost use Rattle.pst_types.specs.Checked.{AreTyped, IsBreach, IsChecked, IsOtherBreach, IsUntyped};
 
-use crate::uses::uses_finding;
 use pst_ast::Unit;
 use pst_base::{Items, Names, NoMemory};
 use pst_collect::declarations;
@@ -26,6 +25,7 @@ use pst_names::RuleEnd;
 use pst_scope::{Checked, Finding, Scopes};
 use pst_sites::Sites;
 use pst_type_rules::{ConstantValue, Typed};
+use pst_typed_uses::uses_finding;
 use pst_use_rules::Facts;
 use std::alloc::Global;
 
@@ -79,23 +79,51 @@ fn judged_sites(
     Ok((earlier(used, others), constants))
 }
 
-// What judging the types of sources says of them.
+// What judging the types of sources says of them, given what they declare and where.
 #[tactic(auto, using(crate::proofs::Checking::is_least, crate::proofs::Checking::is_none))]
-fn judged_units(alloc: Global, units: &[Unit], names: &Names) -> Result<Checked<Typed>, NoMemory>
-    requires named { IsNone (NameBreach (map view_unit units.now) names.now) }
-    ensures { IfOk result (λ found. IsChecked (map view_unit units.now) names.now found) }
+fn judged_by_sites(
+    alloc: Global,
+    sites: &Sites,
+    index: &Index,
+    names: &Names,
+) -> Result<Checked<Typed>, NoMemory>
+    requires declared { index.now ≡ the_declarations (map view_unit sites.now) }
+    requires named { IsNone (NameBreach (map view_unit sites.now) names.now) }
+    ensures { IfOk result (λ found. IsChecked (map view_unit sites.now) names.now found) }
 {
-    let declared = declarations(alloc, units)?;
-    let index = Index::new(alloc, declared)?;
-    let sites = Sites::new(alloc, units)?;
-    let values = item_values(alloc, units, &index, names)?;
-    let (least, constants) = judged_sites(alloc, &sites, &index, names, &values)?;
+    let values = item_values(alloc, sites.sources(), index, names)?;
+    let (least, constants) = judged_sites(alloc, sites, index, names, &values)?;
     match least {
         Some(Finding { place, rule }) => Ok(Checked::Breaks { place, rule }),
         None => Ok(Checked::Is(Typed {
             constants: Items::from_vec(constants),
         })),
     }
+}
+
+// The same, given what they declare.
+fn judged_by_index(
+    alloc: Global,
+    units: &[Unit],
+    index: &Index,
+    names: &Names,
+) -> Result<Checked<Typed>, NoMemory>
+    requires declared { index.now ≡ the_declarations (map view_unit units.now) }
+    requires named { IsNone (NameBreach (map view_unit units.now) names.now) }
+    ensures { IfOk result (λ found. IsChecked (map view_unit units.now) names.now found) }
+{
+    let sites = Sites::new(alloc, units)?;
+    judged_by_sites(alloc, &sites, index, names)
+}
+
+// The same.
+fn judged_units(alloc: Global, units: &[Unit], names: &Names) -> Result<Checked<Typed>, NoMemory>
+    requires named { IsNone (NameBreach (map view_unit units.now) names.now) }
+    ensures { IfOk result (λ found. IsChecked (map view_unit units.now) names.now found) }
+{
+    let declared = declarations(alloc, units)?;
+    let index = Index::new(alloc, declared)?;
+    judged_by_index(alloc, units, &index, names)
 }
 
 /// Judges sources that keep the rules of names by the rules of types: the values of the parts that

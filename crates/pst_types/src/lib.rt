@@ -2,10 +2,6 @@
 #![tactic(auto)]
 
 mod checked;
-mod in_order;
-mod judge;
-mod judge_uses;
-mod uses;
 
 pub use checked::check;
 pub use pst_type_rules::{ConstantValue, Typed};

@@ -2,7 +2,7 @@ use Rattle.std.proofs.Common.{◌≡◌, ◌++◌, [], cond}
 use Rattle.std.specs.Prelude.{nat_lt}
 use Rattle.std.specs.HashMap.{get}
 use Rattle.pst_bind.specs.declared.default_rows.ObjectKey.{ObjectKey}
-use Rattle.pst_bind.specs.FoundBinds.{view_default}
+use Rattle.pst_pool_binds.specs.FoundBinds.{view_default}
 use Rattle.pst_bind.specs.BindRows.{given_default, numbers_in, same_object}
 use Rattle.pst_bind.proofs.default_rows.add_bind.Given as goal
 

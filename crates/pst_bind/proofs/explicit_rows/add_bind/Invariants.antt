@@ -2,7 +2,7 @@ use Rattle.std.proofs.Common.{◌≡◌, ◌++◌, [], cond}
 use Rattle.std.specs.Prelude.{nat_lt}
 use Rattle.std.specs.HashMap.{get}
 use Rattle.pst_bind.specs.declared.explicit_rows.TargetKey.{TargetKey}
-use Rattle.pst_bind.specs.FoundBinds.{view_bind}
+use Rattle.pst_pool_binds.specs.FoundBinds.{view_bind}
 use Rattle.pst_bind.specs.BindRows.{given, numbers_in, same_target}
 use Rattle.pst_bind.proofs.explicit_rows.add_bind.Given as goal
 

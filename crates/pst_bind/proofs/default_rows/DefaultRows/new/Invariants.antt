@@ -2,7 +2,7 @@ use Rattle.std.proofs.Common.{◌≡◌, ◌++◌, drop}
 use Rattle.std.specs.List.{flat_map}
 use Rattle.std.specs.HashMap.{get}
 use Rattle.pst_bind.specs.declared.default_rows.ObjectKey.{ObjectKey}
-use Rattle.pst_bind.specs.FoundBinds.{view_defaults}
+use Rattle.pst_pool_binds.specs.FoundBinds.{view_defaults}
 use Rattle.pst_bind.specs.BindRows.{given_default, numbers_in, same_object}
 use Rattle.pst_bind.proofs.default_rows.DefaultRows.new.Given as goal
 

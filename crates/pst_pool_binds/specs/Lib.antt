@@ -1,0 +1,2 @@
+pub mod PoolBinds
+pub mod FoundBinds

@@ -1,0 +1,5 @@
+mod BehindPlaces
+mod InOrder
+mod Walked
+mod Least
+mod ConstantsListed
