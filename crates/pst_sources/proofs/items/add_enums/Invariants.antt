@@ -1,7 +1,7 @@
 use Rattle.std.proofs.Common.{◌≡◌, ◌++◌, drop}
 use Rattle.std.specs.Prelude.{pos, Some}
 use Rattle.std.specs.List.{flat_map}
-use Rattle.pst_sites.specs.Sited.{view_enum_site}
+use Rattle.pst_site_lists.specs.Sited.{view_enum_site}
 use Rattle.pst_terms.specs.Sources.{item_values}
 use Rattle.pst_sources.specs.Shown.{sources_of}
 use Rattle.pst_sources.proofs.items.add_enums.Given as goal
