@@ -10,7 +10,7 @@ use Rattle.pst_ast.specs.declared.declaration.NextEnumItem.{NextEnumItem}
 use Rattle.pst_scope.specs.Declarations.{next_item}
 use Rattle.pst_constants.specs.Enums.{DeclaredEnum, items_behind, enums}
 use Rattle.pst_site_lists.specs.Sited.{view_enum_site}
-use Rattle.pst_sites.specs.declared.site.EnumSite.{EnumSite}
+use Rattle.pst_site_lists.specs.declared.site.EnumSite.{EnumSite}
 use Rattle.pst_terms.specs.Sources.{Sources, item_values, next_value, all_item_values}
 use Rattle.pst_sources.specs.Listed.{item_expr, item_place, value_with, values_from}
 
