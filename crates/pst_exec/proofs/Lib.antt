@@ -1,0 +1,4 @@
+mod Serial
+mod Opening
+mod Runs
+mod Going
