@@ -1,0 +1,3 @@
+mod Opened
+mod Sources
+mod Traces

@@ -1,0 +1,11 @@
+mod Sources
+mod Turns
+mod Named
+mod Printed
+mod Rooted
+mod Driven
+mod Serial
+mod Built
+mod Runnable
+mod Plain
+mod OneScenario
