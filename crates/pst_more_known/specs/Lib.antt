@@ -1,0 +1,4 @@
+pub mod Onward
+pub mod Known
+pub mod Refused
+pub mod Laws
