@@ -1,0 +1,6 @@
+//! The needs of a scenario: the references that want a source.
+#![tactic(auto)]
+
+mod listing;
+
+pub use listing::{Need, needs};
