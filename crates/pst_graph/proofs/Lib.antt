@@ -5,6 +5,7 @@ mod Streaming
 mod Names
 mod DirectRows
 mod UsesListed
+mod WritesListed
 mod UsesApart
 mod Chains
 mod Least

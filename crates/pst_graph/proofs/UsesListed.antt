@@ -14,8 +14,8 @@ use Rattle.pst_graph.specs.Uses.{IsClaimUse, IsStateUse, IsUseOfClaims, IsUseOfR
 use Rattle.pst_graph.proofs.Acted.{one_act}
 use Rattle.pst_nodes.proofs.Climbs.{same_some}
 
-module _ (uses : List Use) (u : Use) where
-  pub pushed_kept : (i : ℕ) (v : Use) → slice_get uses i ≡ Some v → slice_get (uses ++ u ∷ []) i ≡ Some v
+module _ {X : Type 0} (uses : List X) (u : X) where
+  pub pushed_kept : (i : ℕ) (v : X) → slice_get uses i ≡ Some v → slice_get (uses ++ u ∷ []) i ≡ Some v
   pushed_kept i v is =
       let within = slice_get_within uses i v is in
       let many = length_push uses u in
@@ -26,10 +26,10 @@ module _ (uses : List Use) (u : Use) where
       let many = length_push uses u in
       slice_get-get_or (uses ++ u ∷ []) (length uses) u (omega (arith, many)) ∙ ap Some (get_or_push uses u u (length uses) refl)
 
-  pub pushed : (P : Use → Type 0) → P u → Lengthens uses (uses ++ u ∷ []) P × Listed (uses ++ u ∷ []) P
+  pub pushed : (P : X → Type 0) → P u → Lengthens uses (uses ++ u ∷ []) P × Listed (uses ++ u ∷ []) P
   pushed P has = (record { kept = pushed_kept; sound = λ i v is. sound i v is (cases_lt i (length uses)) }, record { place = length uses; one = u; is = pushed_last; has = has })
     where
-      sound : (i : ℕ) (v : Use) → slice_get (uses ++ u ∷ []) i ≡ Some v → (i < length uses) ⊎ (length uses ≤ i) → (slice_get uses i ≡ Some v) ⊎ P v
+      sound : (i : ℕ) (v : X) → slice_get (uses ++ u ∷ []) i ≡ Some v → (i < length uses) ⊎ (length uses ≤ i) → (slice_get uses i ≡ Some v) ⊎ P v
       sound i v is (inl less) =
           let at : get_or uses i v ≡ v = sym (get_or_append_left uses (u ∷ []) v i less) ∙ get_or_from_slice_get (uses ++ u ∷ []) i v v is in
           inl (slice_get-get_or uses i v less ∙ ap Some at)
@@ -39,19 +39,19 @@ module _ (uses : List Use) (u : Use) where
           let same : length uses ≡ i = omega (arith, within, many, more) in
           inr (subst P (same_some u v (sym pushed_last ∙ ap (slice_get (uses ++ u ∷ [])) same ∙ is)) has)
 
-pub lengthens_none : (uses : List Use) (P : Use → Type 0) → Lengthens uses uses P
+pub lengthens_none : {X : Type 0} (uses : List X) (P : X → Type 0) → Lengthens uses uses P
 lengthens_none uses P = record { kept = λ i u is. is; sound = λ i u is. inl is }
 
-pub lengthens_as : (old new : List Use) (P Q : Use → Type 0) → ((u : Use) → P u → Q u) → Lengthens old new P → Lengthens old new Q
+pub lengthens_as : {X : Type 0} (old new : List X) (P Q : X → Type 0) → ((u : X) → P u → Q u) → Lengthens old new P → Lengthens old new Q
 lengthens_as old new P Q to one = record { kept = one.kept; sound = λ i u is. ⊎_elim (λ before. inl before) (λ p. inr (to u p)) (one.sound i u is) }
 
-pub lengthens_then : (first middle last : List Use) (P : Use → Type 0) → Lengthens first middle P → Lengthens middle last P → Lengthens first last P
+pub lengthens_then : {X : Type 0} (first middle last : List X) (P : X → Type 0) → Lengthens first middle P → Lengthens middle last P → Lengthens first last P
 lengthens_then first middle last P one two = record { kept = λ i u is. two.kept i u (one.kept i u is); sound = λ i u is. ⊎_elim (λ before. one.sound i u before) (λ p. inr p) (two.sound i u is) }
 
-pub listed_on : (old new : List Use) (P Q : Use → Type 0) → Lengthens old new Q → Listed old P → Listed new P
+pub listed_on : {X : Type 0} (old new : List X) (P Q : X → Type 0) → Lengthens old new Q → Listed old P → Listed new P
 listed_on old new P Q more h = record { place = h.place; one = h.one; is = more.kept h.place h.one h.is; has = h.has }
 
-last : (a b : ℕ) → a < b + 1 → (a < b) ⊎ (a ≡ b)
+pub last : (a b : ℕ) → a < b + 1 → (a < b) ⊎ (a ≡ b)
 last a b below = go (cases_lt a b)
   where
     go : (a < b) ⊎ (b ≤ a) → (a < b) ⊎ (a ≡ b)

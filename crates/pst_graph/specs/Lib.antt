@@ -3,6 +3,7 @@ pub mod Acts
 pub mod Grouping
 pub mod Named
 pub mod Listed
+pub mod Writes
 pub mod Ends
 pub mod Whole
 pub mod Streamed

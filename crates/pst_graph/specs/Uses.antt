@@ -43,17 +43,17 @@ pub record IsUse (s : Scenario) (u : Use) : Type 0 where
   pub is_act : IsAct s u.act act
   pub of : IsUseOfClaims act.claims u.act u ⊎ IsUseOfReferences act.references u.act u
 
--- a use in the list has the property
-pub record Listed (uses : List Use) (P : Use → Type 0) : Type 0 where
+-- an entry of the list has the property
+pub record Listed {X : Type 0} (uses : List X) (P : X → Type 0) : Type 0 where
   pub place : ℕ
-  pub one : Use
+  pub one : X
   pub is : slice_get uses place ≡ Some one
   pub has : P one
 
--- The new list has the uses of the old one, and beyond them only such as have the property.
-pub record Lengthens (old new : List Use) (P : Use → Type 0) : Type 0 where
-  pub kept : (i : ℕ) (u : Use) → slice_get old i ≡ Some u → slice_get new i ≡ Some u
-  pub sound : (i : ℕ) (u : Use) → slice_get new i ≡ Some u → (slice_get old i ≡ Some u) ⊎ P u
+-- The new list has the entries of the old one, and beyond them only such as have the property.
+pub record Lengthens {X : Type 0} (old new : List X) (P : X → Type 0) : Type 0 where
+  pub kept : (i : ℕ) (u : X) → slice_get old i ≡ Some u → slice_get new i ≡ Some u
+  pub sound : (i : ℕ) (u : X) → slice_get new i ≡ Some u → (slice_get old i ≡ Some u) ⊎ P u
 
 -- the uses of these claims, and of these references, are in the list
 abbrev pub HasClaims : List Use → List Claimed → ℕ → ℕ → Type 0

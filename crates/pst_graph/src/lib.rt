@@ -15,6 +15,7 @@ mod runs;
 mod usage;
 mod uses;
 mod whole;
+mod writes;
 
 pub use planning::{PlanEnd, plan_of};
 pub use whole::plan;

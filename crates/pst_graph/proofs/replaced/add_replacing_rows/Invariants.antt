@@ -1,7 +1,6 @@
-use Rattle.std.proofs.Common.{get_or}
-use Rattle.pst_square.specs.Squares.{Adds, IsInRow, IsOneOf}
+use Rattle.pst_square.specs.Squares.{Adds, IsAbove}
 use Rattle.pst_graph.specs.Listed.{IsReplacing}
 use Rattle.pst_graph.proofs.replaced.add_replacing_rows.Given as goal
 
-abbrev pub invariant-loop-i : goal.invariant-loop-i
-invariant-loop-i l = Adds l.initial.square l.square (IsOneOf (λ i. IsInRow (IsReplacing l.scenario) (get_or l.readers i 0)) l.i)
+abbrev pub invariant-loop-a : goal.invariant-loop-a
+invariant-loop-a l = Adds l.initial.square l.square (IsAbove (IsReplacing l.scenario) l.a)
