@@ -1,5 +1,7 @@
 -- What pairs that are refused have to do with the order, the groups and the conflicts.
-use Rattle.std.proofs.Common.{◌≡◌, ◌≢◌, ◌↔◌, ◌⊎◌, inl, inr, ⊎_elim, ◌<◌, ◌≤◌, ℕ, length, get_or, refl, sym, subst, arith}
+use Rattle.std.proofs.Common.{◌≡◌, ◌≢◌, ◌↔◌, ◌⊎◌, inl, inr, ⊎_elim, ◌<◌, ◌≤◌, ◌+◌, max, ℕ, zero, suc, List, [], ◌∷◌, length, get_or, cond, Bool, true, false, nat_eq, refl, sym, subst, arith}
+use Rattle.std.proofs.lemmas.Bool.{eq-eqb}
+use Rattle.std.proofs.lemmas.List.Recursion.{is_count_by}
 use Rattle.std.proofs.lemmas.Option.{slice_get_within}
 use Rattle.pst_scen.specs.declared.act.Flow.{Flow}
 use Rattle.pst_scen.specs.declared.act.Link.{Link}
@@ -8,7 +10,7 @@ use Rattle.pst_scen.specs.Flows.{Refers}
 use Rattle.pst_scen.specs.Order.{Together, Must}
 use Rattle.pst_scen.specs.Conflicts.{Clash, Resource, FirstWrites, SecondWrites, Conflict, Uses}
 use Rattle.pst_scen.specs.Rows.{Has}
-use Rattle.pst_scen.specs.Plan.{Entries}
+use Rattle.pst_scen.specs.Plan.{Entries, member_count, widest_among, widest}
 use Rattle.pst_scen.specs.Plans.{ClashesAlone, StandParallel, AreEntriesOf}
 use Rattle.pst_scen.specs.Refusals.{GroupClashes, Two, One, IsParallelClash}
 use Rattle.pst_order.specs.Facts.{IsLinked}
@@ -25,6 +27,36 @@ clash_in : (s : Scenario) (a b : ℕ) → Clash s a b → (a < length s.actions)
 clash_in s a b (Resource pool instance own other c d h) = (slice_get_within s.actions a c.is.act c.is.is_act, slice_get_within s.actions b d.is.act d.is.is_act)
 clash_in s a b (FirstWrites pool to w u) = (refers_in s a pool _ to w, uses_in s b pool u)
 clash_in s a b (SecondWrites pool to u w) = (uses_in s a pool u, refers_in s b pool _ to w)
+
+-- a number that stands in one place of a list, or in two
+abbrev times : ℕ → List ℕ → ℕ
+times g [] = 0
+times g (x ∷ xs) = cond (nat_eq g x) (1 + times g xs) (times g xs)
+
+times_more : (b : Bool) (least n : ℕ) → least ≤ n → least ≤ cond b (1 + n) n
+times_more true least n l = omega (arith, l)
+times_more false least n l = l
+
+times_here : (x g : ℕ) (xs : List ℕ) (least : ℕ) → x ≡ g → least ≤ times g xs → 1 + least ≤ times g (x ∷ xs)
+times_here x g xs least e l = subst (λ (b : Bool). 1 + least ≤ cond b (1 + times g xs) (times g xs)) (sym (eq-eqb g x (sym e))) (omega (arith, l))
+
+times_one : (xs : List ℕ) (g i : ℕ) → i < length xs → get_or xs i 0 ≡ g → 1 ≤ times g xs
+times_one [] g i l e = absurd (omega (arith, l))
+times_one (x ∷ xs) g zero l e = times_here x g xs 0 e (omega arith)
+times_one (x ∷ xs) g (suc i) l e = times_more (nat_eq g x) 1 (times g xs) (times_one xs g i (omega (arith, l)) e)
+
+times_two : (xs : List ℕ) (g i j : ℕ) → i < j → j < length xs → get_or xs i 0 ≡ g → get_or xs j 0 ≡ g → 2 ≤ times g xs
+times_two [] g i j order l e f = absurd (omega (arith, l))
+times_two (x ∷ xs) g zero zero order l e f = absurd (omega (arith, order))
+times_two (x ∷ xs) g zero (suc j) order l e f = times_here x g xs 1 e (times_one xs g j (omega (arith, l)) f)
+times_two (x ∷ xs) g (suc i) zero order l e f = absurd (omega (arith, order))
+times_two (x ∷ xs) g (suc i) (suc j) order l e f = times_more (nat_eq g x) 2 (times g xs) (times_two xs g i j (omega (arith, order)) (omega (arith, l)) e f)
+
+-- no group has more members than the widest
+widest_holds : (groups xs : List ℕ) (i : ℕ) → i < length xs → member_count groups (get_or xs i 0) ≤ widest_among groups xs
+widest_holds groups [] i l = absurd (omega (arith, l))
+widest_holds groups (x ∷ xs) zero l = omega arith
+widest_holds groups (x ∷ xs) (suc i) l = let h = widest_holds groups xs i (omega (arith, l)) in omega (arith, h)
 
 -- two members of one group that conflict
 abbrev pub IsGroupConflict : Scenario → ℕ → ℕ → Type 0
@@ -78,3 +110,21 @@ module _ (s : Scenario) (p : Entries) (linked : IsLinked s) (are : AreEntriesOf 
     λ has. ⊎_elim (λ k. inl ((are.must a b a_in b_in).0 k)) (λ k. inr ((are.must b a b_in a_in).0 k)) has,
     λ must. ⊎_elim (λ k. inl ((are.must a b a_in b_in).1 k)) (λ k. inr ((are.must b a b_in a_in).1 k)) must,
   )
+
+  -- where no group has two members
+  pub no_clash_in_narrow : (a : ℕ) → widest p.groups < 2 → (ClashesAlone s a → ⊥) → (b : ℕ) → GroupClashes s a b → ⊥
+  no_clash_in_narrow a narrow not b h =
+      ⊎_elim (λ k. not k.2)
+      (λ k.
+      let both = clash_in s a b k.2.1 in
+      let many = are.many in
+      let order = k.0 in
+      let a_in : a < length p.groups = (let l = both.0 in omega (arith, l, many)) in
+      let b_in : b < length p.groups = (let l = both.1 in omega (arith, l, many)) in
+      let same = (same_group s p.groups are.group a b both.0 both.1).1 k.1 in
+      let g = get_or p.groups a 0 in
+      let two = times_two p.groups g a b order b_in refl same in
+      let is = is_count_by (times g) (nat_eq g) refl (λ y ys. refl) p.groups in
+      let most = widest_holds p.groups p.groups a a_in in
+      omega (arith, two, is, most, narrow))
+      (clash_cases s a b h)

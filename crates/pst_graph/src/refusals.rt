@@ -44,6 +44,9 @@ fn find_clash_of(scenario: &Scenario, plan: &Plan, a: u32) -> Option<u32>
     if clashes_alone(scenario, a) {
         return Some(a);
     }
+    if plan.width() < 2 {
+        return None;
+    }
     let rows = plan.conflict_rows();
     let mut at = a;
     'rest: while let Some(b) = next_in(rows, a, at) {

@@ -1,11 +1,13 @@
 use Rattle.std.proofs.Common.{◌≡◌, ◌<◌, ℕ, length, refl, sym, ap, subst, ◌∙◌, arith}
+use Rattle.std.proofs.lemmas.Bool.Decides.{nat_tests}
+use Rattle.pst_scen.specs.Plan.{widest}
 use Rattle.pst_scen.specs.declared.rows.Rows.{Rows}
 use Rattle.pst_scen.specs.Refusals.{GroupClashes, One}
 use Rattle.pst_scen.specs.Rows.{Has}
 use Rattle.pst_square.specs.Next.{IsNext}
 use Rattle.pst_nodes.proofs.Bits.{no_true}
 use Rattle.pst_graph.proofs.Least.{least_here, found_in, passed_in, nowhere_in}
-use Rattle.pst_graph.proofs.Refused.{no_clash_ahead, no_clash_before, clash_has, share_is_clash}
+use Rattle.pst_graph.proofs.Refused.{no_clash_ahead, no_clash_before, no_clash_in_narrow, clash_has, share_is_clash}
 use Rattle.pst_graph.proofs.refusals.find_clash_of.Goals as goal
 
 pub returns-then-clashes_alone : goal.returns-then-clashes_alone
@@ -52,3 +54,10 @@ returns c =
     let size : p.conflict.size ≡ length s.actions = ap (λ (rows : Rows). rows.size) (sym c.conflict_rows-rows.ensures.is) ∙ c.conflict_rows-rows.ensures.size ∙ c.requires.entries.many in
     let none = subst (λ (rows : Rows). (b : ℕ) → c.rest.at < b → b < rows.size → Has rows c.args.a b → ⊥) c.conflict_rows-rows.ensures.is c.in_default.ensures in
     nowhere_in p.conflict c.args.a (GroupClashes s c.args.a) (λ b. clash_has s p c.requires.linked c.requires.entries c.args.a b size) c.rest.at c.rest.invariant.behind c.rest.invariant.before none
+
+pub returns-then-width-lt2 : goal.returns-then-width-lt2
+returns-then-width-lt2 c = λ b h.
+    let s = c.args.scenario.now in
+    let p = c.args.plan.now in
+    let narrow : widest p.groups < 2 = grind (arith, nat_tests, c.width.ensures, c.if-width-lt2.true) in
+    no_clash_in_narrow s p c.requires.linked c.requires.entries c.args.a narrow (λ alone. no_true (c.if-clashes_alone.ensures.1 alone)) b h
