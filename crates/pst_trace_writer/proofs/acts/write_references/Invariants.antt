@@ -1,0 +1,10 @@
+use Rattle.std.proofs.Common.{◌≡◌, ◌++◌, drop}
+use Rattle.std.specs.Prelude.{string_bytes, slice_get}
+use Rattle.pst_model.specs.ModelView.{view_model}
+use Rattle.pst_trace_texts.specs.Lines.{each_from}
+use Rattle.pst_trace_texts.specs.Header.{reference_text}
+use Rattle.pst_trace_writer.proofs.acts.write_references.Given as goal
+
+abbrev pub invariant-loop-number : goal.invariant-loop-number
+invariant-loop-number l =
+    string_bytes l.text ++ each_from (reference_text l.names (view_model l.model) l.scenario (slice_get (view_model l.model).actions l.action)) l.number (drop l.number l.references) ≡ string_bytes l.fn.text ++ each_from (reference_text l.names (view_model l.model) l.scenario (slice_get (view_model l.model).actions l.action)) 0 l.references
