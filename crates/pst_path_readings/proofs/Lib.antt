@@ -1,0 +1,4 @@
+pub mod Wrapping
+pub mod Turning
+pub mod Needing
+pub mod Dotted

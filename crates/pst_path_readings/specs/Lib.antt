@@ -1,0 +1,3 @@
+pub mod Set
+pub mod Wrapped
+pub mod Behind
