@@ -13,4 +13,5 @@ pub mod Walks
 pub mod ConstantsIn
 pub mod FactsOf
 pub mod Plain
+pub mod ActionReadings
 pub mod ObjectsSound
