@@ -1,0 +1,17 @@
+pub mod Members
+pub mod Slots
+pub mod TermSound
+pub mod TermsOf
+pub mod SetTerms
+pub mod PathsRead
+pub mod Owned
+pub mod FieldRows
+pub mod Meanings
+pub mod Facts
+pub mod ObjectReadings
+pub mod Walks
+pub mod ConstantsIn
+pub mod FactsOf
+pub mod Plain
+pub mod ActionReadings
+pub mod ObjectsSound

@@ -1,0 +1,4 @@
+pub mod Blocks
+pub mod Used
+pub mod Conditions
+pub mod Laws
