@@ -5,3 +5,5 @@ mod Seeding
 pub mod Lined
 mod Apart
 mod Marking
+mod Inside
+mod Running

@@ -18,7 +18,7 @@ within [] i x e = absurd (no_some e)
 within (y ∷ xs) zero x e = omega arith
 within (y ∷ xs) (suc i) x e = omega (arith, within xs i x e)
 
-nat_cases : (a b : ℕ) → (a < b) ⊎ (b ≤ a)
+pub nat_cases : (a b : ℕ) → (a < b) ⊎ (b ≤ a)
 nat_cases zero zero = inr (omega arith)
 nat_cases zero (suc b) = inl (omega arith)
 nat_cases (suc a) zero = inr (omega arith)

@@ -2,3 +2,6 @@ pub mod Numbered
 pub mod Reached
 pub mod Seeded
 pub mod Lined
+pub mod Ranged
+pub mod Run
+pub mod Derived

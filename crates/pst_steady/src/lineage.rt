@@ -40,8 +40,8 @@ pub struct Lineage<'a> {
     pub order: &'a [usize],
 }
 
-// Whether the activity of an action, by its number, traverses a handle exactly once.
-fn is_once_by(tallies: &HashMap<TallyKey, bool>, action: usize, handle: NameId) -> bool
+/// Whether the activity of an action, by its number, traverses a handle exactly once.
+pub fn is_once_by(tallies: &HashMap<TallyKey, bool>, action: usize, handle: NameId) -> bool
     ensures { result ≡ is_once (get same_key tallies.now (record { action = action; handle = handle.0 })) }
 {
     let key = TallyKey {
