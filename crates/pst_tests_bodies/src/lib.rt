@@ -1,9 +1,10 @@
-//! Tests of the run of bodies on a lane.
+//! Tests of the run of bodies on a lane, and bodies that are written as numbers.
 #![tactic(auto)]
 
 #[cfg(test)]
 mod cases;
-#[cfg(test)]
 mod reading;
-#[cfg(test)]
 mod running;
+
+pub use reading::{Numbers, read_steps};
+pub use running::{functions, has_types};

@@ -6,11 +6,11 @@ use std::alloc::Global;
 
 /// What is left to read of a list of numbers.
 #[derive(Clone, Copy)]
-pub struct Numbers {
-    pub left: &'static [i64],
+pub struct Numbers<'a> {
+    pub left: &'a [i64],
 }
 
-impl Numbers {
+impl Numbers<'_> {
     /// The next number, 0 where none is left.
     pub fn next(&mut self) -> i64 {
         match self.left.split_first() {
@@ -49,7 +49,7 @@ fn operator(code: i64) -> BinaryOp {
 // 0 and a number; 1 and a local; 2 and the level of an index; 3 and a field of the action; an operator and two parts.
 fn read_expression(
     alloc: Global,
-    numbers: &mut Numbers,
+    numbers: &mut Numbers<'_>,
     slots: &mut Vec<Slot>,
     depth: u32,
 ) -> Result<Expr, NoMemory> {
@@ -78,14 +78,14 @@ fn read_expression(
     }
 }
 
-fn read_constraint(alloc: Global, numbers: &mut Numbers) -> Result<Constraint, NoMemory> {
+fn read_constraint(alloc: Global, numbers: &mut Numbers<'_>) -> Result<Constraint, NoMemory> {
     let mut slots = Vec::new(alloc);
     let expr = read_expression(alloc, numbers, &mut slots, 8)?;
     Ok(Constraint { expr, slots })
 }
 
 // How many there are, and each.
-fn read_arguments(alloc: Global, numbers: &mut Numbers) -> Result<Vec<Constraint>, NoMemory> {
+fn read_arguments(alloc: Global, numbers: &mut Numbers<'_>) -> Result<Vec<Constraint>, NoMemory> {
     let mut arguments = Vec::new(alloc);
     for _ in 0..numbers.index() {
         arguments.push(read_constraint(alloc, numbers)?)?;
@@ -94,7 +94,7 @@ fn read_arguments(alloc: Global, numbers: &mut Numbers) -> Result<Vec<Constraint
 }
 
 // 0 and an expression, or 1, a function and its arguments.
-fn read_source(alloc: Global, numbers: &mut Numbers) -> Result<Source, NoMemory> {
+fn read_source(alloc: Global, numbers: &mut Numbers<'_>) -> Result<Source, NoMemory> {
     if numbers.next() == 0 {
         return Ok(Source::Value(read_constraint(alloc, numbers)?));
     }
@@ -109,7 +109,7 @@ fn read_source(alloc: Global, numbers: &mut Numbers) -> Result<Source, NoMemory>
 // 0, a local, its range, and 0 or 1 and its value; 1, a local and its value; 2, a function and its arguments; 3, a condition
 // and the steps where it holds and where it doesn't; 4, a count and what is repeated.
 #[cycle(steps)]
-fn read_step(alloc: Global, numbers: &mut Numbers, depth: u32) -> Result<BodyStep, NoMemory> {
+fn read_step(alloc: Global, numbers: &mut Numbers<'_>, depth: u32) -> Result<BodyStep, NoMemory> {
     match numbers.next() {
         0 => {
             let local = numbers.index();
@@ -159,7 +159,7 @@ fn read_step(alloc: Global, numbers: &mut Numbers, depth: u32) -> Result<BodySte
 #[cycle(steps)]
 pub fn read_steps(
     alloc: Global,
-    numbers: &mut Numbers,
+    numbers: &mut Numbers<'_>,
     depth: u32,
 ) -> Result<Vec<BodyStep>, NoMemory> {
     let mut steps = Vec::new(alloc);

@@ -33,8 +33,8 @@ fn function(
     })
 }
 
-// int step(int); void tell(bit); void put(bit, int); bit ask();
-fn functions(alloc: Global) -> Result<Vec<Function>, NoMemory> {
+/// `int step(int); void tell(bit); void put(bit, int); bit ask();`
+pub fn functions(alloc: Global) -> Result<Vec<Function>, NoMemory> {
     let mut functions = Vec::new(alloc);
     functions.push(function(alloc, &[INT], Some(INT))?)?;
     functions.push(function(alloc, &[BIT], None)?)?;
@@ -44,7 +44,7 @@ fn functions(alloc: Global) -> Result<Vec<Function>, NoMemory> {
 }
 
 // An action with a field from 0 to 7, whose body is written as numbers.
-fn action(alloc: Global, numbers: &mut Numbers) -> Result<ActionType, NoMemory> {
+fn action(alloc: Global, numbers: &mut Numbers<'_>) -> Result<ActionType, NoMemory> {
     let body = read_steps(alloc, numbers, 8)?;
     let mut fields = Vec::new(alloc);
     let eight = Span { low: 0, high: 7 };
@@ -65,7 +65,7 @@ fn action(alloc: Global, numbers: &mut Numbers) -> Result<ActionType, NoMemory> 
     })
 }
 
-fn model(alloc: Global, numbers: &mut Numbers) -> Result<Model, NoMemory> {
+fn model(alloc: Global, numbers: &mut Numbers<'_>) -> Result<Model, NoMemory> {
     let mut actions = Vec::new(alloc);
     actions.push(action(alloc, numbers)?)?;
     let top = Part {
@@ -115,8 +115,8 @@ fn are_below(acts: &[Act], count: usize) -> bool
     acts.iter().all(|act| (act.action as usize) < count)
 }
 
-// Whether each action is of a type that there is.
-fn has_types(model: &Model, scenario: &Scenario) -> bool
+/// Whether each action is of a type that there is.
+pub fn has_types(model: &Model, scenario: &Scenario) -> bool
     ensures { result ≡ true → HasTypes (view_model model.now) scenario.now }
 {
     let types = model.actions.as_slice();

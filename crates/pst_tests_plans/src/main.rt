@@ -5,6 +5,7 @@
 //! the function that makes it.
 #![tactic(auto)]
 
+mod alone;
 mod built;
 mod plans;
 mod runs;
@@ -35,6 +36,7 @@ fn answer(
         return String::from_str(alloc, "no plan");
     };
     match call {
+        "alone" | "twice" => alone::answer(alloc, scenario, &plan, call, heading.number, commands),
         "run" | "events" | "book" => {
             runs::answer(alloc, scenario, &plan, call, heading.number, commands)
         }

@@ -38,9 +38,9 @@ fn drive_by_lanes(book: &mut Book<'_>, count: u32) {
     }
 }
 
-// Writes the events of a trace: the start of an action on a lane, with `+` where more of its group
-// start behind it, or the end of an action.
-fn write_trace(answer: &mut String, trace: &[Event]) -> Result<(), AllocError> {
+/// Writes the events of a trace: the start of an action on a lane, with `+` where more of its group
+/// start behind it, or the end of an action.
+pub fn write_trace(answer: &mut String, trace: &[Event]) -> Result<(), AllocError> {
     for event in trace {
         match event {
             Event::Start { act, lane, more } => {

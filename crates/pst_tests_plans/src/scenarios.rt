@@ -90,11 +90,12 @@ fn claims_of(alloc: Global, parts: &str) -> Result<Vec<Claimed>, NoMemory> {
     Ok(claims)
 }
 
-fn act_of(alloc: Global, node: Option<u32>, parts: &str) -> Result<Act, NoMemory> {
+// The action of that number; its type has the number behind it.
+fn act_of(alloc: Global, number: usize, node: Option<u32>, parts: &str) -> Result<Act, NoMemory> {
     let references = Items::from_vec(references_of(alloc, parts)?);
     let claims = Items::from_vec(claims_of(alloc, parts)?);
     Ok(Act {
-        action: 1,
+        action: u32::try_from(number).unwrap_or(0).saturating_add(1),
         instance: 0,
         node,
         fields: Items::empty(alloc),
@@ -175,7 +176,7 @@ fn acts_of(alloc: Global, leaves: &[u32], actions: &str) -> Result<Vec<Act>, NoM
     let mut acts = Vec::new(alloc);
     for parts in actions.split(';') {
         let node = leaves.get(acts.len()).copied();
-        acts.push(act_of(alloc, node, parts)?)?;
+        acts.push(act_of(alloc, acts.len(), node, parts)?)?;
     }
     Ok(acts)
 }
