@@ -14,4 +14,6 @@ pub mod ConstantsIn
 pub mod FactsOf
 pub mod Plain
 pub mod ActionReadings
+pub mod Chains
+pub mod ActionRows
 pub mod ObjectsSound

@@ -125,7 +125,7 @@ module _ (s : Sources) (object : Declaration) where
     OfInitial : is_state object.sort ≡ true → slot ≡ IsFirst → first ≡ 0 → count ≡ 1 → IsObjectRow slot first count
     OfNumber : is_resource object.sort ≡ true → slot ≡ Id → first ≡ 0 → count ≡ 1 → IsObjectRow slot first count
 
-  kind_state : (so : Sort) → is_state so ≡ true → kind_in so ≡ State
+  pub kind_state : (so : Sort) → is_state so ≡ true → kind_in so ≡ State
   kind_state sort.Component e = absurd (false≢true e)
   kind_state (sort.Action base) e = absurd (false≢true e)
   kind_state (sort.Object word.Buffer) e = absurd (false≢true e)
@@ -146,7 +146,7 @@ module _ (s : Sources) (object : Declaration) where
   kind_state sort.Local e = absurd (false≢true e)
   kind_state sort.Index e = absurd (false≢true e)
 
-  kind_resource : (so : Sort) → is_resource so ≡ true → kind_in so ≡ Resource
+  pub kind_resource : (so : Sort) → is_resource so ≡ true → kind_in so ≡ Resource
   kind_resource sort.Component e = absurd (false≢true e)
   kind_resource (sort.Action base) e = absurd (false≢true e)
   kind_resource (sort.Object word.Buffer) e = absurd (false≢true e)
