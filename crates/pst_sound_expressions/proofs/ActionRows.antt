@@ -102,7 +102,7 @@ claim_to sort.Parameter other e = absurd (false≢true e)
 claim_to sort.Local other e = absurd (false≢true e)
 claim_to sort.Index other e = absurd (false≢true e)
 
-handle_to : (so other : Sort) → is_handle so ≡ true → is_type_for so other ≡ is_action other
+pub handle_to : (so other : Sort) → is_handle so ≡ true → is_type_for so other ≡ is_action other
 handle_to sort.Component other e = absurd (false≢true e)
 handle_to (sort.Action base) other e = absurd (false≢true e)
 handle_to (sort.Object word) other e = absurd (false≢true e)

@@ -16,4 +16,6 @@ pub mod Plain
 pub mod ActionReadings
 pub mod Chains
 pub mod ActionRows
+pub mod RowsApart
+pub mod ActionsSound
 pub mod ObjectsSound

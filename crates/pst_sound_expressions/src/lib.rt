@@ -3,4 +3,4 @@
 
 mod laws;
 
-pub use laws::object_constraints_are_sound;
+pub use laws::{action_constraints_are_named, object_constraints_are_sound};
