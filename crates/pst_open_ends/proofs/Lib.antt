@@ -1,0 +1,4 @@
+pub mod Alters
+pub mod Finds
+pub mod Supplies
+pub mod Rows

@@ -1,0 +1,4 @@
+pub mod Spots
+pub mod Options
+pub mod Turns
+pub mod Changes
