@@ -13,3 +13,4 @@ pub mod Nearest
 pub mod ListedNeeds
 pub mod Judging
 pub mod PooledSources
+pub mod Above

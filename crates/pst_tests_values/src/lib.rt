@@ -1,5 +1,5 @@
-//! Tests of domains, of what may cross threads, and of laws. What numbers, expressions, spans and
-//! words are answered stands in the table of `pst_tests_numbers`.
+//! Tests of domains, of what may cross threads, of laws, and of parsing tokens that no text has. What
+//! numbers, expressions, spans and words are answered stands in the table of `pst_tests_numbers`.
 #![tactic(auto)]
 
 #[cfg(test)]
@@ -8,3 +8,5 @@ mod domains;
 mod laws;
 #[cfg(test)]
 mod threads;
+#[cfg(test)]
+mod tokens;
