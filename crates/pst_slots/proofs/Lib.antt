@@ -5,7 +5,7 @@ mod Stood
 mod Compounds
 mod Statements
 mod Handles
-mod Sounds
+pub mod Sounds
 mod Whole
 mod Placed
 mod Both

@@ -1,0 +1,5 @@
+pub mod Hulls
+pub mod Valued
+pub mod Domains
+pub mod Fails
+pub mod Barren
