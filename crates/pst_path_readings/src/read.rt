@@ -19,6 +19,7 @@ use pst_sources::Sources;
 use pst_walk_parts::path_parts::{part_of, parts_of};
 
 /// Says what the paths of the expressions stand for that stand somewhere.
+#[derive(Clone, Copy)]
 pub struct Reader<'a> {
     /// The sources.
     pub sources: &'a Sources<'a>,

@@ -1,0 +1,4 @@
+pub mod Premised
+pub mod Turning
+pub mod Rowed
+pub mod Pairing

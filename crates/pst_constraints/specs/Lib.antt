@@ -1,0 +1,3 @@
+pub mod Implied
+pub mod Turned
+pub mod Paired
