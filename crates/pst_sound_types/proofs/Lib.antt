@@ -1,3 +1,5 @@
 pub mod Inside
 pub mod Standing
 pub mod Typed
+pub mod NeedsSound
+pub mod ServedWhole
