@@ -3,3 +3,5 @@ pub mod Standing
 pub mod Typed
 pub mod NeedsSound
 pub mod ServedWhole
+pub mod FewNeeds
+pub mod PoolsSound
