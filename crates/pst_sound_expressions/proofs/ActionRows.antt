@@ -149,10 +149,10 @@ module _ (s : Sources) (facts : AreFacts s) (domains : List (List Span)) where
       among : (e : Declaration) → In e (those_that is_action ds) → In e ds
       among e h = (those_declared is_action ds e h).0
 
-  object_of_typed : (r t : Declaration) → type_of ds r ≡ Some t → object_of ds r ≡ object_number ds t
+  pub object_of_typed : (r t : Declaration) → type_of ds r ≡ Some t → object_of ds r ≡ object_number ds t
   object_of_typed r t e = ap (λ (o : Option Declaration). option_map_or (object_number ds) o 0) e
 
-  has_field_of : (r t d : Declaration) (f n k : ℕ) → type_of ds r ≡ Some t → is_object t.sort ≡ true → In d (fields_of ds t) → f ≡ field_number s t d → n ≡ count_of s d → k < n → HasField (model_objects s domains) (object_of ds r) (f + k)
+  pub has_field_of : (r t d : Declaration) (f n k : ℕ) → type_of ds r ≡ Some t → is_object t.sort ≡ true → In d (fields_of ds t) → f ≡ field_number s t d → n ≡ count_of s d → k < n → HasField (model_objects s domains) (object_of ds r) (f + k)
   has_field_of r t d f n k typed is there a b less =
       let w = within_model s domains t d there (own_place s facts is_field t d there) in
       some_and (slice_get (model_objects s domains) (object_of ds r)) (model_object s domains t) (λ type. f + k < length type.fields)

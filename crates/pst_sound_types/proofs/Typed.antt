@@ -163,7 +163,7 @@ action_apart sort.Parameter e = absurd (false≢true e)
 action_apart sort.Local e = absurd (false≢true e)
 action_apart sort.Index e = absurd (false≢true e)
 
-pool_apart : is_apart is_pool
+pub pool_apart : is_apart is_pool
 pool_apart sort.Component e = absurd (false≢true e)
 pool_apart (sort.Action base) e = absurd (false≢true e)
 pool_apart (sort.Object word) e = absurd (false≢true e)
@@ -200,7 +200,7 @@ action_is_no test never sort.Parameter a h = false≢true a
 action_is_no test never sort.Local a h = false≢true a
 action_is_no test never sort.Index a h = false≢true a
 
-field_is_field : (type : Place) (p : PartTree) (d : Declaration) → d ≡ field_part type p → is_field d.sort ≡ true
+pub field_is_field : (type : Place) (p : PartTree) (d : Declaration) → d ≡ field_part type p → is_field d.sort ≡ true
 field_is_field type p d e = ap (λ (x : Declaration). is_field x.sort) e ∙ field_sort type p
 
 -- ---- actions
@@ -251,7 +251,7 @@ module _ (s : Sources) (facts : AreFacts s) (right : IsNone (NameBreach s.units 
   home_of : (a : DeclaredAction) (at : IsActionAt s.units a) (d : Declaration) → d.inside ≡ Some a.name.place → home ds d ≡ Some at.component
   home_of a at d e = ap (λ (o : Option Place). option_and_then component_of (option_and_then (declared_at ds) o)) e ∙ ap (option_and_then component_of) (at_place (action_declared at.component at.base a.name) at.itself)
 
-  typed_by : (component : Option Place) (wanted : Wanted) (name : TypeName) (d : Declaration) → In (NamesType component wanted name) (uses s.units) → home ds d ≡ component → type_in d.sort ≡ Some name → ((so : Sort) → is_wanted wanted so ≡ is_type_for d.sort so)
+  pub typed_by : (component : Option Place) (wanted : Wanted) (name : TypeName) (d : Declaration) → In (NamesType component wanted name) (uses s.units) → home ds d ≡ component → type_in d.sort ≡ Some name → ((so : Sort) → is_wanted wanted so ≡ is_type_for d.sort so)
       → (t : Declaration) × (type_of ds d ≡ Some t) × (is_wanted wanted t.sort ≡ true)
   unfolding type_of
   typed_by component wanted name d used at named same =

@@ -1,4 +1,27 @@
 //! Laws of the definitions: each function here does nothing, and its contract is a law.
+ghost use Rattle.pst_sound_types.specs.Laws.{NeedsAreFew, NeedsAreServedWhole, NeedsAreSound, PoolsAreSound};
 
-/// Stands for now.
-pub fn types_are_sound() {}
+/// In the model of sources that keep the rules, references are of flow objects and claims of
+/// resources.
+pub fn needs_are_sound()
+    ensures { NeedsAreSound }
+{}
+
+/// An action has no more references and claims than it may have, and none where it has an activity.
+pub fn needs_are_few()
+    ensures { NeedsAreFew }
+{}
+
+/// Each pool stands in an instance, is of an object type, and has a size within its limits.
+pub fn pools_are_sound()
+    ensures { PoolsAreSound }
+{}
+
+/// In the model of sources that are elaborated, pools serve each reference and claim of each atomic
+/// action that isn't abstract, in each instance of its component.
+pub fn needs_are_served_whole()
+    ensures { NeedsAreServedWhole }
+{
+    pst_tree::instances_are_one();
+    pst_bind::needs_are_served();
+}

@@ -1,6 +1,6 @@
-//! The types of the model of sources are sound.
+//! The types of the model of sources are sound, and so is what pools serve.
 #![tactic(auto)]
 
 mod laws;
 
-pub use laws::types_are_sound;
+pub use laws::{needs_are_few, needs_are_served_whole, needs_are_sound, pools_are_sound};
