@@ -1,5 +1,6 @@
 //! The least findings of the rules of handles.
 ghost use Rattle.std.specs.Prelude.{◌≡◌, IfOk, length, map};
+ghost use Rattle.std.specs.HashMap.{get};
 ghost use Rattle.pst_ast.specs.DeclarationView.{view_action, view_unit};
 ghost use Rattle.pst_scope.specs.Declarations.{declarations};
 ghost use Rattle.pst_type_rules.specs.Sites.{action_of};
@@ -7,6 +8,7 @@ ghost use Rattle.pst_name_rules.specs.Leasts.{IsLeastOf};
 ghost use Rattle.pst_steady.specs.Numbered.{AreBases};
 ghost use Rattle.pst_steady.specs.Reached.{AreReached};
 ghost use Rattle.pst_steady.specs.Seeded.{AreSeeds};
+ghost use Rattle.pst_traversals.specs.Tallied.{same_key, tally_of};
 ghost use Rattle.pst_handle_rules.specs.Broken.{IsBoundTwice, IsUnsteady};
 ghost use Rattle.pst_handle_rules.specs.Judged.{IsBrokenBefore};
 
@@ -20,8 +22,11 @@ use pst_index::Index;
 use pst_places::PlaceList;
 use pst_scope::{Declaration, Finding};
 use pst_sites::Sites;
-use pst_steady::{Lineage, Seed, bases_of, order_of, reached, seeds_of};
-use pst_traversals::tallies;
+use pst_steady::{
+    Below, Lineage, Seed, are_ranged, bases_of, order_of, ranges_of, reached, runs_of, seeds_of,
+    slots_of,
+};
+use pst_traversals::{TallyKey, tallies};
 use std::alloc::Global;
 
 /// The least place at which an activity binds an input twice, or the output of a stream, as rule 20.
@@ -55,6 +60,46 @@ struct Declared<'a> {
     bases: &'a [Option<usize>],
 }
 
+// The least finding, where it is known which activity each declaration has.
+fn unsteady_by_lineage(
+    sites: &Sites,
+    lineage: &Lineage,
+    seeds: &[Seed],
+    actions: &[&ActionNode],
+    judgings: &[Judging],
+) -> Result<Option<Finding>, NoMemory>
+    requires declared { lineage.now.index.now ≡ declarations (map view_unit sites.now) }
+    requires bases { AreBases (declarations (map view_unit sites.now)) lineage.now.bases.now }
+    requires seeds { AreSeeds (map view_unit sites.now) (declarations (map view_unit sites.now)) (length (declarations (map view_unit sites.now))) (map (λ a. action_of (view_action a.now)) actions.now) seeds.now }
+    requires values { AreReached seeds.now lineage.now.bases.now lineage.now.values.now }
+    requires tallies { (key : TallyKey) → get same_key lineage.now.tallies.now key ≡ tally_of (map (λ a. action_of (view_action a.now)) actions.now) key }
+    ensures { IfOk result (IsLeastOf (IsBrokenBefore (map view_unit sites.now) judgings.now (length judgings.now))) }
+{
+    let alloc = lineage.alloc;
+    let base_places = base_places(alloc, lineage.index)?;
+    let all_ranges = ranges_of(alloc, seeds, lineage.bases, lineage.order)?;
+    let ranges = all_ranges.as_slice();
+    let all_slots = slots_of(alloc, seeds, ranges)?;
+    let slots = all_slots.as_slice();
+    let runs = runs_of(alloc, lineage.tallies, slots, actions)?;
+    let declarations = lineage.index.as_slice();
+    let right = are_ranged(
+        lineage.places,
+        declarations,
+        seeds,
+        lineage.bases,
+        ranges,
+        slots,
+    );
+    let below = Below {
+        ranges,
+        slots,
+        runs: &runs,
+        right,
+    };
+    unsteady_among(sites, lineage, &below, &base_places, judgings)
+}
+
 // The least finding, where it is known where each declaration has its activity from.
 fn unsteady_by_seeds(
     sites: &Sites,
@@ -69,7 +114,6 @@ fn unsteady_by_seeds(
     ensures { IfOk result (IsLeastOf (IsBrokenBefore (map view_unit sites.now) judgings.now (length judgings.now))) }
 {
     let alloc = declared.alloc;
-    let base_places = base_places(alloc, declared.index)?;
     let order = order_of(alloc, declared.bases)?;
     let values = reached(alloc, seeds, declared.bases, order.as_slice())?;
     let tallies = tallies(alloc, actions)?;
@@ -82,7 +126,7 @@ fn unsteady_by_seeds(
         tallies: &tallies,
         order: order.as_slice(),
     };
-    unsteady_among(sites, &lineage, &base_places, judgings)
+    unsteady_by_lineage(sites, &lineage, seeds, actions, judgings)
 }
 
 // The least finding, where bases are known by their numbers.

@@ -5,7 +5,7 @@ ghost use Rattle.pst_scope.specs.Declarations.{declarations};
 ghost use Rattle.pst_name_rules.specs.Leasts.{IsLeastOf};
 ghost use Rattle.pst_handle_rules.specs.Based.{places_of_bases};
 ghost use Rattle.pst_handle_rules.specs.Judged.{IsBroken, IsBrokenBefore};
-ghost use Rattle.pst_steady.specs.Lined.{AreLined};
+ghost use Rattle.pst_steady.specs.Derived.{AreBelow};
 
 use crate::based::is_base;
 use pst_base::NoMemory;
@@ -14,17 +14,18 @@ use pst_name_rules::earlier;
 use pst_places::PlaceList;
 use pst_scope::Finding;
 use pst_sites::Sites;
-use pst_steady::{Lineage, has_unsteady, is_steady_in};
+use pst_steady::{Below, Lineage, has_unsteady, is_steady_in, none_unsteady};
 
 // Whether an activity that must traverse a handle exactly once doesn't.
 fn is_broken(
     sites: &Sites,
     lineage: &Lineage,
+    below: &Below,
     base_places: &PlaceList,
     judging: &Judging,
 ) -> Result<bool, NoMemory>
     requires declared { lineage.now.index.now ≡ declarations (map view_unit sites.now) }
-    requires lined { AreLined (map view_unit sites.now) lineage.now.bases.now lineage.now.values.now lineage.now.tallies.now }
+    requires below { AreBelow (map view_unit sites.now) lineage.now.places.now lineage.now.bases.now lineage.now.values.now lineage.now.tallies.now below.now }
     requires bases { base_places.now ≡ places_of_bases (declarations (map view_unit sites.now)) }
     ensures { IfOk result (λ broken. IsTrue broken ↔ IsBroken (map view_unit sites.now) judging.now) }
 {
@@ -35,6 +36,9 @@ fn is_broken(
         return Ok(false);
     }
     if !is_base(base_places, &judging.action) {
+        return Ok(false);
+    }
+    if none_unsteady(sites, lineage, below, &judging.action, judging.name.id) {
         return Ok(false);
     }
     has_unsteady(sites, lineage, &judging.action, judging.name.id)
@@ -51,13 +55,14 @@ fn is_same_finding(a: Option<Finding>, b: Option<Finding>) -> bool
 fn least_with(
     sites: &Sites,
     lineage: &Lineage,
+    below: &Below,
     base_places: &PlaceList,
     judgings: &[Judging],
     at: usize,
     least: Option<Finding>,
 ) -> Result<Option<Finding>, NoMemory>
     requires declared { lineage.now.index.now ≡ declarations (map view_unit sites.now) }
-    requires lined { AreLined (map view_unit sites.now) lineage.now.bases.now lineage.now.values.now lineage.now.tallies.now }
+    requires below { AreBelow (map view_unit sites.now) lineage.now.places.now lineage.now.bases.now lineage.now.values.now lineage.now.tallies.now below.now }
     requires bases { base_places.now ≡ places_of_bases (declarations (map view_unit sites.now)) }
     requires within { at < length judgings.now }
     requires least { IsLeastOf (IsBrokenBefore (map view_unit sites.now) judgings.now at) least }
@@ -73,7 +78,7 @@ fn least_with(
     if is_same_finding(next, least) {
         return Ok(least);
     }
-    let broken = is_broken(sites, lineage, base_places, judging)?;
+    let broken = is_broken(sites, lineage, below, base_places, judging)?;
     if broken { Ok(next) } else { Ok(least) }
 }
 
@@ -81,17 +86,18 @@ fn least_with(
 pub fn unsteady_among(
     sites: &Sites,
     lineage: &Lineage,
+    below: &Below,
     base_places: &PlaceList,
     judgings: &[Judging],
 ) -> Result<Option<Finding>, NoMemory>
     requires declared { lineage.now.index.now ≡ declarations (map view_unit sites.now) }
-    requires lined { AreLined (map view_unit sites.now) lineage.now.bases.now lineage.now.values.now lineage.now.tallies.now }
+    requires below { AreBelow (map view_unit sites.now) lineage.now.places.now lineage.now.bases.now lineage.now.values.now lineage.now.tallies.now below.now }
     requires bases { base_places.now ≡ places_of_bases (declarations (map view_unit sites.now)) }
     ensures { IfOk result (IsLeastOf (IsBrokenBefore (map view_unit sites.now) judgings.now (length judgings.now))) }
 {
     let mut least = None;
     for at in 0..judgings.len() {
-        least = least_with(sites, lineage, base_places, judgings, at, least)?;
+        least = least_with(sites, lineage, below, base_places, judgings, at, least)?;
     }
     Ok(least)
 }
