@@ -1,5 +1,5 @@
 -- The files that the words of a line name, and what is read of them, one after another.
-use Rattle.std.specs.Prelude.{◌≡◌, ℕ, ◌+◌, ◌-◌, ◌<◌, ◌≤◌, true, false, List, ◌++◌, length, take, slice_get, Option, Some, None, Result, Ok, Err}
+use Rattle.std.specs.Prelude.{◌≡◌, ℕ, ◌+◌, ◌-◌, ◌<◌, ◌≤◌, true, false, List, ◌++◌, length, take, drop, if◌then◌else◌, slice_get, Option, Some, None, Result, Ok, Err}
 use Rattle.std.specs.List.{AllZip, filter, list_any, sum_by}
 use Rattle.std.specs.Option.{ForSome}
 use Rattle.pst_base.specs.Fault.{HasRisen}
@@ -37,6 +37,10 @@ pub record IsTraceWord (arguments : List (List ℕ)) (word : ℕ) (name : List �
   pub word_is : word ≡ before + 1
   pub there : slice_get arguments before ≡ Some (key_start Trace ++ name)
   pub first : list_any (is_of Trace) (take before arguments) ≡ false
+
+-- the name that a word gives of a file: that of a trace file stands behind its key, that of a source is the word
+abbrev pub given_name : List ℕ → List ℕ
+given_name word = if is_of Trace word then drop (length (key_start Trace)) word else word
 
 -- where the shelf tells its files it has none of this name
 abbrev pub IsMissing : Option Files → List ℕ → Type 0

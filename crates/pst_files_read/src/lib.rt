@@ -6,4 +6,4 @@ mod files;
 mod trace_file;
 
 pub use files::{FileEnd, MOST_BYTES, read_sources};
-pub use trace_file::{MOST_TRACE, read_trace};
+pub use trace_file::{MOST_TRACE, name_given, read_trace};

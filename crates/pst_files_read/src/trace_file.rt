@@ -4,7 +4,7 @@ ghost use Rattle.std.specs.List.{list_any};
 ghost use Rattle.pst_words.specs.Table.{key_start};
 ghost use Rattle.pst_words.specs.Lines.{is_of};
 ghost use Rattle.pst_words.specs.declared.key.Key.TheVariants.{Trace};
-ghost use Rattle.pst_files_read.specs.Files.{IsTraceWord, IsTraceRead, IsTraceEnd};
+ghost use Rattle.pst_files_read.specs.Files.{given_name, IsTraceWord, IsTraceRead, IsTraceEnd};
 
 use crate::files::{FileEnd, read_file};
 use pst_base::Items;
@@ -19,6 +19,16 @@ fn trace_in(word: &str) -> Option<&str>
     ensures { MatchOption result (is_of Trace word.now ≡ false) (λ name. (is_of Trace word.now ≡ true) × (word.now ≡ key_start Trace ++ name.now)) }
 {
     word.strip_prefix("trace=")
+}
+
+/// The name of the file that a word names, as a trace file or else as a source.
+pub fn name_given(word: &str) -> &str
+    ensures { result.now ≡ given_name word.now }
+{
+    match trace_in(word) {
+        Some(name) => name,
+        None => word,
+    }
 }
 
 // Reads the trace file that a word names.

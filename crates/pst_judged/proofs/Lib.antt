@@ -1,0 +1,2 @@
+mod Rooting
+mod Parts

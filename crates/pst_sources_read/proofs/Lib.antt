@@ -1,0 +1,4 @@
+pub mod Pairs
+pub mod Counted
+pub mod OneText
+pub mod Units
