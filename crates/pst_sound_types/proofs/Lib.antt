@@ -5,3 +5,4 @@ pub mod NeedsSound
 pub mod ServedWhole
 pub mod FewNeeds
 pub mod PoolsSound
+pub mod FieldsSound

@@ -1,5 +1,5 @@
 //! Laws of the definitions: each function here does nothing, and its contract is a law.
-ghost use Rattle.pst_sound_types.specs.Laws.{NeedsAreFew, NeedsAreServedWhole, NeedsAreSound, PoolsAreSound};
+ghost use Rattle.pst_sound_types.specs.Laws.{FieldsAreSound, NeedsAreFew, NeedsAreServedWhole, NeedsAreSound, PoolsAreSound};
 
 /// In the model of sources that keep the rules, references are of flow objects and claims of
 /// resources.
@@ -25,3 +25,8 @@ pub fn needs_are_served_whole()
     pst_tree::instances_are_one();
     pst_bind::needs_are_served();
 }
+
+/// Each field has a domain, and each element of an array a number within its limits.
+pub fn fields_are_sound()
+    ensures { FieldsAreSound }
+{}
