@@ -6,3 +6,5 @@ pub mod ServedWhole
 pub mod FewNeeds
 pub mod PoolsSound
 pub mod FieldsSound
+pub mod FewFields
+pub mod FunctionsSound
