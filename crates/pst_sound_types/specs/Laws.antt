@@ -4,7 +4,7 @@ use Rattle.pst_ast.specs.DeclarationTree.{UnitTree}
 use Rattle.pst_model.specs.Limits.{most_fields, most_references, most_claims}
 use Rattle.pst_model.specs.ActivityTree.{ActivityTree}
 use Rattle.pst_model.specs.ModelTree.{Compound, ActionTree, ModelTree}
-use Rattle.pst_model.specs.Sound.{IsSoundReference, IsSoundClaim, IsSoundCompound, IsSoundPool, IsSoundField, IsSoundFunction}
+use Rattle.pst_model.specs.Sound.{IsSoundReference, IsSoundClaim, IsSoundCompound, IsSoundPool, IsSoundField, IsSoundFunction, IsSoundObject}
 use Rattle.pst_model.specs.Served.{IsServedWhole}
 use Rattle.pst_scope.specs.Breaches.{IsNone}
 use Rattle.pst_scope.specs.Declarations.{declarations}
@@ -61,3 +61,9 @@ FieldsAreFew =
 -- no function has more parameters than one may have
 abbrev pub FunctionsAreSound : Type 0
 FunctionsAreSound = (units : List UnitTree) (names : List (List ℕ)) (model : ModelTree) → IsNone (TypeBreach units names) → IsModel units names model → All IsSoundFunction model.functions
+
+-- each object type is sound
+abbrev pub ObjectsAreSound : Type 0
+ObjectsAreSound =
+    (units : List UnitTree) (names : List (List ℕ)) (model : ModelTree) → HaveOwnPlaces (declarations units) → IsNone (NameBreach units names) → IsNone (TypeBreach units names) → IsModel units names model
+    → All IsSoundObject model.objects

@@ -1,5 +1,5 @@
 //! Laws of the definitions: each function here does nothing, and its contract is a law.
-ghost use Rattle.pst_sound_types.specs.Laws.{FieldsAreFew, FieldsAreSound, FunctionsAreSound, NeedsAreFew, NeedsAreServedWhole, NeedsAreSound, PoolsAreSound};
+ghost use Rattle.pst_sound_types.specs.Laws.{FieldsAreFew, FieldsAreSound, FunctionsAreSound, NeedsAreFew, NeedsAreServedWhole, NeedsAreSound, ObjectsAreSound, PoolsAreSound};
 
 /// In the model of sources that keep the rules, references are of flow objects and claims of
 /// resources.
@@ -40,3 +40,12 @@ pub fn fields_are_few()
 pub fn functions_are_sound()
     ensures { FunctionsAreSound }
 {}
+
+/// Each object type of the model of sources that keep the rules is sound.
+pub fn objects_are_sound()
+    ensures { ObjectsAreSound }
+{
+    fields_are_few();
+    fields_are_sound();
+    pst_sound_expressions::object_constraints_are_sound();
+}
