@@ -96,16 +96,18 @@ split [] k less = absurd (omega (arith, less))
 split (x ∷ xs) zero less = record { front = []; m = x; more = xs; is = refl; long = refl }
 split (x ∷ xs) (suc k) less = let r = split xs k (omega (arith, less)) in record { front = x ∷ r.front; m = r.m; more = r.more; is = ap (λ (ys : List Declaration). x ∷ ys) r.is; long = ap suc r.long }
 
-module _ (units : List UnitTree) (names : List (List ℕ)) (right : IsNone (NameBreach units names)) (kept : IsNone (TypeBreach units names)) where
-  abbrev ds : List Declaration
-  ds = declarations units
-
-  pub few : (d : Declaration) → In d ds → (counted : List Declaration) (most : ℕ) → IsLimited ds d counted most → length counted ≤ most
+module _ (units : List UnitTree) (names : List (List ℕ)) (kept : IsNone (TypeBreach units names)) where
+  pub few : (d : Declaration) → In d (declarations units) → (counted : List Declaration) (most : ℕ) → IsLimited (declarations units) d counted most → length counted ≤ most
   few d there counted most limited = by (cases_lt most (length counted))
     where
       by : (most < length counted) ⊎ (length counted ≤ most) → length counted ≤ most
       by (inr less) = less
-      by (inl more) = let r = split counted most more in absurd (kept r.m.name.place 12 (OfDeclaration d r.m.name.place 12 (to_contains ds d there) (TooMany counted r.front r.more r.m most limited r.is r.long)))
+      by (inl more) = let r = split counted most more in absurd (kept r.m.name.place 12 (OfDeclaration d r.m.name.place 12 (to_contains (declarations units) d there) (TooMany counted r.front r.more r.m most limited r.is r.long)))
+
+
+module _ (units : List UnitTree) (names : List (List ℕ)) (right : IsNone (NameBreach units names)) (kept : IsNone (TypeBreach units names)) where
+  abbrev ds : List Declaration
+  ds = declarations units
 
   -- ---- the members by the rules
 
@@ -219,8 +221,8 @@ module _ (units : List UnitTree) (names : List (List ℕ)) (right : IsNone (Name
     pub few_needs : (d : Declaration) → In d ds → is_action d.sort ≡ true → HasFewNeeds (model_action s domains d)
     few_needs d there is =
         let members_are = its_members d there in
-        let references = few d there (those_that is_reference (members ds d)) most_references (References (members ds d) members_are) in
-        let claims = few d there (those_that is_claim (members ds d)) most_claims (Claims (members ds d) members_are) in
+        let references = few units names kept d there (those_that is_reference (members ds d)) most_references (References (members ds d) members_are) in
+        let claims = few units names kept d there (those_that is_claim (members ds d)) most_claims (Claims (members ds d) members_are) in
         record {
           few_references = omega (arith, references, length-map (references_of ds d) (reference ds));
           few_claims = omega (arith, claims, length-map (claims_of ds d) (claim units ds));

@@ -5,3 +5,6 @@ pub mod NeedsSound
 pub mod ServedWhole
 pub mod FewNeeds
 pub mod PoolsSound
+pub mod FieldsSound
+pub mod FewFields
+pub mod FunctionsSound

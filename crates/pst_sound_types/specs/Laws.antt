@@ -1,10 +1,10 @@
 -- Laws of the definitions: types, pools and what they serve in the model of sources are sound.
 use Rattle.std.specs.Prelude.{◌≡◌, ℕ, ◌≤◌, List, length, All}
 use Rattle.pst_ast.specs.DeclarationTree.{UnitTree}
-use Rattle.pst_model.specs.Limits.{most_references, most_claims}
+use Rattle.pst_model.specs.Limits.{most_fields, most_references, most_claims}
 use Rattle.pst_model.specs.ActivityTree.{ActivityTree}
 use Rattle.pst_model.specs.ModelTree.{Compound, ActionTree, ModelTree}
-use Rattle.pst_model.specs.Sound.{IsSoundReference, IsSoundClaim, IsSoundCompound, IsSoundPool}
+use Rattle.pst_model.specs.Sound.{IsSoundReference, IsSoundClaim, IsSoundCompound, IsSoundPool, IsSoundField, IsSoundFunction, IsSoundObject}
 use Rattle.pst_model.specs.Served.{IsServedWhole}
 use Rattle.pst_scope.specs.Breaches.{IsNone}
 use Rattle.pst_scope.specs.Declarations.{declarations}
@@ -45,3 +45,25 @@ abbrev pub PoolsAreSound : Type 0
 PoolsAreSound =
     (units : List UnitTree) (names : List (List ℕ)) (model : ModelTree) → HaveOwnPlaces (declarations units) → IsNone (NameBreach units names) → IsNone (TypeBreach units names) → IsModel units names model
     → All (IsSoundPool model) model.pools
+
+-- each field of each action type and object type has a domain, and each element of an array a number within its limits
+abbrev pub FieldsAreSound : Type 0
+FieldsAreSound =
+    (units : List UnitTree) (names : List (List ℕ)) (model : ModelTree) → IsNone (TypeBreach units names) → IsModel units names model
+    → All (λ action. All IsSoundField action.fields) model.actions × All (λ object. All IsSoundField object.fields) model.objects
+
+-- no action type and no object type has more fields than a type may have
+abbrev pub FieldsAreFew : Type 0
+FieldsAreFew =
+    (units : List UnitTree) (names : List (List ℕ)) (model : ModelTree) → IsNone (NameBreach units names) → IsNone (TypeBreach units names) → IsModel units names model
+    → All (λ action. length action.fields ≤ most_fields) model.actions × All (λ object. length object.fields ≤ most_fields) model.objects
+
+-- no function has more parameters than one may have
+abbrev pub FunctionsAreSound : Type 0
+FunctionsAreSound = (units : List UnitTree) (names : List (List ℕ)) (model : ModelTree) → IsNone (TypeBreach units names) → IsModel units names model → All IsSoundFunction model.functions
+
+-- each object type is sound
+abbrev pub ObjectsAreSound : Type 0
+ObjectsAreSound =
+    (units : List UnitTree) (names : List (List ℕ)) (model : ModelTree) → HaveOwnPlaces (declarations units) → IsNone (NameBreach units names) → IsNone (TypeBreach units names) → IsModel units names model
+    → All IsSoundObject model.objects

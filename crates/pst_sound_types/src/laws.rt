@@ -1,5 +1,5 @@
 //! Laws of the definitions: each function here does nothing, and its contract is a law.
-ghost use Rattle.pst_sound_types.specs.Laws.{NeedsAreFew, NeedsAreServedWhole, NeedsAreSound, PoolsAreSound};
+ghost use Rattle.pst_sound_types.specs.Laws.{FieldsAreFew, FieldsAreSound, FunctionsAreSound, NeedsAreFew, NeedsAreServedWhole, NeedsAreSound, ObjectsAreSound, PoolsAreSound};
 
 /// In the model of sources that keep the rules, references are of flow objects and claims of
 /// resources.
@@ -24,4 +24,28 @@ pub fn needs_are_served_whole()
 {
     pst_tree::instances_are_one();
     pst_bind::needs_are_served();
+}
+
+/// Each field has a domain, and each element of an array a number within its limits.
+pub fn fields_are_sound()
+    ensures { FieldsAreSound }
+{}
+
+/// No type has more fields than one may have, each element of an array counted.
+pub fn fields_are_few()
+    ensures { FieldsAreFew }
+{}
+
+/// No function has more parameters than one may have.
+pub fn functions_are_sound()
+    ensures { FunctionsAreSound }
+{}
+
+/// Each object type of the model of sources that keep the rules is sound.
+pub fn objects_are_sound()
+    ensures { ObjectsAreSound }
+{
+    fields_are_few();
+    fields_are_sound();
+    pst_sound_expressions::object_constraints_are_sound();
 }

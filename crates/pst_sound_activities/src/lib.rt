@@ -1,0 +1,6 @@
+//! The activities of the model of sources are sound.
+#![tactic(auto)]
+
+mod laws;
+
+pub use laws::{arms_are_apart, joins_are_sound, weights_are_sound};
