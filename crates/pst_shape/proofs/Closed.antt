@@ -10,8 +10,8 @@ use Rattle.pst_shape.specs.declared.pending.At.{At}
 use Rattle.pst_shape.specs.declared.pending.At.TheVariants as at
 use Rattle.pst_shape.specs.declared.pending.Spot.{Spot}
 use Rattle.pst_shape.specs.declared.pending.Spot.TheVariants as spot
-use Rattle.pst_shape.specs.Contexts.{context_of, view_numbered}
-use Rattle.pst_shape.specs.Trees.{Tree, values_at}
+use Rattle.pst_shape_parts.specs.Contexts.{context_of, view_numbered}
+use Rattle.pst_shape_parts.specs.Trees.{Tree, values_at}
 use Rattle.pst_shape.specs.Pending.{below_fields, spot_menu, options_of, way_at, read_stack, read_on, IsSpot, IsOpen, IsPlaced, IsClosed}
 use Rattle.pst_shape.proofs.Levels.{no_option, no_weight, no_value}
 

@@ -19,7 +19,7 @@ use Rattle.pst_legal.specs.Types.{type_of}
 use Rattle.pst_legal.specs.Pieces.{Context, Piece, Action, Turning, turns, statements}
 use Rattle.pst_legal.specs.Menus.{Menu, Way, Place, Weighted, Closed, plain, menu, action_menu, content_menu}
 use Rattle.pst_legal.specs.Reading.{Reading, Wants, Stops, Reads, Reader, then_read, read_place, option_at, read_menu, read_fields, read_pieces, read_way, read_piece, put_value, value_number, read_tree}
-use Rattle.pst_shape.specs.Trees.{Tree, scenario_of, opened, grown_by, is_small, IsGrown, put, values_at}
+use Rattle.pst_shape_parts.specs.Trees.{Tree, scenario_of, opened, grown_by, is_small, IsGrown, put, values_at}
 use Rattle.pst_shape.specs.declared.pending.Stack.{Stack, Empty}
 use Rattle.pst_shape.specs.declared.pending.Fields.{Fields}
 use Rattle.pst_shape.specs.declared.pending.At.{At}

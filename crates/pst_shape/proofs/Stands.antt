@@ -16,12 +16,13 @@ use Rattle.pst_legal.specs.ValueReading.{Answer, Options, Dead, Whole, answer_of
 use Rattle.pst_shape.specs.declared.pending.At.{At}
 use Rattle.pst_shape.specs.declared.pending.At.TheVariants as at
 use Rattle.pst_shape.specs.declared.walk.Made.{Made}
-use Rattle.pst_shape.specs.Trees.{Tree, scenario_of, opened, bare, IsGrown, Extends, put, cut_to, taken_back}
+use Rattle.pst_shape_parts.specs.Trees.{Tree, scenario_of, opened, bare, IsGrown, Extends, put, cut_to, taken_back}
 use Rattle.pst_shape.specs.Pending.{spot_menu, read_stack, read_on, below_fields, options_of, first_size, way_at, IsReady, IsOpen, IsDigit, shown_at, valued, Grows, IsCompound}
 use Rattle.pst_shape.specs.Walks.{HasDigit, IfRead, next_of}
 use Rattle.pst_shape.specs.Choices.{digits_of, at_after, node_count, leaf_count, undone}
 use Rattle.pst_shape.specs.Made.{Stands, AllStand}
-use Rattle.pst_shape.proofs.Placed.{cut_back, put_back}
+use Rattle.pst_shape_parts.proofs.Placed.{cut_back}
+use Rattle.pst_shape.proofs.Placed.{put_back}
 
 module _ (m : ModelTree) (root seed : ℕ) where
   -- the last of them

@@ -16,8 +16,8 @@ use Rattle.pst_model.specs.ModelTree.{ModelTree}
 use Rattle.pst_model.specs.ModelView.{view_step, view_branch, view_arm, maybe_step}
 use Rattle.pst_scen.specs.declared.tree.Fill.TheVariants as fill
 use Rattle.pst_legal.specs.Pieces.{Context, statements, mask, value_in}
-use Rattle.pst_shape.specs.declared.branches.Branches.{Branches}
-use Rattle.pst_shape.specs.Contexts.{view_numbered}
+use Rattle.pst_shape_parts.specs.declared.branches.Branches.{Branches}
+use Rattle.pst_shape_parts.specs.Contexts.{view_numbered}
 use Rattle.pst_legal.specs.Menus.{Menu, Weighted, branch_menu, Closed, plain, statement_menu, join_menu, block_menu, branches_menu, available, repeat_menu, if_menu, match_menu}
 use Rattle.pst_sound_parts.proofs.Rows.{steps_of_row, branches_of_row, arms_of_row, sequence_is, parallel_is, schedule_is, joined_is, select_is, if_is, match_is}
 

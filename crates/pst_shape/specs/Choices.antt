@@ -2,7 +2,7 @@
 use Rattle.std.specs.Prelude.{ℕ, List, [], ◌∷◌, ◌++◌, Option, None, Some}
 use Rattle.pst_shape.specs.declared.pending.At.{At}
 use Rattle.pst_shape.specs.declared.walk.Made.{Made}
-use Rattle.pst_shape.specs.Trees.{Tree, taken_back}
+use Rattle.pst_shape_parts.specs.Trees.{Tree, taken_back}
 
 abbrev pub digits_of : List Made → List ℕ
 digits_of [] = []

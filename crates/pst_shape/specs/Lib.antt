@@ -1,5 +1,3 @@
-pub mod Contexts
-pub mod Trees
 pub mod Pending
 pub mod Walks
 pub mod Choices

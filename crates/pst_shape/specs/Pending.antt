@@ -25,8 +25,8 @@ use Rattle.pst_shape.specs.declared.pending.Spot.TheVariants as spot
 use Rattle.pst_shape.specs.declared.pending.Fields.{Fields}
 use Rattle.pst_shape.specs.declared.pending.At.{At}
 use Rattle.pst_shape.specs.declared.pending.At.TheVariants as at
-use Rattle.pst_shape.specs.Contexts.{context_of, view_numbered}
-use Rattle.pst_shape.specs.Trees.{Tree, scenario_of, Extends, put, values_at}
+use Rattle.pst_shape_parts.specs.Contexts.{context_of, view_numbered}
+use Rattle.pst_shape_parts.specs.Trees.{Tree, scenario_of, Extends, put, values_at}
 
 abbrev pub pieces_of : Context → Parts → List Piece
 pieces_of c (parts.Steps steps) = statements c (map view_step steps.now)

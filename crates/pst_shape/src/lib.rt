@@ -1,10 +1,6 @@
 //! Walks through the choices that fill an activity.
 #![tactic(auto)]
 
-mod branches;
-mod context;
-mod grown;
-mod instances;
 mod pending;
 mod pick;
 mod step;

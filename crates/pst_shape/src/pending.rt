@@ -1,9 +1,8 @@
 //! What is still to be read.
 ghost use Rattle.std.specs.Prelude.{◌+◌, ◌<◌, ◌^◌};
 
-use crate::branches::Branches;
-use crate::context::Frame;
 use pst_model::{ActionType, Field, Step};
+use pst_shape_parts::{Branches, Frame};
 use std::rc::Rc;
 
 /// The turns of a statement that are left.

@@ -1,11 +1,11 @@
 -- The needs of one action are those of its references.
-use Rattle.std.proofs.Common.{◌≡◌, ℕ, ◌+◌, List, [], ◌∷◌, ◌++◌, map, Bool, true, false, refl, ap, ◌∙◌}
+use Rattle.std.proofs.Common.{◌≡◌, ℕ, ◌+◌, List, [], ◌∷◌, ◌++◌, map, refl, ap, ◌∙◌}
 use Rattle.std.specs.Prelude.{flat_map}
 use Rattle.std.specs.List.{enumerate_from, filter}
 use Rattle.std.proofs.lemmas.List.{map-append}
 use Rattle.pst_scen.specs.declared.act.Act.{Act}
 use Rattle.pst_scen.specs.declared.act.Filled.{Filled}
-use Rattle.pst_legal.specs.Supplied.{Linking, is_need, linkings_in}
+use Rattle.pst_legal.specs.Supplied.{is_need, linkings_in}
 use Rattle.pst_supply.specs.declared.listing.Need.{Need}
 use Rattle.pst_supply.specs.Needs.{need_of, needs_in}
 

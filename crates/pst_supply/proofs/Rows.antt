@@ -1,5 +1,5 @@
 -- Lists that are looked through element by element.
-use Rattle.std.proofs.Common.{◌≡◌, ℕ, suc, ◌+◌, ◌<◌, length, get_or, drop, drop-cons, add-one, List, [], ◌∷◌, ◌++◌, sym, ap, ◌∙◌, append_assoc}
+use Rattle.std.proofs.Common.{◌≡◌, ℕ, suc, ◌+◌, ◌<◌, length, get_or, drop, drop-cons, add-one, List, ◌∷◌, ◌++◌, sym, ap, ◌∙◌, append_assoc}
 
 -- what one more element adds
 pub walk_step : {A B : Type 0} (rest : ℕ → List A → List B) (one : ℕ → A → List B) → ((k : ℕ) (x : A) (xs : List A) → rest k (x ∷ xs) ≡ one k x ++ rest (k + 1) xs)

@@ -1,1 +1,5 @@
 pub mod Needs
+pub mod Walks
+pub mod Stops
+pub mod Choices
+pub mod Made

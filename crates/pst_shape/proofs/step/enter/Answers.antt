@@ -7,8 +7,8 @@ use Rattle.pst_model.specs.ConstraintTree.{view_constraint}
 use Rattle.pst_legal.specs.Types.{type_of}
 use Rattle.pst_legal.specs.Pieces.{value_in}
 use Rattle.pst_legal.specs.Menus.{statement_menu, action_menu, block_menu, branches_menu, available, repeat_menu, if_menu, match_menu}
-use Rattle.pst_shape.specs.Contexts.{context_of}
-use Rattle.pst_shape.specs.Trees.{tree_of}
+use Rattle.pst_shape_parts.specs.Contexts.{context_of}
+use Rattle.pst_shape_parts.specs.Trees.{tree_of}
 use Rattle.pst_shape.proofs.Levels.{goes_menu}
 use Rattle.pst_shape.proofs.Statements.{sequence_menu, parallel_menu, schedule_menu, joined_menu, select_menu, if_statement, match_statement}
 use Rattle.pst_shape.proofs.step.enter.Goals as goal

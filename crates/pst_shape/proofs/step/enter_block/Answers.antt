@@ -2,8 +2,8 @@ use Rattle.std.proofs.Common.{◌≡◌, ◌∙◌, map, length, sym, arith}
 use Rattle.std.proofs.lemmas.List.{length-map}
 use Rattle.std.proofs.lemmas.Result.{IfOk-weaker}
 use Rattle.pst_model.specs.ModelView.{view_step}
-use Rattle.pst_shape.specs.Contexts.{context_of}
-use Rattle.pst_shape.specs.Trees.{tree_of}
+use Rattle.pst_shape_parts.specs.Contexts.{context_of}
+use Rattle.pst_shape_parts.specs.Trees.{tree_of}
 use Rattle.pst_shape.proofs.Levels.{goes_menu}
 use Rattle.pst_shape.proofs.Statements.{chosen_block}
 use Rattle.pst_shape.proofs.step.enter_block.Goals as goal

@@ -2,8 +2,8 @@ use Rattle.std.proofs.Common.{◌≡◌, ◌∙◌, map, ap}
 use Rattle.pst_model.specs.ModelView.{view_branch}
 use Rattle.pst_legal.specs.Menus.{available}
 use Rattle.pst_legal.specs.Reading.{then_read, read_menu}
-use Rattle.pst_shape.specs.Contexts.{context_of}
-use Rattle.pst_shape.specs.Trees.{scenario_of}
+use Rattle.pst_shape_parts.specs.Contexts.{context_of}
+use Rattle.pst_shape_parts.specs.Trees.{scenario_of}
 use Rattle.pst_shape.specs.Pending.{way_at, read_stack}
 use Rattle.pst_shape.proofs.Statements.{branches_same}
 use Rattle.pst_shape.proofs.step.enter_select.Goals as goal

@@ -3,8 +3,8 @@ use Rattle.std.proofs.lemmas.Result.{IfOk-weaker}
 use Rattle.pst_model.specs.ModelView.{view_step}
 use Rattle.pst_legal.specs.Pieces.{statements}
 use Rattle.pst_legal.specs.Menus.{plain}
-use Rattle.pst_shape.specs.Contexts.{context_of}
-use Rattle.pst_shape.specs.Trees.{tree_of}
+use Rattle.pst_shape_parts.specs.Contexts.{context_of}
+use Rattle.pst_shape_parts.specs.Trees.{tree_of}
 use Rattle.pst_shape.proofs.Levels.{goes_menu}
 use Rattle.pst_shape.proofs.step.enter_steps.Goals as goal
 

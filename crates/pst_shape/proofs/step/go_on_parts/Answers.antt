@@ -3,8 +3,8 @@ use Rattle.std.proofs.lemmas.Result.{IfOk-weaker}
 use Rattle.pst_model.specs.ModelView.{view_model, view_step}
 use Rattle.pst_legal.specs.Pieces.{Statement, Turning, statements, turns}
 use Rattle.pst_legal.specs.Menus.{menu}
-use Rattle.pst_shape.specs.Contexts.{context_of}
-use Rattle.pst_shape.specs.Trees.{tree_of}
+use Rattle.pst_shape_parts.specs.Contexts.{context_of}
+use Rattle.pst_shape_parts.specs.Trees.{tree_of}
 use Rattle.pst_shape.specs.Pending.{pieces_of, Goes}
 use Rattle.pst_shape.proofs.Levels.{went_on, first_turn}
 use Rattle.pst_shape.proofs.step.go_on_parts.Goals as goal

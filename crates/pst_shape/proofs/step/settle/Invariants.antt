@@ -2,8 +2,8 @@ use Rattle.std.proofs.Common.{◌≡◌, length}
 use Rattle.pst_model.specs.ModelTree.{ModelTree}
 use Rattle.pst_model.specs.ModelView.{view_model}
 use Rattle.pst_shape.specs.declared.pending.At.{At}
-use Rattle.pst_shape.specs.declared.grown.Grown.{Grown}
-use Rattle.pst_shape.specs.Trees.{tree_of, IsGrown, Extends}
+use Rattle.pst_shape_parts.specs.declared.grown.Grown.{Grown}
+use Rattle.pst_shape_parts.specs.Trees.{tree_of, IsGrown, Extends}
 use Rattle.pst_shape.specs.Pending.{SameReading, IsOpen, weight}
 use Rattle.pst_shape.proofs.step.settle.Given as goal
 

@@ -1,4 +1,4 @@
-use Rattle.std.proofs.Common.{◌≡◌, ◌+◌, ◌∙◌, ◌++◌, ap, map}
+use Rattle.std.proofs.Common.{◌+◌, ◌∙◌, ◌++◌, ap, map}
 use Rattle.std.specs.Prelude.{flat_map}
 use Rattle.std.specs.List.{enumerate_from}
 use Rattle.pst_legal.specs.Supplied.{linkings_in}

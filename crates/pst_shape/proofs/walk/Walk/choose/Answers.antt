@@ -3,7 +3,7 @@ use Rattle.std.specs.Prelude.{reverse, if◌then◌else◌}
 use Rattle.std.proofs.lemmas.List.{reverse-append, length-reverse}
 use Rattle.pst_model.specs.ModelView.{view_model}
 use Rattle.pst_shape.specs.declared.walk.Made.{Made}
-use Rattle.pst_shape.specs.Trees.{tree_of, scenario_of}
+use Rattle.pst_shape_parts.specs.Trees.{tree_of, scenario_of}
 use Rattle.pst_shape.specs.Walks.{HasDigit, answer}
 use Rattle.pst_shape.specs.Pending.{IsDigit, Grows, valued, read_on}
 use Rattle.pst_shape.specs.Choices.{at_after, digits_of}

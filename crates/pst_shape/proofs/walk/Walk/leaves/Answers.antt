@@ -1,7 +1,7 @@
 use Rattle.std.proofs.Common.{◌≡◌, ◌∙◌, subst, map}
 use Rattle.std.specs.Prelude.{reverse}
 use Rattle.pst_model.specs.ModelView.{view_model}
-use Rattle.pst_shape.specs.Trees.{tree_of, bare}
+use Rattle.pst_shape_parts.specs.Trees.{tree_of, bare}
 use Rattle.pst_shape.specs.Walks.{IfRead, answer}
 use Rattle.pst_shape.proofs.Stands.{made_reads, bare_is, made_grown}
 use Rattle.pst_shape.proofs.walk.Walk.leaves.Goals as goal

@@ -1,0 +1,65 @@
+use Rattle.std.proofs.Common.{◌≡◌, ℕ, ◌+◌, ◌<◌, List, [], ◌∷◌, ◌++◌, length, Some, ap, sym, subst, ◌∙◌}
+use Rattle.std.specs.Prelude.{reverse}
+use Rattle.std.proofs.lemmas.List.{reverse-append, length-reverse}
+use Rattle.std.proofs.lemmas.Option.{same_Some}
+use Rattle.pst_model.specs.ModelTree.{ModelTree}
+use Rattle.pst_model.specs.ModelView.{view_model}
+use Rattle.pst_scen.specs.declared.act.Act.{Act}
+use Rattle.pst_scen.specs.Scenarios.{leaves_of}
+use Rattle.pst_legal.specs.Binds.{Bound, bounds_of}
+use Rattle.pst_legal.specs.SupplyReading.{Source}
+use Rattle.pst_open_ends.specs.declared.spot.Spot.{Spot}
+use Rattle.pst_open_ends.specs.Spots.{given_source}
+use Rattle.pst_supply.specs.declared.walk.Made.{Made}
+use Rattle.pst_supply.specs.Walks.{HasDigit, answer}
+use Rattle.pst_supply.specs.Stops.{options_at, IsStop, stop_after}
+use Rattle.pst_supply.specs.Choices.{NamesSource}
+use Rattle.pst_supply.specs.Made.{AllStand, ground_of}
+use Rattle.pst_supply.proofs.Stands.{made_digit, one_more}
+use Rattle.pst_supply.proofs.walk.SupplyWalk.choose.Goals as goal
+
+same_options : (m : ModelTree) (a b : List Bound) (acts more : List Act) (j k level : ℕ) (need : Spot) → a ≡ b → acts ≡ more → j ≡ k → options_at m a acts j level need ≡ options_at m b more k level need
+same_options m a b acts more j k level need e f g =
+    ap (λ x. options_at m x acts j level need) e ∙ ap (λ x. options_at m b x j level need) f ∙ ap (λ x. options_at m b more x level need) g
+
+pub pick-requires : goal.pick-requires
+pick-requires c =
+    let w = c.self.inside in
+    let m = view_model w.model.now in
+    let made = reverse w.made.items in
+    let at : c.stop_of.result ≡ stop_after w.first made = c.stop_of.ensures ∙ ap (λ l. stop_after w.first (reverse l)) (c.deref.ensures.value ∙ c.reserve.ensures.items) in
+    let has = subst (λ k. HasDigit (answer k) c.args.digit) (sym c.self.view_is) c.requires in
+    let t = made_digit (ground_of w) w.first made w.acts.items c.args.digit c.self.invariant.stands has in
+    let need : t.need ≡ c.in-Some.need = sym (same_Some c.in-Some.need t.need (sym c.in-Some.is ∙ ap (λ s. s.need) at ∙ t.is)) in
+    subst (λ (l : List Source). c.args.digit < length l) (sym (same_options m w.ties (bounds_of m w.nodes.now) c.deref-2.result.now w.acts.items w.count (length (leaves_of w.nodes.now)) w.level c.in-Some.need c.self.invariant.ties c.deref-2.ensures.value c.self.invariant.count))
+    (subst (λ n. c.args.digit < length (options_at m (bounds_of m w.nodes.now) w.acts.items (length (leaves_of w.nodes.now)) w.level n)) need t.below)
+
+pub invariant_of-self-2 : goal.invariant_of-self-2
+invariant_of-self-2 c =
+    let w = c.self.inside in
+    let m = view_model w.model.now in
+    let g = ground_of w in
+    let made = reverse w.made.items in
+    let need = c.in-Some.need in
+    let new = c.go_on.new.acts.items in
+    let at : c.stop_of.result ≡ stop_after w.first made = c.stop_of.ensures ∙ ap (λ l. stop_after w.first (reverse l)) (c.deref.ensures.value ∙ c.reserve.ensures.items) in
+    let has = subst (λ k. HasDigit (answer k) c.args.digit) (sym c.self.view_is) c.requires in
+    let t = made_digit g w.first made w.acts.items c.args.digit c.self.invariant.stands has in
+    let same : t.need ≡ need = sym (same_Some need t.need (sym c.in-Some.is ∙ ap (λ s. s.need) at ∙ t.is)) in
+    let below = subst (λ n. c.args.digit < length (options_at m (bounds_of m w.nodes.now) w.acts.items (length (leaves_of w.nodes.now)) w.level n)) same t.below in
+    let turn : (stop_after w.first made).need ≡ Some need = ap (λ s. s.need) (sym at) ∙ c.in-Some.is in
+    let options = same_options m w.ties (bounds_of m w.nodes.now) c.deref-2.result.now w.acts.items w.count (length (leaves_of w.nodes.now)) w.level need c.self.invariant.ties c.deref-2.ensures.value c.self.invariant.count in
+    let many : c.len.result ≡ length made = c.len.ensures ∙ c.reserve.ensures.len ∙ w.made.ok.0 ∙ sym (length-reverse w.made.items) in
+    let named = subst (λ k. NamesSource w.seed (w.place + k) (options_at m (bounds_of m w.nodes.now) w.acts.items (length (leaves_of w.nodes.now)) w.level need) c.args.digit (given_source c.in_ok-source.source)) many
+    (subst (λ l. NamesSource w.seed (w.place + c.len.result) l c.args.digit (given_source c.in_ok-source.source)) options c.in_ok-source.ensures) in
+    let stop = subst (λ k. IsStop m (bounds_of m w.nodes.now) new k w.level c.in_ok-went.went.stop) c.self.invariant.count
+    (subst (λ b. IsStop m b new w.count w.level c.in_ok-went.went.stop) c.self.invariant.ties c.in_ok-went.ensures.gone.stop) in
+    let x : Made = record { digit = c.args.digit; change = c.in_ok-went.went.change; stop = c.in_ok-went.went.stop } in
+    let items : c.push.new.self.items ≡ w.made.items ++ x ∷ [] = c.in-Ok.ensures.items ∙ ap (λ l. l ++ x ∷ []) c.reserve.ensures.items in
+    let all : reverse c.push.new.self.items ≡ x ∷ made = ap reverse items ∙ reverse-append w.made.items (x ∷ []) in
+    record {
+      count = c.self.invariant.count;
+      ties = c.self.invariant.ties;
+      stands = subst (λ l. AllStand g w.first l new) (sym all)
+          (one_more g w.first made w.acts.items new x need (given_source c.in_ok-source.source) c.self.invariant.stands turn below named c.in_ok-went.ensures.gone.supplies stop);
+    }

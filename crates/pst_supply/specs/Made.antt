@@ -1,0 +1,49 @@
+-- The invariant of a walk.
+use Rattle.std.specs.Prelude.{◌≡◌, ℕ, ◌+◌, List, [], ◌∷◌, ◌++◌, length, map, reverse}
+use Rattle.pst_model.specs.ModelTree.{ModelTree}
+use Rattle.pst_model.specs.ModelView.{view_model}
+use Rattle.pst_scen.specs.declared.act.Act.{Act}
+use Rattle.pst_scen.specs.declared.tree.Node.{Node}
+use Rattle.pst_scen.specs.Scenarios.{leaves_of}
+use Rattle.pst_legal.specs.Binds.{bounds_of}
+use Rattle.pst_legal.specs.SupplyReading.{read_supply}
+use Rattle.pst_open_ends.specs.Changes.{opened, undone}
+use Rattle.pst_supply.specs.declared.walk.Made.{Made}
+use Rattle.pst_supply.specs.declared.walk.Stop.{Stop}
+use Rattle.pst_supply.specs.declared.walk.SupplyWalk.TheInside.{Inside}
+use Rattle.pst_supply.specs.Walks.{Kept, scenario_with, scenario_at}
+use Rattle.pst_supply.specs.Stops.{IsStop}
+use Rattle.pst_supply.specs.Choices.{digits_of}
+
+-- what a walk begins from
+pub record Ground : Type 0 where
+  pub model : ModelTree
+  pub nodes : List Node
+  pub leaves : List Act
+  pub seed : ℕ
+  pub place : ℕ
+  pub level : ℕ
+
+-- after these choices the reading goes on with these actions
+pub record Stands (g : Ground) (choices : List ℕ) (acts : List Act) : Type 0 where
+  pub reads : (left : List ℕ) → read_supply g.model g.seed (scenario_at g.model g.level g.nodes g.leaves) g.place (choices ++ left) ≡ read_supply g.model g.seed (scenario_with g.level g.nodes acts) (g.place + length choices) left
+
+-- with these actions it stands there
+abbrev pub StopsAt : Ground → List Act → Stop → Type 0
+StopsAt g acts stop = IsStop g.model (bounds_of g.model g.nodes) acts (length (leaves_of g.nodes)) g.level stop
+
+-- the walk stood so after each of its choices, latest first
+abbrev pub AllStand : Ground → Stop → List Made → List Act → Type 0
+AllStand g first [] acts = (acts ≡ map (opened g.model) g.leaves) × StopsAt g acts first
+AllStand g first (made ∷ older) acts = Stands g (digits_of (made ∷ older)) acts × StopsAt g acts made.stop × AllStand g first older (undone made.change acts)
+
+abbrev pub ground_of : Inside → Ground
+ground_of w = record { model = view_model w.model.now; nodes = w.nodes.now; leaves = w.leaves.now; seed = w.seed; place = w.place; level = w.level }
+
+abbrev pub kept_by : Inside → Kept
+kept_by w = record { model = w.model.now; nodes = w.nodes.now; leaves = w.leaves.now; seed = w.seed; place = w.place; level = w.level; choices = digits_of (reverse w.made.items) }
+
+pub record IsKept (w : Inside) : Type 0 where
+  pub count : w.count ≡ length (leaves_of w.nodes.now)
+  pub ties : w.ties ≡ bounds_of (view_model w.model.now) w.nodes.now
+  pub stands : AllStand (ground_of w) w.first (reverse w.made.items) w.acts.items

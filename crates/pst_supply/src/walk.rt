@@ -1,0 +1,354 @@
+//! Walks through the choices of sources.
+ghost use Rattle.std.specs.Prelude.{◌≡◌, ℕ, ◌+◌, ◌<◌, IfOk, OnOk, OnErr, length, reverse, slice_get, Some, []};
+ghost use Rattle.pst_rng.specs.Words.{start_of};
+ghost use Rattle.std.specs.Option.{option_map};
+ghost use Rattle.pst_model.specs.ModelView.{view_model};
+ghost use Rattle.pst_legal.specs.SupplyReading.{next_need};
+ghost use Rattle.pst_legal.specs.Reading.{option_at};
+ghost use Rattle.pst_open_ends.specs.Spots.{read_spot, kept_spot, given_source, given_sources};
+ghost use Rattle.pst_open_ends.specs.Turns.{AreDone};
+ghost use Rattle.pst_supply.specs.Walks.{Kept, with_choice, answer, next_of, IfRead, HasDigit};
+ghost use Rattle.pst_supply.specs.Stops.{options_at, IsStop, stop_after, may_infer, shown_at};
+ghost use Rattle.pst_supply.specs.Choices.{NamesSource, Advances};
+
+use pst_base::NoMemory;
+use pst_model::Model;
+use pst_open_ends::{
+    Change, Source, Spot, leaf_count, next_need, open_acts, sources, supply, take_back,
+};
+use pst_rng::start;
+use pst_scen::{Act, Next, Node};
+use pst_ties::Ties;
+use std::alloc::Global;
+
+const MOST_ACTS: usize = 16384;
+
+/// Where reading stands: the need whose turn it is, and how many sources it may have.
+#[derive(Clone, Copy, Debug, PartialEq, Eq)]
+struct Stop {
+    need: Option<Spot>,
+    count: u64,
+}
+
+/// A choice, what it changed, and where reading stands after it.
+#[derive(Clone, Copy, Debug, PartialEq, Eq)]
+struct Made {
+    digit: u64,
+    change: Change,
+    stop: Stop,
+}
+
+// What a source changed, and where reading stands then.
+#[derive(Clone, Copy, Debug, PartialEq, Eq)]
+struct Went {
+    change: Change,
+    stop: Stop,
+}
+
+// Whether one more action may be inferred.
+fn may_infer(count: usize, leaves: usize, level: u32) -> bool
+    ensures { result ≡ may_infer count leaves level }
+{
+    count.saturating_sub(leaves) < level as usize && count < MOST_ACTS
+}
+
+// The sources of a need.
+fn options(
+    alloc: Global,
+    model: &Model,
+    ties: &Ties,
+    acts: &[Act],
+    leaves: usize,
+    level: u32,
+    need: &Spot,
+) -> Result<Vec<Source>, NoMemory>
+    ensures { IfOk result (λ found. given_sources found.items ≡ options_at (view_model model.now) ties.now acts.now leaves level need.now) }
+{
+    let more = may_infer(acts.len(), leaves, level);
+    let fixed = ties.fixed(need.act, need.reference, need.flow);
+    sources(alloc, model, acts, more, need, fixed)
+}
+
+// Looks where reading stands, where no action below `from` has a turn.
+fn look(
+    alloc: Global,
+    model: &Model,
+    ties: &Ties,
+    acts: &[Act],
+    leaves: usize,
+    level: u32,
+    from: usize,
+) -> Result<Stop, NoMemory>
+    requires { AreDone ties.now acts.now from }
+    ensures { IfOk result (λ stop. IsStop (view_model model.now) ties.now acts.now leaves level stop) }
+{
+    match next_need(ties, acts, from) {
+        None => Ok(Stop {
+            need: None,
+            count: 0,
+        }),
+        Some(need) => {
+            let found = options(alloc, model, ties, acts, leaves, level, &need)?;
+            Ok(Stop {
+                need: Some(need),
+                count: found.len() as u64,
+            })
+        }
+    }
+}
+
+// The option that a digit names at a place with so many options.
+fn option_from(start: u64, count: u64, digit: u64) -> u64
+    requires { 0 < count }
+    ensures option { result ≡ option_at start count digit }
+    ensures in_range { result < count }
+{
+    ((u128::from(start) + u128::from(digit)) % u128::from(count)) as u64
+}
+
+// The number of the place behind so many choices.
+fn place_after(place: u64, made: usize) -> Result<u64, NoMemory>
+    ensures { IfOk result (λ p. p ≡ place + made) }
+{
+    match place.checked_add(made as u64) {
+        Some(place) => Ok(place),
+        None => Err(NoMemory),
+    }
+}
+
+// The source that a digit names.
+fn named(found: &[Source], seed: u64, place: u64, digit: u64) -> Source
+    requires { digit < length found.now }
+    ensures { slice_get found.now (option_at (start_of seed place (length found.now)) (length found.now) digit) ≡ Some result }
+{
+    let count = found.len() as u64;
+    found[option_from(start(seed, place, count), count, digit) as usize]
+}
+
+// Where reading stands after the last of these choices.
+fn stop_of(made: &[Made], first: Stop) -> Stop
+    ensures { result ≡ stop_after first (reverse made.now) }
+{
+    match made.last() {
+        Some(made) => made.stop,
+        None => first,
+    }
+}
+
+// What the walk stands at there.
+fn next_at(stop: Stop, count: usize, leaves: usize, level: u32) -> Next
+    ensures { result ≡ shown_at stop count leaves level }
+{
+    match stop.need {
+        None => {
+            if count.saturating_sub(leaves) == level as usize {
+                return Next::Whole;
+            }
+            Next::Dead
+        }
+        Some(_) => {
+            if stop.count == 0 {
+                return Next::Dead;
+            }
+            Next::Options(stop.count)
+        }
+    }
+}
+
+// The source that a digit names behind so many choices.
+fn pick(
+    alloc: Global,
+    model: &Model,
+    ties: &Ties,
+    acts: &[Act],
+    leaves: usize,
+    level: u32,
+    need: &Spot,
+    seed: u64,
+    place: u64,
+    made: usize,
+    digit: u64,
+) -> Result<Source, NoMemory>
+    requires { digit < length (options_at (view_model model.now) ties.now acts.now leaves level need.now) }
+    ensures { IfOk result (λ source. NamesSource seed (place + made) (options_at (view_model model.now) ties.now acts.now leaves level need.now) digit (given_source source)) }
+{
+    let found = options(alloc, model, ties, acts, leaves, level, need)?;
+    let place = place_after(place, made)?;
+    Ok(named(found.as_slice(), seed, place, digit))
+}
+
+// Links a need to a source, and looks where reading stands then.
+fn go_on(
+    alloc: Global,
+    model: &Model,
+    ties: &Ties,
+    acts: &mut Vec<Act>,
+    leaves: usize,
+    level: u32,
+    need: &Spot,
+    source: Source,
+) -> Result<Went, NoMemory>
+    requires { AreDone ties.now acts.old.items need.now.act }
+    ensures gone { IfOk result (λ went. Advances (view_model model.now) ties.now leaves level (read_spot need.now) (given_source source) went acts.old.items acts.new.items) }
+    ensures err { OnErr result (acts.new.items ≡ acts.old.items) }
+{
+    let change = supply(alloc, model, acts, need, source)?;
+    match look(alloc, model, ties, acts, leaves, level, change.lowest) {
+        Ok(stop) => Ok(Went { change, stop }),
+        Err(error) => {
+            take_back(alloc, acts, &change);
+            Err(error)
+        }
+    }
+}
+
+/// A walk through the lists of choices that give the needs their sources, behind a list that fills
+/// the activity. Contracts see its model, the nodes and leaves of the filled-in activity, its seed,
+/// the number of its first place, its level and its choices.
+#[derive(Drop)]
+pub struct SupplyWalk<'a> {
+    alloc: Global,
+    model: &'a Model,
+    nodes: &'a [Node],
+    leaves: &'a [Act],
+    seed: u64,
+    place: u64,
+    level: u32,
+    count: usize,
+    ties: Ties,
+    first: Stop,
+    made: Vec<Made>,
+    acts: Vec<Act>,
+}
+
+impl<'a> std::marker::Model for SupplyWalk<'a> {
+    ghost use Rattle.pst_supply.specs.Walks.{Kept};
+    ghost use Rattle.pst_supply.specs.Made.{kept_by, IsKept};
+    ghost use Rattle.std.specs.Coded.{codes};
+    ghost use Rattle.pst_model.specs.contracts.activity.Step as the_step;
+    ghost use Rattle.pst_model.specs.contracts.body.BodyStep as the_body_step;
+    ghost use Rattle.pst_model.specs.contracts.constraint.Slot as the_slot;
+    ghost use Rattle.pst_expr.specs.contracts.tree.Expr as the_expr;
+
+    ghost Value = { Kept };
+
+    ghost coded = { Prim.hlevel (codes, the_step.the_row.coded, the_body_step.the_row.coded, the_slot.the_row.coded, the_expr.the_row.coded) };
+
+    ghost view = { kept_by };
+
+    ghost invariant = { IsKept };
+}
+
+impl<'a> SupplyWalk<'a> {
+    /// The walk without a choice. The nodes and leaves are those of a list of choices that fills the
+    /// activity, whose length is `place`; `level` is how many actions are to be inferred.
+    pub fn new(
+        alloc: Global,
+        model: &'a Model,
+        nodes: &'a [Node],
+        leaves: &'a [Act],
+        seed: u64,
+        place: u64,
+        level: u32,
+    ) -> Result<SupplyWalk<'a>, NoMemory>
+        ensures { IfOk result (λ w. w ≡ record { model = model.now; nodes = nodes.now; leaves = leaves.now; seed = seed; place = place; level = level; choices = [] }) }
+    {
+        let count = leaf_count(nodes);
+        let ties = Ties::new(alloc, model, nodes)?;
+        let acts = open_acts(alloc, model, leaves)?;
+        let first = look(alloc, model, &ties, &acts, count, level, 0)?;
+        Ok(SupplyWalk {
+            alloc,
+            model,
+            nodes,
+            leaves,
+            seed,
+            place,
+            level,
+            count,
+            ties,
+            first,
+            made: Vec::new(alloc),
+            acts,
+        })
+    }
+
+    /// What the walk stands at: a place with so many options, the end, or a dead end.
+    pub fn next(&self) -> Next
+        ensures { result ≡ next_of (answer self.now) }
+    {
+        next_at(
+            stop_of(&self.made, self.first),
+            self.acts.len(),
+            self.count,
+            self.level,
+        )
+    }
+
+    /// The need whose turn it is, and nothing at the end.
+    pub fn need(&self) -> Option<Spot>
+        ensures { IfRead (answer self.now) (λ s. result ≡ option_map kept_spot (next_need (view_model self.now.model) s)) }
+    {
+        stop_of(&self.made, self.first).need
+    }
+
+    /// The actions so far, the leaves first, with their links. What isn't read yet is empty.
+    pub fn actions(&self) -> &[Act]
+        ensures { IfRead (answer self.now) (λ s. result.now ≡ s.actions) }
+    {
+        &self.acts
+    }
+
+    /// Makes a choice at the place where the walk stands.
+    pub fn choose(&mut self, digit: u64) -> Result<(), NoMemory>
+        requires { HasDigit (answer self.old) digit }
+        ensures ok { OnOk result (self.new ≡ with_choice self.old digit) }
+        ensures err { OnErr result (self.new ≡ self.old) }
+    {
+        self.made.reserve(1)?;
+        let Some(need) = stop_of(&self.made, self.first).need else {
+            return Err(NoMemory);
+        };
+        let source = pick(
+            self.alloc,
+            self.model,
+            &self.ties,
+            &self.acts,
+            self.count,
+            self.level,
+            &need,
+            self.seed,
+            self.place,
+            self.made.len(),
+            digit,
+        )?;
+        let went = go_on(
+            self.alloc,
+            self.model,
+            &self.ties,
+            &mut self.acts,
+            self.count,
+            self.level,
+            &need,
+            source,
+        )?;
+        match self.made.push(Made {
+            digit,
+            change: went.change,
+            stop: went.stop,
+        }) {
+            Ok(()) => Ok(()),
+            Err(_) => unreachable!(),
+        }
+    }
+
+    /// Takes the last choice back.
+    pub fn back(&mut self)
+        requires { 0 < length self.old.choices }
+        ensures { (digit : ℕ) × (self.old ≡ with_choice self.new digit) }
+    {
+        if let Some(last) = self.made.pop() {
+            take_back(self.alloc, &mut self.acts, &last.change);
+        }
+    }
+}
