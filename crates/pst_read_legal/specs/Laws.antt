@@ -1,4 +1,4 @@
--- What is read whole, holds its constraints and has a plan is legal.
+-- What is read whole, holds its constraints and has a plan is legal, and what is legal has a plan.
 use Rattle.std.specs.Prelude.{◌≡◌, ℕ, List, Some}
 use Rattle.pst_model.specs.ModelTree.{ModelTree}
 use Rattle.pst_model.specs.Sound.{IsSound}
@@ -8,8 +8,10 @@ use Rattle.pst_scen.specs.declared.scenario.Scenario.{Scenario}
 use Rattle.pst_scen.specs.Scenarios.{reference_at}
 use Rattle.pst_scen.specs.Plan.{Entries}
 use Rattle.pst_scen.specs.Plans.{CanRun, IsPlanOf}
+use Rattle.pst_scen.specs.Refusals.{IsUnrefused}
 use Rattle.pst_legal.specs.Constraints.{Holds}
 use Rattle.pst_legal.specs.Supplied.{ComesFromFirst, Supplied}
+use Rattle.pst_legal.specs.Legal.{Legal}
 use Rattle.pst_legal.specs.ValueReading.{Whole, read}
 use Rattle.pst_legal.specs.First.{ReadsLegal}
 use Rattle.pst_built.specs.Sources.{HasSources}
@@ -32,3 +34,7 @@ abbrev pub PlannedReadingsAreLegal : Type 0
 PlannedReadingsAreLegal =
     (m : ModelTree) (root seed level : ℕ) (choices : List ℕ) (s : Scenario) (p : Entries) → IsSound m → IsConcreteRoot m root
     → read m root seed level choices ≡ Whole s → Holds m s → IsPlanOf s p → ReadsLegal m root seed level choices s × (s.level ≡ level)
+
+-- A legal scenario isn't refused by its plan.
+abbrev pub LegalIsUnrefused : Type 0
+LegalIsUnrefused = (m : ModelTree) (root : ℕ) (s : Scenario) → Legal m root s → IsUnrefused s

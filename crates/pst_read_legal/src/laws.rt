@@ -1,10 +1,10 @@
 //! Laws of plans and of whole readings.
-ghost use Rattle.pst_read_legal.specs.Laws.{WritersComeFromFirst, RunningReadingsAreSupplied, PlannedReadingsAreLegal};
+ghost use Rattle.pst_read_legal.specs.Laws.{WritersComeFromFirst, RunningReadingsAreSupplied, PlannedReadingsAreLegal, LegalIsUnrefused};
 
 use pst_built::{
     whole_readings_are_built, whole_readings_are_scenarios, whole_readings_have_sources,
 };
-use pst_order::must_is_kept;
+use pst_order::{must_is_kept, whole_is_sound};
 use pst_read_fits::whole_readings_fit;
 use pst_read_numbers::whole_readings_are_numbered;
 use pst_read_shape::fitting_scenarios_have_shape;
@@ -31,4 +31,12 @@ pub fn planned_readings_are_legal()
     whole_readings_are_scenarios();
     whole_readings_fit();
     fitting_scenarios_have_shape();
+}
+
+/// A legal scenario isn't refused by its plan: where a plan is refused, a search may pass what it has
+/// read.
+pub fn legal_is_unrefused()
+    ensures { LegalIsUnrefused }
+{
+    whole_is_sound();
 }

@@ -6,4 +6,4 @@
 
 mod laws;
 
-pub use laws::{planned_readings_are_legal, writers_come_from_first};
+pub use laws::{legal_is_unrefused, planned_readings_are_legal, writers_come_from_first};

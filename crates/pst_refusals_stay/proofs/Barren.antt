@@ -1,14 +1,11 @@
 -- Where a constraint is refused no longer list reads a legal scenario.
-use Rattle.std.proofs.Common.{◌≡◌, ◌≢◌, ℕ, List, [], ◌∷◌, ◌++◌, Bool, true, false, refl, sym, ap, ◌∙◌, subst}
+use Rattle.std.proofs.Common.{◌≡◌, ◌++◌, refl, sym, ◌∙◌, subst}
 use Rattle.std.proofs.lemmas.Bool.{false_from_ne_true}
-use Rattle.pst_model.specs.ConstraintTree.{SlotTree, ConstraintTree}
 use Rattle.pst_model.specs.ModelTree.{ModelTree}
-use Rattle.pst_model.specs.Sound.{IsSound}
 use Rattle.pst_scen.specs.declared.scenario.Scenario.{Scenario}
-use Rattle.pst_legal.specs.Standing.{Standing}
-use Rattle.pst_legal.specs.Constraints.{HasConstraint, is_refused_at}
+use Rattle.pst_legal.specs.Constraints.{is_refused_at}
 use Rattle.pst_legal.specs.ValueReading.{Answer, Options, Dead, Whole, read}
-use Rattle.pst_legal.specs.First.{ReadsLegal, NoneRefused, IsLiveAnswer, IsLive}
+use Rattle.pst_legal.specs.First.{NoneRefused, IsLiveAnswer}
 use Rattle.pst_longer.specs.Laws.{DeadStaysDead}
 use Rattle.pst_order_stays.specs.SoFar.{HasRead}
 use Rattle.pst_more_known.specs.Refused.{SomeRefused}

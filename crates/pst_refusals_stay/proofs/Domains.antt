@@ -1,5 +1,5 @@
 -- What is known of a legal scenario lies in its domains.
-use Rattle.std.proofs.Common.{◌≡◌, ℕ, zero, suc, ◌+◌, ◌-◌, ◌<◌, ℤ, pos, List, [], ◌∷◌, ◌++◌, map, length, Bool, true, false, nat_eq, if◌then◌else◌, Option, Some, None, refl, sym, ap, ◌∙◌, subst, arith}
+use Rattle.std.proofs.Common.{◌≡◌, ℕ, zero, suc, ◌-◌, ◌<◌, ℤ, pos, List, [], ◌∷◌, map, Bool, true, false, nat_eq, if◌then◌else◌, Option, Some, None, refl, sym, ap, ◌∙◌, subst, arith}
 use Rattle.std.specs.Prelude.{slice_get}
 use Rattle.std.specs.List.{AllZip}
 use Rattle.std.specs.Option.{option_map, option_and_then}
@@ -20,7 +20,7 @@ use Rattle.pst_scen.specs.declared.act.Link.TheVariants as link
 use Rattle.pst_scen.specs.declared.scenario.First.{First}
 use Rattle.pst_scen.specs.declared.scenario.Scenario.{Scenario}
 use Rattle.pst_scen.specs.Scenarios.{reference_at}
-use Rattle.pst_legal.specs.Types.{action_field, object_field, action_reference, action_claim, pool_object, served_claim, is_output}
+use Rattle.pst_legal.specs.Types.{action_field, object_field, action_reference, action_claim, pool_object, is_output}
 use Rattle.pst_legal.specs.Growing.{most_levels}
 use Rattle.pst_legal.specs.Pieces.{IsValueOf}
 use Rattle.pst_legal.specs.Blanks.{pool_field, claim_field, instances_in}

@@ -1,5 +1,5 @@
 -- A constraint that is refused doesn't hold.
-use Rattle.std.proofs.Common.{◌≡◌, ℕ, zero, suc, ◌+◌, ◌<◌, ◌≤◌, ℤ, pos, List, [], ◌∷◌, map, length, Contains, true, not, Option, Some, None, refl, sym, ap, ◌∙◌, subst, arith}
+use Rattle.std.proofs.Common.{◌≡◌, ℕ, zero, suc, ℤ, pos, List, [], ◌∷◌, map, length, Contains, true, not, Option, Some, None, refl, sym, ap, ◌∙◌, subst, inl, inr, arith}
 use Rattle.std.specs.Prelude.{slice_get}
 use Rattle.std.specs.Ordering.{int_eq}
 use Rattle.std.proofs.lemmas.Int.{ints}
@@ -11,7 +11,7 @@ use Rattle.std.proofs.lemmas.Option.{option_and_then_some}
 use Rattle.pst_expr.specs.declared.ranges.Span.{Span}
 use Rattle.pst_expr.specs.Tree.{Expression, Constant, Variable, Unary, Binary, Element}
 use Rattle.pst_expr.specs.Value.{value}
-use Rattle.pst_domain.specs.Bounds.{HasVariablesBelow, Holds, AreWithin}
+use Rattle.pst_domain.specs.Bounds.{HasVariablesBelow, Holds, AreWithin, IsInside}
 use Rattle.pst_domain.specs.Truth.{is_zero}
 use Rattle.pst_domain.specs.Interval.{interval, is_refused}
 use Rattle.pst_domain.specs.Laws.{SpansHoldValues}
@@ -28,8 +28,10 @@ use Rattle.pst_legal.specs.Pieces.{is_true}
 use Rattle.pst_legal.specs.Standing.{Standing, Known, Lacking, Open, Unread, value_of, bound_of}
 use Rattle.pst_legal.specs.Constraints.{HasConstraint, OfCompound, OfAct, OfOutput, OfClaim, OfFirst, Inline, value_at, is_refused_at}
 use Rattle.pst_built.proofs.SoundActs.{all_get, some_and}
+use Rattle.pst_built.proofs.Members.{In, to_contains}
 use Rattle.pst_slots.proofs.Sounds.{sound_in}
-use Rattle.pst_refusals_stay.specs.Laws.{RefusedDoesNotHold}
+use Rattle.pst_more_known.specs.Known.{Narrower}
+use Rattle.pst_refusals_stay.specs.Laws.{RefusedDoesNotHold, RefusedAtWiderBounds}
 
 -- ---- the variables of constraints
 
@@ -107,3 +109,26 @@ refused_fails hold k standing below refused true_ =
 pub refused_not : SpansHoldValues → RefusedDoesNotHold
 refused_not hold m s sound holds some =
     refused_fails hold some.constraint some.standing (variables_below m s sound some.constraint some.standing some.has) some.refused (holds some.constraint some.standing some.has)
+
+-- ---- wider bounds
+
+inside_holds : (inner outer : Option Span) (v : Option ℤ) → IsInside inner outer → Holds inner v → Holds outer v
+inside_holds inner outer None inside holds = tt
+inside_holds None outer (Some v) inside holds = absurd holds
+inside_holds (Some s) None (Some v) inside holds = absurd inside
+inside_holds (Some s) (Some t) (Some v) inside holds = (omega (arith, ints, inside.0, holds.0), omega (arith, ints, inside.1, holds.1))
+
+wider_within : (slots : List SlotTree) (standing wider : SlotTree → Standing) → ((slot : SlotTree) → In slot slots → Narrower (standing slot) (wider slot))
+    → AreWithin (map (λ slot. bound_of (wider slot)) slots) (map (λ slot. value_of (standing slot)) slots)
+wider_within [] standing wider each i below = tt
+wider_within (slot ∷ slots) standing wider each zero below = inside_holds (bound_of (standing slot)) (bound_of (wider slot)) (value_of (standing slot)) (each slot (inl refl)) (standing_holds (standing slot))
+wider_within (slot ∷ slots) standing wider each (suc i) below = wider_within slots standing wider (λ other has. each other (inr has)) i (omega (arith, below))
+
+pub wider_not : SpansHoldValues → RefusedAtWiderBounds
+wider_not hold m s k standing wider sound holds has inside refused =
+    let bounds = map (λ slot. bound_of (wider slot)) k.slots in
+    let values = map (λ slot. value_of (standing slot)) k.slots in
+    let same = length-map k.slots (λ slot. bound_of (standing slot)) ∙ sym (length-map k.slots (λ slot. bound_of (wider slot))) in
+    let below = subst (λ n. HasVariablesBelow n k.expression) same (variables_below m s sound k standing has) in
+    never_true (interval k.expression bounds) (value k.expression values) refused
+    (hold k.expression bounds below values (wider_within k.slots standing wider (λ slot among. inside slot (to_contains k.slots slot among)))) (holds k standing has)

@@ -1,5 +1,5 @@
 -- The values of compound actions are of their domains.
-use Rattle.std.proofs.Common.{◌≡◌, ℕ, zero, suc, ℤ, List, [], ◌∷◌, ◌++◌, length, not, Option, Some, None, refl, sym, subst, inl, inr, ⊎_elim}
+use Rattle.std.proofs.Common.{◌≡◌, ℕ, zero, suc, ℤ, List, [], ◌∷◌, length, not, Option, Some, None, sym, subst, inl, inr, ⊎_elim}
 use Rattle.std.specs.Prelude.{slice_get}
 use Rattle.std.specs.List.{AllZip}
 use Rattle.std.proofs.lemmas.Option.{none-some}
@@ -12,7 +12,7 @@ use Rattle.pst_scen.specs.declared.tree.Fill.TheVariants as fill
 use Rattle.pst_scen.specs.declared.scenario.Scenario.{Scenario}
 use Rattle.pst_legal.specs.Types.{type_of}
 use Rattle.pst_legal.specs.Growing.{nothing_yet, Look, Inner, Leaf, with_look}
-use Rattle.pst_legal.specs.Pieces.{Context, Piece, Action, Statement, Turning, IsValueOf, IsContent, IsActionWay, IsMatchWay, IsStatementWay, IsWay}
+use Rattle.pst_legal.specs.Pieces.{Context, Piece, Action, Statement, Turning, IsValueOf, IsContent, IsMatchWay, IsStatementWay, IsWay}
 use Rattle.pst_legal.specs.Fits.{Filling, FillAll, Fills}
 use Rattle.pst_built.proofs.Parents.{get_cases}
 

@@ -1,5 +1,5 @@
 //! Laws of refused constraints.
-ghost use Rattle.pst_refusals_stay.specs.Laws.{LegalScenariosAreInDomains, RefusedDoesNotHold, RefusedListsAreBarren, BeginningsAreLive};
+ghost use Rattle.pst_refusals_stay.specs.Laws.{LegalScenariosAreInDomains, RefusedDoesNotHold, RefusedAtWiderBounds, RefusedListsAreBarren, BeginningsAreLive};
 
 use pst_domain::spans_hold_values;
 use pst_longer::dead_stays_dead;
@@ -12,9 +12,11 @@ pub fn legal_scenarios_are_in_domains()
     ensures { LegalScenariosAreInDomains }
 {}
 
-/// A scenario of a sound model in which every constraint holds has none that is refused.
+/// A scenario of a sound model in which every constraint holds has none that is refused, at its own
+/// bounds or at wider ones, that forget what is known of some slots.
 pub fn refused_does_not_hold()
-    ensures { RefusedDoesNotHold }
+    ensures own { RefusedDoesNotHold }
+    ensures wider { RefusedAtWiderBounds }
 {
     spans_hold_values();
 }
