@@ -1,0 +1,5 @@
+mod OneReading
+mod OneLine
+mod OneLexing
+mod OneParse
+mod OneAnswer

@@ -1,0 +1,10 @@
+//! The answers of the program, and which of them is right: definitions, and the law that it is one.
+//!
+//! The page to read is `specs/Outcome`.
+#![tactic(auto)]
+
+mod answer;
+mod laws;
+
+pub use answer::{Answer, What};
+pub use laws::answers_are_one;
