@@ -1,0 +1,5 @@
+pub mod Conflicts
+pub mod Kept
+pub mod Stack
+pub mod Search
+pub mod Levels
