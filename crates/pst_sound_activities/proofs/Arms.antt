@@ -1,34 +1,32 @@
 -- No two ranges of a `match` meet.
-use Rattle.std.proofs.Common.{◌≡◌, ◌⊎◌, ◌<◌, inl, inr, ⊎_elim, refl, sym, ap, subst, arith, ◌∙◌, append_assoc}
-use Rattle.std.specs.Prelude.{ℕ, ℤ, pos, List, [], ◌∷◌, ◌++◌, map, length, All, AllPairs, Option, Some, None, IsTrue}
+use Rattle.std.proofs.Common.{◌≡◌, inl, inr, ⊎_elim, refl, sym, ap, subst, arith, ◌∙◌, append_assoc}
+use Rattle.std.specs.Prelude.{ℕ, ℤ, pos, List, [], ◌∷◌, ◌++◌, map, AllPairs, Option}
 use Rattle.std.specs.List.{flat_map, Contains}
 use Rattle.std.specs.Option.{option_map_or}
 use Rattle.std.proofs.lemmas.List.Elements.{All-map}
 use Rattle.std.proofs.lemmas.List.{map-append}
 use Rattle.std.proofs.lemmas.List.Kept.{AllPairs-cons}
 use Rattle.pst_base.specs.declared.position.Place.{Place}
-use Rattle.pst_ast.specs.ExpressionTree.{ExprTree, RangesTree, MakeRanges, RangeTree, RangeSingle, RangeBetween}
+use Rattle.pst_ast.specs.ExpressionTree.{ExprTree, MakeRanges, RangeTree, RangeSingle, RangeBetween}
 use Rattle.pst_ast.specs.ActivityTree.{CoreMatch, ArmLabelTree, ArmLabelRanges, ArmLabelDefault, ArmTree, MakeArm, ArmRow, NoArmRow, MoreArmRow}
 use Rattle.pst_ast.specs.DeclarationTree.{UnitTree}
 use Rattle.pst_expr.specs.declared.ranges.Span.{Span}
-use Rattle.pst_expr.specs.Spans.{IsInSpan}
 use Rattle.pst_model.specs.ActivityTree.{arms_of, spans_of}
 use Rattle.pst_model.specs.SoundActivity.{AreApart, AreArmsApart}
 use Rattle.pst_scope.specs.Breaches.{IsNone}
 use Rattle.pst_scope.specs.declared.environment.Environment.{Environment}
-use Rattle.pst_scope.specs.Uses.{Use, Judges, Arms, Condition, RangeEnd, expr_uses, whole_uses, end_uses, next_ends, ends_uses, arm_label, arm_labels, arm_label_uses, arm_uses, arm_row_uses, statement_uses, core_uses, uses}
-use Rattle.pst_constants.specs.Constants.{IsConstant}
+use Rattle.pst_scope.specs.Uses.{Use, Judges, Arms, Condition, RangeEnd, whole_uses, end_uses, next_ends, arm_label, arm_labels, arm_label_uses, arm_uses, arm_row_uses, statement_uses, core_uses, uses}
 use Rattle.pst_constants.specs.Domains.{span, IsSpanOf, Single, Between, ranges_of}
 use Rattle.pst_type_rules.specs.declared.typed.ConstantValue.{ConstantValue}
 use Rattle.pst_type_rules.specs.Places.{range_place}
 use Rattle.pst_type_rules.specs.TypeRules.{ranges_of_label, ranges_of_arms, TypeBreach, OfUse, Meeting}
 use Rattle.pst_type_rules.specs.Typed.{AreConstants}
-use Rattle.pst_terms.specs.Sources.{Sources, value_of}
+use Rattle.pst_terms.specs.Sources.{Sources}
 use Rattle.pst_terms.specs.Readings.{Setting}
 use Rattle.pst_elab_rules.specs.Model.{sources}
 use Rattle.pst_elab_rules.specs.Spans.{end_value, range_span, range_spans}
 use Rattle.pst_elab_rules.specs.Steps.{arm_row, arm_rows}
-use Rattle.pst_sound_expressions.proofs.Members.{In, in_append, in_flat_map, to_flat_map, to_left, to_right, to_contains, from_contains}
+use Rattle.pst_sound_expressions.proofs.Members.{In, in_append, to_flat_map, to_left, to_right, to_contains, from_contains}
 use Rattle.pst_sound_expressions.proofs.ConstantsIn.{by_value}
 use Rattle.pst_sound_types.proofs.NeedsSound.{all_in}
 
@@ -50,8 +48,8 @@ module _ (R : Span → Span → Type 0) (f : RangeTree → Span) where
   pairs_from done (x ∷ xs) all =
       AllPairs-cons R (f x) (map f xs)
       (All-map (R (f x)) f xs (all_in (λ y. R (f x) (f y)) xs (λ y there.
-          let r = split_at xs y there in
-          all (done ++ x ∷ r.front) r.more x y (ap (λ (ys : List RangeTree). done ++ x ∷ ys) r.is ∙ sym (append_assoc done (x ∷ r.front) (y ∷ r.more))) (to_right done (x ∷ r.front) x (inl refl)))))
+      let r = split_at xs y there in
+      all (done ++ x ∷ r.front) r.more x y (ap (λ (ys : List RangeTree). done ++ x ∷ ys) r.is ∙ sym (append_assoc done (x ∷ r.front) (y ∷ r.more))) (to_right done (x ∷ r.front) x (inl refl)))))
       (pairs_from (done ++ x ∷ []) xs (λ front more earlier later e there. all front more earlier later (sym (append_assoc done (x ∷ []) xs) ∙ e) there))
 
 module _ (units : List UnitTree) (names : List (List ℕ)) (constants : List ConstantValue) (are : AreConstants units names constants) (kept : IsNone (TypeBreach units names)) where
@@ -101,8 +99,8 @@ module _ (units : List UnitTree) (names : List (List ℕ)) (constants : List Con
   has_span at (RangeBetween low dots high) judged never =
       by_value units names constants are kept ⊥ (inr (λ x. x)) at RangeEnd low (judged (Judges at RangeEnd low) (inl refl)) refl
       (λ v c e. by_value units names constants are kept ⊥ (inr (λ x. x)) at RangeEnd high (judged (Judges at RangeEnd high) (to_right (whole_uses at RangeEnd low) (whole_uses at RangeEnd high) (Judges at RangeEnd high) (inl refl))) refl
-          (λ w d f. never (subst (λ (x : ℤ). IsSpanOf units names at (RangeBetween low dots high) (span x (end_value s high))) (sym (ap (λ (o : Option ℤ). option_map_or (λ v. v) o (pos 0)) e))
-              (subst (λ (x : ℤ). IsSpanOf units names at (RangeBetween low dots high) (span v x)) (sym (ap (λ (o : Option ℤ). option_map_or (λ v. v) o (pos 0)) f)) (Between low high dots v w c d)))))
+      (λ w d f. never (subst (λ (x : ℤ). IsSpanOf units names at (RangeBetween low dots high) (span x (end_value s high))) (sym (ap (λ (o : Option ℤ). option_map_or (λ v. v) o (pos 0)) e))
+      (subst (λ (x : ℤ). IsSpanOf units names at (RangeBetween low dots high) (span v x)) (sym (ap (λ (o : Option ℤ). option_map_or (λ v. v) o (pos 0)) f)) (Between low high dots v w c d)))))
 
   module _ (at : Environment) (labels : List ArmLabelTree) (used : In (Arms at labels) (uses units)) (judged : (r : RangeTree) → In r (ranges_of_arms labels) → AreJudged at r) where
     two_apart : (front more : List RangeTree) (earlier later : RangeTree) → [] ++ ranges_of_arms labels ≡ front ++ later ∷ more → In earlier front → AreApart (range_span s earlier) (range_span s later)
@@ -110,7 +108,7 @@ module _ (units : List UnitTree) (names : List (List ℕ)) (constants : List Con
         has_span at earlier (judged earlier (subst (In earlier) (sym e) (to_left front (later ∷ more) earlier there)))
         (λ a. has_span at later (judged later (subst (In later) (sym e) (to_right front (later ∷ more) later (inl refl))))
         (λ b. kept (range_place later) 13 (OfUse (Arms at labels) (range_place later) 13 (to_contains (uses units) (Arms at labels) used)
-            (Meeting at labels front more earlier later (range_span s earlier) (range_span s later) v e (to_contains front earlier there) a b one two))))
+        (Meeting at labels front more earlier later (range_span s earlier) (range_span s later) v e (to_contains front earlier there) a b one two))))
 
     pub ranges_apart : AllPairs AreApart (map (range_span s) (ranges_of_arms labels))
     ranges_apart = pairs_from AreApart (range_span s) [] (ranges_of_arms labels) two_apart
@@ -121,7 +119,7 @@ module _ (units : List UnitTree) (names : List (List ℕ)) (constants : List Con
   arms_apart at word left expr right opening first rest close used setting level =
       let labels = arm_label first ∷ arm_labels rest in
       let its : (u : Use) → In u (core_uses at (CoreMatch word left expr right opening first rest close)) → In u (uses units) =
-          λ u there. let c = used u (to_contains (core_uses at (CoreMatch word left expr right opening first rest close)) u there) in from_contains (uses units) u c.0 c.1 c.2 in
+      λ u there. let c = used u (to_contains (core_uses at (CoreMatch word left expr right opening first rest close)) u there) in from_contains (uses units) u c.0 c.1 c.2 in
       subst (AllPairs AreApart) (sym (all_spans setting level first rest))
       (ranges_apart at labels (its (Arms at labels) (inl refl))
       (all_judged at first rest (λ u has. its u (inr (to_right (whole_uses at Condition expr) (arm_uses at first ++ arm_row_uses at rest) u has)))))

@@ -1,5 +1,5 @@
 -- Joins wait for branches that there are, and weights are within their limits.
-use Rattle.std.proofs.Common.{◌≡◌, ◌⊎◌, ◌<◌, ◌≤◌, inl, inr, refl, sym, ap, subst, arith, ◌∙◌}
+use Rattle.std.proofs.Common.{◌≡◌, ◌⊎◌, ◌<◌, ◌≤◌, inl, inr, refl, sym, ap, arith, ◌∙◌}
 use Rattle.std.specs.Prelude.{ℕ, zero, suc, ◌+◌, ◌*◌, ◌^◌, ◌/◌, Bool, true, false, not, List, [], ◌∷◌, ◌++◌, map, length, Option, Some, None, if◌then◌else◌, IsBitSet, bit_and}
 use Rattle.std.specs.List.{filter, list_any, Contains}
 use Rattle.std.proofs.lemmas.Bool.{cases_lt}
@@ -8,17 +8,16 @@ use Rattle.std.proofs.Math.Nat.{div-eq_of_lt, pow-suc, pow-le-pow_right}
 use Rattle.pst_base.specs.declared.position.Place.{Place}
 use Rattle.pst_base.specs.declared.table.NameId.{NameId}
 use Rattle.pst_ast.specs.declared.activity.TogetherWord.{TogetherWord}
-use Rattle.pst_ast.specs.ActivityTree.{JoinTree, JoinBranch, JoinNothing, JoinSelect, WeightTree, MakeWeight, GuardTree, GuardCondition, GuardWeight, StatementTree, StatementEmpty, StatementLabeled, StatementPlain, CoreTree, CoreDo, CoreHandle, CoreSequence, CoreTogether, CoreSelect, CoreRepeat, CoreIf, CoreIfElse, CoreMatch, CoreBind, MakeBranch, StatementRow, NoStatementRow, MoreStatementRow}
+use Rattle.pst_ast.specs.ActivityTree.{JoinTree, JoinBranch, JoinNothing, JoinSelect, MakeWeight, GuardTree, GuardCondition, GuardWeight, StatementTree, StatementEmpty, StatementLabeled, StatementPlain, CoreTree, CoreDo, CoreHandle, CoreSequence, CoreTogether, CoreSelect, CoreRepeat, CoreIf, CoreIfElse, CoreMatch, CoreBind, MakeBranch, StatementRow, NoStatementRow, MoreStatementRow}
 use Rattle.pst_ast.specs.DeclarationTree.{UnitTree}
 use Rattle.pst_model.specs.Limits.{most_branches, most_weight}
-use Rattle.pst_model.specs.declared.activity.Join.TheVariants.{Fixed, Choose}
 use Rattle.pst_model.specs.ActivityTree.{StepRow, steps_of}
 use Rattle.pst_model.specs.SoundActivity.{IsJoin}
 use Rattle.pst_scope.specs.Breaches.{IsNone}
 use Rattle.pst_scope.specs.declared.environment.Environment.{Environment}
 use Rattle.pst_scope.specs.Declarations.{names_of}
 use Rattle.pst_scope.specs.Sorts.{same_name}
-use Rattle.pst_scope.specs.Uses.{Use, Judges, Branches, Condition, Weight, JoinCount, option_uses, whole_uses, weight_uses, guard_uses, labels_in, label_of, is_branch, branches_in, branch_places, join_uses, statement_uses, statement_row_uses, core_uses, branch_uses, uses, statement_place}
+use Rattle.pst_scope.specs.Uses.{Use, Judges, Branches, Condition, Weight, JoinCount, option_uses, whole_uses, guard_uses, labels_in, label_of, is_branch, branches_in, branch_places, join_uses, statement_uses, statement_row_uses, core_uses, branch_uses, uses, statement_place}
 use Rattle.pst_type_rules.specs.declared.typed.ConstantValue.{ConstantValue}
 use Rattle.pst_type_rules.specs.TypeRules.{TypeBreach, OfUse, ManyBranches}
 use Rattle.pst_type_rules.specs.Typed.{AreConstants}
@@ -144,12 +143,13 @@ module _ (units : List UnitTree) (names : List (List ℕ)) (constants : List Con
       → (length (steps_of (row_steps s setting level statements)) ≤ most_branches) × IsJoin (join_of s statements join) (length (steps_of (row_steps s setting level statements)))
   joins_sound at word place join left statements right used setting level =
       let its : (u : Use) → In u (core_uses at (CoreTogether word place (Some join) left statements right)) → In u (uses units) =
-          λ u there. let c = used u (to_contains (core_uses at (CoreTogether word place (Some join) left statements right)) u there) in from_contains (uses units) u c.0 c.1 c.2 in
+      λ u there. let c = used u (to_contains (core_uses at (CoreTogether word place (Some join) left statements right)) u there) in from_contains (uses units) u c.0 c.1 c.2 in
       let same = steps_counted s setting level statements in
-      let few = few_branches (branch_places statements) (its (Branches (branch_places statements)) (inl refl)) in
-      (omega (arith, same, few, places_counted statements),
-       join_right at statements (length (steps_of (row_steps s setting level statements))) same join
-       (λ u has. its u (inr (to_left (join_uses at (labels_in statements) (branches_in statements) join) (statement_row_uses at statements) u has))))
+      let few = few_branches (branch_places statements) (its (Branches (branch_places statements)) (inl refl)) in (
+        omega (arith, same, few, places_counted statements),
+        join_right at statements (length (steps_of (row_steps s setting level statements))) same join
+            (λ u has. its u (inr (to_left (join_uses at (labels_in statements) (branches_in statements) join) (statement_row_uses at statements) u has))),
+      )
 
   pub weights_sound : (at : Environment) (guard : Option GuardTree) (statement : StatementTree) → ((u : Use) → Contains (branch_uses at (MakeBranch guard statement)) u → Contains (uses units) u)
       → (1 ≤ weight_of s guard) × (weight_of s guard ≤ most_weight)

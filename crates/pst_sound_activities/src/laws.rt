@@ -1,5 +1,5 @@
 //! Laws of the definitions: each function here does nothing, and its contract is a law.
-ghost use Rattle.pst_sound_activities.specs.Laws.{ArmsAreApart, JoinsAreSound, WeightsAreSound};
+ghost use Rattle.pst_sound_activities.specs.Laws.{ArmsAreApart, HandlesAreSound, JoinsAreSound, WeightsAreSound};
 
 /// No two ranges of a `match` of sources that keep the rules of types meet in their model.
 pub fn arms_are_apart()
@@ -15,4 +15,9 @@ pub fn joins_are_sound()
 /// The weight of each branch of a `select` is within its limits.
 pub fn weights_are_sound()
     ensures { WeightsAreSound }
+{}
+
+/// In the model of sources that keep the rules, the handles of each activity are of action types.
+pub fn handles_are_sound()
+    ensures { HandlesAreSound }
 {}

@@ -3,4 +3,4 @@
 
 mod laws;
 
-pub use laws::{arms_are_apart, joins_are_sound, weights_are_sound};
+pub use laws::{arms_are_apart, handles_are_sound, joins_are_sound, weights_are_sound};

@@ -1,26 +1,23 @@
 -- Paths in the constraints of actions.
-use Rattle.std.proofs.Common.{◌≡◌, ◌⊎◌, ◌<◌, ◌≤◌, inl, inr, refl, sym, ap, subst, arith, ◌∙◌}
+use Rattle.std.proofs.Common.{◌≡◌, ◌⊎◌, inl, inr, refl, sym, ap, subst, ◌∙◌}
 use Rattle.std.specs.Prelude.{ℕ, zero, suc, ◌+◌, Bool, true, false, ◌&&◌, List, [], ◌∷◌, map, length, codes, Option, Some, None, if◌then◌else◌}
 use Rattle.std.specs.Option.{option_or, option_and_then, option_map_or}
 use Rattle.std.proofs.lemmas.Bool.{false≢true}
 use Rattle.std.proofs.lemmas.Option.{none-some, same_Some}
-use Rattle.pst_base.specs.declared.position.Place.{Place}
 use Rattle.pst_base.specs.declared.table.NameId.{NameId}
 use Rattle.pst_model.specs.ConstraintTree.{SlotTree, Own, Object, First, ClaimId, ClaimField, Through}
 use Rattle.pst_scope.specs.declared.declaration.Declaration.{Declaration}
 use Rattle.pst_scope.specs.declared.declaration.Scope.{Scope}
-use Rattle.pst_scope.specs.declared.declaration.Scope.TheVariants.{Part}
 use Rattle.pst_scope.specs.declared.declaration.Sort.{Sort}
 use Rattle.pst_scope.specs.declared.declaration.Sort.TheVariants as sort
-use Rattle.pst_scope.specs.declared.environment.Environment.{Environment}
 use Rattle.pst_scope.specs.declared.referent.Owner.{Owner}
 use Rattle.pst_scope.specs.declared.referent.Owner.TheVariants.{OfAction}
 use Rattle.pst_scope.specs.declared.referent.Referent.{Referent}
-use Rattle.pst_scope.specs.declared.referent.Referent.TheVariants.{Declared, Initial, Previous, Number}
+use Rattle.pst_scope.specs.declared.referent.Referent.TheVariants.{Declared, Initial, Number}
 use Rattle.pst_scope.specs.declared.referent.PathPart.{PathPart}
-use Rattle.pst_scope.specs.Sorts.{is_action, is_field, is_state, is_reference, is_claim, is_handle, is_need, same_place}
+use Rattle.pst_scope.specs.Sorts.{is_action, is_field, is_state, is_reference, is_claim, is_handle}
 use Rattle.pst_scope.specs.Lookups.{type_named, base_in, action_beside, base_of, member_of, field_of, owned, referent, is_text, type_of, stands_for}
-use Rattle.pst_scope.specs.Paths.{is_head, is_last, is_last_sort, is_head_sort, word_behind, member_behind, named_behind, is_handle_referent, is_need_referent}
+use Rattle.pst_scope.specs.Paths.{is_head, is_last, is_last_sort, is_head_sort, word_behind, member_behind, named_behind, is_handle_referent}
 use Rattle.pst_inherited.specs.Bases.{bases_within, fields_of, references_of, claims_of, handles_of, reference_number, claim_number, handle_number}
 use Rattle.pst_inherited.proofs.Declared.{base_there}
 use Rattle.pst_terms.specs.Sources.{Sources, declared_in}
@@ -30,7 +27,7 @@ use Rattle.pst_terms.specs.Readings.{Setting, is_inner_sort, nothing, map_readin
 use Rattle.pst_sound_expressions.specs.Blocks.{with_field, IsBlock}
 use Rattle.pst_sound_expressions.specs.Used.{IsGood}
 use Rattle.pst_sound_expressions.proofs.Members.{In, in_get, in_append}
-use Rattle.pst_sound_expressions.proofs.Owned.{IsMember, member_is, of_sort, field_found, both_true}
+use Rattle.pst_sound_expressions.proofs.Owned.{member_is, of_sort, field_found, both_true}
 use Rattle.pst_sound_expressions.proofs.FieldRows.{good_field, good_thing}
 use Rattle.pst_sound_expressions.proofs.Facts.{AreFacts}
 use Rattle.pst_sound_expressions.proofs.PathsRead.{IsPathOf, Alone, Behind, Twice}
@@ -301,8 +298,8 @@ module _ (s : Sources) where
           let d = of_handle h t.0 next n handle t.2 in
           subst (λ (b : Bool). IsGood Row (if b then map_reading (Through (handle_number (declared_in s) owner h)) (handle_reading s (type_of (declared_in s) h) (n ∷ []) r) else need_reading s owner h h.sort r)) (sym handle)
           (through h t.0 name e handle t.1 steady (n ∷ []) r
-              (subst (λ (x : Referent). IsGood (IsOwnRow t.0) (handle_reading s (Some t.0) (x ∷ []) r)) (sym d.2)
-              (need_of_member d.0 t.0 next d.1 after r (subst (λ (x : Referent). named_behind (declared_in s) s.names x after ≡ Some r) d.2 also))))
+          (subst (λ (x : Referent). IsGood (IsOwnRow t.0) (handle_reading s (Some t.0) (x ∷ []) r)) (sym d.2)
+          (need_of_member d.0 t.0 next d.1 after r (subst (λ (x : Referent). named_behind (declared_in s) s.names x after ≡ Some r) d.2 also))))
 
       -- ---- names and paths
 

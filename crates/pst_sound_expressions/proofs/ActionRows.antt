@@ -1,34 +1,31 @@
 -- What the slots of constraints of actions name in the model.
-use Rattle.std.proofs.Common.{◌≡◌, ◌⊎◌, ◌<◌, ◌≤◌, inl, inr, refl, sym, ap, subst, arith, ◌∙◌}
-use Rattle.std.specs.Prelude.{ℕ, zero, suc, ◌+◌, Bool, true, false, not, ◌&&◌, List, [], ◌∷◌, ◌++◌, map, length, slice_get, Option, Some, None, if◌then◌else◌, cond, option_and_then}
+use Rattle.std.proofs.Common.{◌≡◌, ◌<◌, refl, sym, ap, subst, arith, ◌∙◌}
+use Rattle.std.specs.Prelude.{ℕ, ◌+◌, Bool, true, false, not, List, [], ◌∷◌, ◌++◌, map, length, slice_get, Option, Some, None, if◌then◌else◌, cond, option_and_then}
 use Rattle.std.specs.Option.{IsSomeAnd, option_map_or, option_map}
 use Rattle.std.proofs.lemmas.Bool.{false≢true}
 use Rattle.std.proofs.lemmas.Option.{none-some, same_Some, slice_get-map, slice_get_within}
 use Rattle.pst_expr.specs.declared.ranges.Span.{Span}
-use Rattle.pst_model.specs.Limits.{most_elements}
 use Rattle.pst_model.specs.declared.object.ObjectKind.TheVariants.{State}
-use Rattle.pst_model.specs.ConstraintTree.{SlotTree, Own, Object, First, ClaimId, ClaimField, Through}
-use Rattle.pst_model.specs.ModelTree.{ContentTree, ActionTree, ObjectTree, ModelTree}
-use Rattle.pst_model.specs.SoundSlots.{IsOfKind, HasField, IsActionSlot, handles_of as model_handles, activity_of, handle_type, IsConstraintSlot}
-use Rattle.pst_model.specs.Traversals.{IsSteady}
+use Rattle.pst_model.specs.ConstraintTree.{SlotTree}
+use Rattle.pst_model.specs.SoundSlots.{IsOfKind, HasField, IsActionSlot}
 use Rattle.pst_scope.specs.declared.declaration.Declaration.{Declaration}
 use Rattle.pst_scope.specs.declared.declaration.Sort.{Sort}
 use Rattle.pst_scope.specs.declared.declaration.Sort.TheVariants as sort
-use Rattle.pst_scope.specs.Sorts.{is_action, is_object, is_field, is_state, is_reference, is_claim, is_handle, same_place}
+use Rattle.pst_scope.specs.Sorts.{is_action, is_object, is_field, is_reference, is_claim, is_handle, same_place}
 use Rattle.pst_scope.specs.Lookups.{if_sort, home, type_named, type_in, is_type_for, type_of}
 use Rattle.pst_type_rules.specs.Members.{those_that}
-use Rattle.pst_inherited.specs.Bases.{with_bases, members_that, fields_of, references_of, claims_of, handles_of, number_in, reference_number, claim_number, handle_number, action_number, object_number}
+use Rattle.pst_inherited.specs.Bases.{fields_of, references_of, claims_of, number_in, reference_number, claim_number, action_number, object_number}
 use Rattle.pst_tree.proofs.Declared.{type_there}
 use Rattle.pst_terms.specs.Sources.{Sources, declared_in}
 use Rattle.pst_terms.specs.Fields.{count_of, field_number_in, field_number}
-use Rattle.pst_elab_rules.specs.Types.{object_of, reference, claim, handle_types, kind_in, model_fields, model_object, model_objects, model_action, model_actions}
-use Rattle.pst_sound_expressions.specs.Blocks.{without_field, with_field, has_field, AreRows}
-use Rattle.pst_sound_expressions.proofs.Members.{In, in_get, to_left, to_filter}
-use Rattle.pst_sound_expressions.proofs.Owned.{HasOwnPlace, not_first, numbered, those_declared, member_declared}
-use Rattle.pst_sound_expressions.proofs.FieldRows.{fields_apart, within_model}
+use Rattle.pst_elab_rules.specs.Types.{object_of, reference, claim, model_fields, model_object, model_objects, model_action, model_actions}
+use Rattle.pst_sound_expressions.specs.Blocks.{with_field}
+use Rattle.pst_sound_expressions.proofs.Members.{In, in_get, to_filter}
+use Rattle.pst_sound_expressions.proofs.Owned.{not_first, numbered, those_declared, member_declared}
+use Rattle.pst_sound_expressions.proofs.FieldRows.{within_model}
 use Rattle.pst_sound_expressions.proofs.Facts.{AreFacts, own_place}
 use Rattle.pst_sound_expressions.proofs.ObjectReadings.{kind_state}
-use Rattle.pst_sound_expressions.proofs.ActionReadings.{IsOwnRow, OfField, OfReference, OfFirst, OfClaim, OfClaimField, IsActionRow, OfItself, OfHandle}
+use Rattle.pst_sound_expressions.proofs.ActionReadings.{IsOwnRow, OfField, OfReference, OfFirst, OfClaim, OfClaimField}
 
 -- ---- numbers in longer lists
 
@@ -181,15 +178,15 @@ module _ (s : Sources) (facts : AreFacts s) (domains : List (List Span)) where
     own_slot slot f n k (OfReference r t d there typed inside e a b) less =
         subst (λ (x : SlotTree). At x (f + k)) (sym e)
         (some_and (slice_get (map (reference ds) (references_of ds owner)) (reference_number ds owner r)) (reference ds r) (λ x. HasField (model_objects s domains) x.object (f + k)) (reference_numbered r there)
-            (has_field_of r t d f n k typed (reference_type r t there typed) inside a b less))
+        (has_field_of r t d f n k typed (reference_type r t there typed) inside a b less))
     own_slot slot f n k (OfFirst r t there typed is e a b) less =
         subst (λ (x : SlotTree). At x (f + k)) (sym e)
         (some_and (slice_get (map (reference ds) (references_of ds owner)) (reference_number ds owner r)) (reference ds r) (λ x. IsOfKind (model_objects s domains) State x.object) (reference_numbered r there)
-            (some_and (slice_get (model_objects s domains) (object_of ds r)) (model_object s domains t) (λ type. type.kind ≡ State)
-                (ap (slice_get (model_objects s domains)) (object_of_typed r t typed) ∙ object_numbered t (type_declared ds r t typed) (reference_type r t there typed)) (kind_state s t t.sort is)))
+        (some_and (slice_get (model_objects s domains) (object_of ds r)) (model_object s domains t) (λ type. type.kind ≡ State)
+        (ap (slice_get (model_objects s domains)) (object_of_typed r t typed) ∙ object_numbered t (type_declared ds r t typed) (reference_type r t there typed)) (kind_state s t t.sort is)))
     own_slot slot f n k (OfClaim c there e a b) less =
         subst (λ (x : SlotTree). At x (f + k)) (sym e) (slice_get_within (map (claim s.units ds) (claims_of ds owner)) (claim_number ds owner c) (claim s.units ds c) (claim_numbered c there))
     own_slot slot f n k (OfClaimField c t d there typed inside e a b) less =
         subst (λ (x : SlotTree). At x (f + k)) (sym e)
         (some_and (slice_get (map (claim s.units ds) (claims_of ds owner)) (claim_number ds owner c)) (claim s.units ds c) (λ x. HasField (model_objects s domains) x.object (f + k)) (claim_numbered c there)
-            (has_field_of c t d f n k typed (claim_type c t there typed) inside a b less))
+        (has_field_of c t d f n k typed (claim_type c t there typed) inside a b less))

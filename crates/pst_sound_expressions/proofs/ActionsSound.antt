@@ -1,20 +1,20 @@
 -- The constraints of action types have blocks of slots of the action.
-use Rattle.std.proofs.Common.{◌≡◌, ◌⊎◌, ◌<◌, inl, inr, refl, sym, ap, subst, ◌∙◌}
-use Rattle.std.specs.Prelude.{ℕ, ◌+◌, Bool, true, false, List, [], ◌∷◌, ◌++◌, map, length, get_or, slice_get, All, Option, Some, None, option_and_then}
-use Rattle.std.specs.List.{find, filter, flat_map, filter_map, Contains}
-use Rattle.std.specs.Option.{option_map_or, IsSomeAnd}
+use Rattle.std.proofs.Common.{◌≡◌, ◌<◌, inl, inr, refl, sym, ap, subst, ◌∙◌}
+use Rattle.std.specs.Prelude.{ℕ, ◌+◌, true, List, [], ◌∷◌, map, length, get_or, slice_get, All, Option, Some, None, option_and_then}
+use Rattle.std.specs.List.{flat_map, filter_map}
+use Rattle.std.specs.Option.{option_map_or}
 use Rattle.std.proofs.lemmas.List.Elements.{All-nil, All-map, All-append, Contains-get_or}
 use Rattle.std.proofs.lemmas.Option.{none-some, same_Some}
 use Rattle.pst_base.specs.declared.position.Place.{Place}
 use Rattle.pst_ast.specs.declared.leaf.Name.{Name}
-use Rattle.pst_ast.specs.ActivityTree.{ActivityTree as ActivityText, MakeActivity}
+use Rattle.pst_ast.specs.ActivityTree.{MakeActivity}
 use Rattle.pst_ast.specs.ExpressionTree.{PathTree, PathDotted, PathItem, PathLongItem}
 use Rattle.pst_ast.specs.ConstraintTree.{ConstraintDeclarationTree}
 use Rattle.pst_ast.specs.DeclarationTree.{UnitTree, ActionPartTree, ActionPartField, ActionPartReference, ActionPartClaim, ActionPartMembers, ActionPartConstraint, ActionPartActivity, ActionPartBody, ActionPartEmpty}
 use Rattle.pst_expr.specs.declared.ranges.Span.{Span}
-use Rattle.pst_model.specs.ConstraintTree.{SlotTree, ConstraintTree, Own, Object, First, ClaimId, ClaimField, Prev, IsFirst, Id, Index, Local, Through, Outer}
+use Rattle.pst_model.specs.ConstraintTree.{SlotTree, Own, Object, First, ClaimId, ClaimField, Prev, IsFirst, Id, Index, Local, Through, Outer}
 use Rattle.pst_model.specs.ActivityTree.{ActivityTree}
-use Rattle.pst_model.specs.ModelTree.{ContentTree, Atomic, Compound, ActionTree, ModelTree}
+use Rattle.pst_model.specs.ModelTree.{Atomic, Compound, ModelTree}
 use Rattle.pst_model.specs.SoundConstraint.{IsSoundConstraint}
 use Rattle.pst_model.specs.SoundSlots.{IsActionSlot, handle_type}
 use Rattle.pst_scope.specs.Breaches.{IsNone}
@@ -32,27 +32,25 @@ use Rattle.pst_scope.specs.Lookups.{type_of, stands_for}
 use Rattle.pst_scope.specs.NameRules.{item_by, Reaches, Loops, NameBreach, OfDeclaration}
 use Rattle.pst_scope.specs.Paths.{is_value, read_path}
 use Rattle.pst_scope.specs.Sorts.{is_action, is_handle, same_place}
-use Rattle.pst_scope.specs.Uses.{Use, Reads, Constrains, part_of, parts_of, path_uses, uses, action_part_uses, environment}
+use Rattle.pst_scope.specs.Uses.{Reads, Constrains, part_of, parts_of, path_uses, action_part_uses, environment}
 use Rattle.pst_type_rules.specs.Members.{those_that}
 use Rattle.pst_type_rules.specs.Sites.{DeclaredAction, actions, action_at}
 use Rattle.pst_type_rules.specs.TypeRules.{TypeBreach}
-use Rattle.pst_inherited.specs.Bases.{bases_within, with_bases, handles_of, handle_number, action_number}
+use Rattle.pst_inherited.specs.Bases.{with_bases, handles_of, handle_number, action_number}
 use Rattle.pst_inherited.specs.Contents.{Content, Activity, Body, content_of}
-use Rattle.pst_tree.specs.declared.key.PlaceKey.{PlaceKey}
 use Rattle.pst_terms.specs.Sources.{Sources, declared_in}
 use Rattle.pst_terms.specs.Terms.{Term, Number, Leaf, Prefix, Infix, Indexed}
 use Rattle.pst_terms.specs.Readings.{Setting, AtNumber, item_reading, owner_reading, checked_reading, reading_of}
 use Rattle.pst_terms.specs.Slots.{constraint_of}
 use Rattle.pst_elab_rules.specs.Constraints.{with_turn, declaration_terms}
 use Rattle.pst_elab_rules.specs.Model.{sources, model_by, IsModel}
-use Rattle.pst_elab_rules.specs.Types.{setting_of, constraint_in, own_constraints, handle_types, compound, content, model_objects, model_action, model_actions}
-use Rattle.pst_tree.specs.Instances.{parts_of as instance_parts}
+use Rattle.pst_elab_rules.specs.Types.{setting_of, constraint_in, own_constraints, handle_types, content, model_objects, model_action, model_actions}
 use Rattle.pst_ast.specs.declared.instance.Instance.{Instance}
 use Rattle.pst_sound_expressions.specs.Blocks.{with_field, IsBlock, HasBlocks}
 use Rattle.pst_sound_expressions.specs.Used.{IsGood, AllBlocks}
 use Rattle.pst_sound_expressions.specs.Conditions.{HaveOwnPlaces}
 use Rattle.pst_sound_expressions.specs.Laws.{IsNamedSlot, HasNamedConstraints}
-use Rattle.pst_sound_expressions.proofs.Members.{In, in_find, in_get, from_contains, to_contains}
+use Rattle.pst_sound_expressions.proofs.Members.{In, in_find, from_contains, to_contains}
 use Rattle.pst_sound_expressions.proofs.Owned.{numbered, those_declared, member_declared}
 use Rattle.pst_sound_expressions.proofs.TermsOf.{Each}
 use Rattle.pst_sound_expressions.proofs.SetTerms.{IsUsed, declarations_blocks}
@@ -63,7 +61,7 @@ use Rattle.pst_sound_expressions.proofs.FactsOf.{facts_of}
 use Rattle.pst_sound_expressions.proofs.ObjectReadings.{AreNumbers}
 use Rattle.pst_sound_expressions.proofs.Plain.{plain_reading, all_sound, in_filter_map, index_more, number_more}
 use Rattle.pst_sound_expressions.proofs.Walks.{IsActionAt, action_stands}
-use Rattle.pst_sound_expressions.proofs.ActionReadings.{IsOwnRow, IsActionRow, OfItself, OfHandle, bases_are_actions, action_path}
+use Rattle.pst_sound_expressions.proofs.ActionReadings.{IsActionRow, OfItself, OfHandle, bases_are_actions, action_path}
 use Rattle.pst_sound_expressions.proofs.ActionRows.{own_slot, action_numbered, some_and, got_map, handle_to, type_is_for, type_declared}
 use Rattle.pst_sound_expressions.proofs.RowsApart.{action_rows, row_derived}
 
@@ -85,7 +83,7 @@ module _ (Inner Outer : SlotTree → ℕ → ℕ → Type 0) (lift : (slot : Slo
 
 module _ (s : Sources) (facts : AreFacts s) (Steady : Declaration → Type 0) (base : Declaration) (there : In base (declared_in s)) (is : is_action base.sort ≡ true)
     (steady : (at : Environment) → at.owner ≡ OfAction base → at.traversal ≡ None → (p : PathPart) (ps : List PathPart) → IsUsed s.units Constrains at (Reads at p ps) → (h : Declaration) → stands_for (declared_in s) s.names at p.name.id ≡ Some (Declared h)
-        → is_handle h.sort ≡ true → Steady h) where
+    → is_handle h.sort ≡ true → Steady h) where
   record IsRight (setting : Setting) : Type 0 where
     numbers : AreNumbers setting.turns
     indices : AreIndices (declared_in s) setting.at
@@ -104,7 +102,7 @@ module _ (s : Sources) (facts : AreFacts s) (Steady : Declaration → Type 0) (b
       by (Is path) e =
           subst (IsGood (IsActionRow s Steady base)) (sym (plain_reading s setting (part_of first).name path right.plain ∙ ap (λ (o : Owner). owner_reading s setting o path) right.owner))
           (action_path s facts base there is Steady setting right.numbers right.indices right.owner right.plain (part_of first) path.before path.last (path_of (declared_in s) s.names setting.at (part_of first) (parts_of rest) path e)
-              (steady setting.at right.owner right.plain (part_of first) (parts_of rest) (all (Reads setting.at (part_of first) (parts_of rest)) (inl refl))))
+          (steady setting.at right.owner right.plain (part_of first) (parts_of rest) (all (Reads setting.at (part_of first) (parts_of rest)) (inl refl))))
       by (Breaks place rule) e = tt
   good setting right (PathItem enum colons item) all = good_item (item_by (declared_in s) setting.at.component None enum item)
   good setting right (PathLongItem component colons enum more_colons item) all = good_item (item_by (declared_in s) setting.at.component (Some component) enum item)
@@ -137,13 +135,13 @@ module _ (s : Sources) (facts : AreFacts s) (Steady : Declaration → Type 0) (b
   blocks_in a at same =
       declarations_blocks (IsActionRow s Steady base) s s.units (declared_in s) a.name.place IsRight (stays a.name.place) good (setting_of base (OfAction base)) first (filter_map constraint_in a.parts)
       (λ c here u has.
-          let part = in_filter_map constraint_in a.parts c here in
-          let e = is_constraint part.0 c part.2 in
-          at.used part.0 part.1 u (subst (λ (d : Declaration). In u (action_part_uses (environment d.inside (OfAction d)) part.0)) (sym same) (subst (λ (p : ActionPartTree). In u (action_part_uses (environment base.inside (OfAction base)) p)) (sym e) has)))
+      let part = in_filter_map constraint_in a.parts c here in
+      let e = is_constraint part.0 c part.2 in
+      at.used part.0 part.1 u (subst (λ (d : Declaration). In u (action_part_uses (environment d.inside (OfAction d)) part.0)) (sym same) (subst (λ (p : ActionPartTree). In u (action_part_uses (environment base.inside (OfAction base)) p)) (sym e) has)))
       (λ c here d has.
-          let part = in_filter_map constraint_in a.parts c here in
-          let e = is_constraint part.0 c part.2 in
-          at.declared part.0 part.1 d (subst (λ (p : ActionPartTree). In d (in_action_part a.name.place p)) (sym e) has))
+      let part = in_filter_map constraint_in a.parts c here in
+      let e = is_constraint part.0 c part.2 in
+      at.declared part.0 part.1 d (subst (λ (p : ActionPartTree). In d (in_action_part a.name.place p)) (sym e) has))
 
   -- where rows have a meaning, the constraints in the own text of the action are sound
   pub own_sound : (IsSlot : SlotTree → Type 0) → ((ts : List (Term SlotTree)) → AllBlocks (IsActionRow s Steady base) ts → All (IsSoundConstraint IsSlot) (map constraint_of ts)) → All (IsSoundConstraint IsSlot) (own_constraints s base)
@@ -197,7 +195,7 @@ module _ (s : Sources) (facts : AreFacts s) (domains : List (List Span)) (instan
       let action : is_action a.sort ≡ true = sym (handle_to h.sort a.sort declared.1) ∙ type_is_for (declared_in s) h a typed in
       ap (option_and_then (slice_get (model_actions s domains)))
       (got_map (λ h. option_map_or (action_number (declared_in s)) (type_of (declared_in s) h) 0) (handles_of (declared_in s) d) (handle_number (declared_in s) d h) h (numbered (handles_of (declared_in s) d) h here (own_place s facts is_handle d h here))
-          ∙ ap (λ (o : Option Declaration). Some (option_map_or (action_number (declared_in s)) o 0)) typed)
+      ∙ ap (λ (o : Option Declaration). Some (option_map_or (action_number (declared_in s)) o 0)) typed)
       ∙ action_numbered s facts domains a (type_declared (declared_in s) h a typed) action
 
   named_sound : (slot : SlotTree) (first count k : ℕ) → IsActionRow s Always d slot first count → k < count → IsNamedSlot model (handle_types (declared_in s) d) (model_action s domains d) (with_field slot (first + k))
@@ -205,7 +203,7 @@ module _ (s : Sources) (facts : AreFacts s) (domains : List (List Span)) (instan
   named_sound slot first count k (OfHandle h a inner here typed steady row e) less =
       subst (λ (x : SlotTree). IsNamedSlot model (handle_types (declared_in s) d) (model_action s domains d) (with_field x (first + k))) (sym e)
       (some_and (handle_type model (handle_types (declared_in s) d) (handle_number (declared_in s) d h)) (model_action s domains a) (λ traversed. IsActionSlot (model_objects s domains) traversed (with_field inner (first + k)))
-          (handle_numbered h a here typed) (own_slot s facts domains a inner first count k row less))
+      (handle_numbered h a here typed) (own_slot s facts domains a inner first count k row less))
 
   base_sound : (base : Declaration) → In base (with_bases (declared_in s) d) → All (IsSoundConstraint (IsNamedSlot model (handle_types (declared_in s) d) (model_action s domains d))) (own_constraints s base)
   unfolding with_bases
@@ -213,8 +211,8 @@ module _ (s : Sources) (facts : AreFacts s) (domains : List (List Span)) (instan
       let b = bases_are_actions (declared_in s) (length (declared_in s)) d base there is has in
       own_sound s facts Always base b.0 b.1 (λ at o t p ps u h e k. tt) (IsNamedSlot model (handle_types (declared_in s) d) (model_action s domains d))
       (λ ts blocks. all_sound (IsNamedSlot model (handle_types (declared_in s) d) (model_action s domains d)) (IsActionRow s Always d)
-          (action_rows s facts Always d (IsNamedSlot model (handle_types (declared_in s) d) (model_action s domains d)) named_sound) ts
-          (all_lift (IsActionRow s Always base) (IsActionRow s Always d) (row_derived s facts never d base there has Always) ts blocks))
+      (action_rows s facts Always d (IsNamedSlot model (handle_types (declared_in s) d) (model_action s domains d)) named_sound) ts
+      (all_lift (IsActionRow s Always base) (IsActionRow s Always d) (row_derived s facts never d base there has Always) ts blocks))
 
   its_handles : (o : Option Content) (activity : ActivityTree) → content s d o ≡ Compound activity → activity.handles ≡ handle_types (declared_in s) d
   its_handles None activity e = absurd (no_compound _ activity e)
@@ -239,6 +237,6 @@ actions_named units names model own right kept is =
     subst (λ (m : ModelTree). All (HasNamedConstraints m) m.actions) (sym is.is)
     (All-map (HasNamedConstraints (model_by s is.domains is.instances)) (model_action s is.domains) (those_that is_action (declared_in s))
     (λ k d within. let c = Contains-get_or (those_that is_action (declared_in s)) k d within in
-        let there = from_contains (those_that is_action (declared_in s)) (get_or (those_that is_action (declared_in s)) k d) c.0 c.1 c.2 in
-        let both = those_declared is_action (declared_in s) (get_or (those_that is_action (declared_in s)) k d) there in
-        action_named s facts is.domains is.instances (no_loops units names right) (get_or (those_that is_action (declared_in s)) k d) both.0 both.1))
+    let there = from_contains (those_that is_action (declared_in s)) (get_or (those_that is_action (declared_in s)) k d) c.0 c.1 c.2 in
+    let both = those_declared is_action (declared_in s) (get_or (those_that is_action (declared_in s)) k d) there in
+    action_named s facts is.domains is.instances (no_loops units names right) (get_or (those_that is_action (declared_in s)) k d) both.0 both.1))

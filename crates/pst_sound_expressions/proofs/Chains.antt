@@ -1,6 +1,6 @@
 -- Chains of bases end where no rule of names is broken.
 use Rattle.std.proofs.Common.{◌≡◌, ◌⊎◌, ◌<◌, ◌≤◌, inl, inr, refl, sym, subst, ap, arith, ◌∙◌, true≢false, append_assoc}
-use Rattle.std.specs.Prelude.{ℕ, zero, suc, ◌+◌, nat_eq, Bool, true, false, ◌||◌, List, [], ◌∷◌, ◌++◌, length, slice_get, Option, Some, None, if◌then◌else◌}
+use Rattle.std.specs.Prelude.{ℕ, zero, suc, ◌+◌, nat_eq, Bool, true, false, ◌||◌, List, [], ◌∷◌, ◌++◌, length, slice_get, Option, Some, None}
 use Rattle.std.specs.List.{list_any, flat_map, IsDistinct, AllByRecursion}
 use Rattle.std.specs.Option.{option_map_or}
 use Rattle.std.proofs.lemmas.Bool.{eqb-true, eq-eqb}
@@ -8,7 +8,7 @@ use Rattle.std.proofs.lemmas.List.{append-nil}
 use Rattle.std.proofs.lemmas.List.Elements.{filter-append}
 use Rattle.std.proofs.lemmas.Grind.{flat_map-append}
 use Rattle.std.proofs.lemmas.Map.Steps.{length-le_from_distinct_below}
-use Rattle.std.proofs.lemmas.Option.{slice_get_within, get_or_from_slice_get, none-some, same_Some}
+use Rattle.std.proofs.lemmas.Option.{slice_get_within, none-some, same_Some}
 use Rattle.pst_scope.specs.declared.declaration.Declaration.{Declaration}
 use Rattle.pst_scope.specs.declared.declaration.Sort.{Sort}
 use Rattle.pst_scope.specs.Lookups.{base_of}
@@ -158,7 +158,8 @@ module _ (ds : List Declaration) (never : (d : Declaration) → In d ds → Reac
 
   pub members_first : (test : Sort → Bool) (d base : Declaration) → In d ds → In base (with_bases ds d) → (more : List Declaration) × (members_that test ds d ≡ members_that test ds base ++ more)
   members_first test d base there has =
-      let c = come_first (length ds) d (ends d there) there base has in
-      (those_that test (flat_map (own_members ds) c.rest),
-       ap (λ (xs : List Declaration). those_that test (flat_map (own_members ds) xs)) c.is
-       ∙ (ap (those_that test) (flat_map-append (own_members ds) (with_bases ds base) c.rest) ∙ filter-append (λ x. test x.sort) (members ds base) (flat_map (own_members ds) c.rest)))
+      let c = come_first (length ds) d (ends d there) there base has in (
+        those_that test (flat_map (own_members ds) c.rest),
+        ap (λ (xs : List Declaration). those_that test (flat_map (own_members ds) xs)) c.is
+            ∙ (ap (those_that test) (flat_map-append (own_members ds) (with_bases ds base) c.rest) ∙ filter-append (λ x. test x.sort) (members ds base) (flat_map (own_members ds) c.rest)),
+      )

@@ -1,29 +1,27 @@
 -- Constants within their limits.
-use Rattle.std.proofs.Common.{◌≡◌, ◌≢◌, ◌⊎◌, ◌<◌, ◌≤◌, inl, inr, refl, sym, ap, subst, arith, ◌∙◌}
-use Rattle.std.specs.Prelude.{ℕ, Bool, true, false, nat_eq, nat_lt, ◌&&◌, ℤ, pos, negsuc, unsigned_abs, List, [], ◌∷◌, Option, Some, None, cond, IsTrue}
+use Rattle.std.proofs.Common.{◌≡◌, ◌⊎◌, ◌<◌, ◌≤◌, inl, inr, refl, sym, ap, arith, ◌∙◌}
+use Rattle.std.specs.Prelude.{ℕ, Bool, true, false, nat_eq, ◌&&◌, ℤ, pos, unsigned_abs, List, [], ◌∷◌, Option, Some, cond, IsTrue}
 use Rattle.std.specs.List.{find, Contains}
-use Rattle.std.specs.Option.{option_map, option_map_or, option_and_then}
+use Rattle.std.specs.Option.{option_map, option_map_or}
 use Rattle.std.proofs.lemmas.Bool.{false≢true, eqb-true, eq-eqb, cases_lt}
 use Rattle.std.proofs.lemmas.Int.{ints}
 use Rattle.pst_base.specs.declared.position.Place.{Place}
 use Rattle.pst_base.specs.Places.{IsBefore}
 use Rattle.pst_ast.specs.ExpressionTree.{ExprTree}
 use Rattle.pst_ast.specs.DeclarationTree.{UnitTree}
-use Rattle.pst_expr.specs.declared.ranges.Span.{Span}
 use Rattle.pst_expr.specs.Spans.{IsInSpan}
 use Rattle.pst_scope.specs.Breaches.{IsNone}
-use Rattle.pst_scope.specs.declared.declaration.Declaration.{Declaration}
 use Rattle.pst_scope.specs.declared.environment.Environment.{Environment}
 use Rattle.pst_scope.specs.Sorts.{same_place}
-use Rattle.pst_scope.specs.Uses.{Use, Judges, Role, uses}
+use Rattle.pst_scope.specs.Uses.{Judges, Role, uses}
 use Rattle.pst_constants.specs.Constants.{IsConstant}
 use Rattle.pst_constants.specs.Domains.{span}
 use Rattle.pst_type_rules.specs.declared.typed.ConstantValue.{ConstantValue}
 use Rattle.pst_type_rules.specs.Places.{expr_place}
 use Rattle.pst_type_rules.specs.Limits.{limits_of}
 use Rattle.pst_type_rules.specs.TypeRules.{is_constant, TypeBreach, OfUse, NotConstant, ValueOutside}
-use Rattle.pst_type_rules.specs.Typed.{AreInOrder, IsConstantOf, AreConstants}
-use Rattle.pst_terms.specs.Sources.{Sources, value_of, amount_of}
+use Rattle.pst_type_rules.specs.Typed.{AreInOrder, AreConstants}
+use Rattle.pst_terms.specs.Sources.{value_of, amount_of}
 use Rattle.pst_elab_rules.specs.Model.{sources}
 use Rattle.pst_sound_expressions.proofs.Members.{In, to_contains, from_contains}
 use Rattle.pst_sound_expressions.proofs.Owned.{both_true, and_true}

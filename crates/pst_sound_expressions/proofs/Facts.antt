@@ -1,6 +1,6 @@
 -- What is used of the sources.
-use Rattle.std.proofs.Common.{◌≡◌, ◌≤◌, refl, sym, ap}
-use Rattle.std.specs.Prelude.{ℕ, Bool, true, false, List, Option, Some, None}
+use Rattle.std.proofs.Common.{◌≡◌, ◌≤◌}
+use Rattle.std.specs.Prelude.{Bool, true, false}
 use Rattle.pst_model.specs.Limits.{most_elements}
 use Rattle.pst_scope.specs.declared.declaration.Declaration.{Declaration}
 use Rattle.pst_scope.specs.declared.declaration.Scope.TheVariants.{Part}

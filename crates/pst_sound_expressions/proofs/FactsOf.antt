@@ -1,7 +1,6 @@
 -- The facts that are used hold of sources that keep the rules.
-use Rattle.std.proofs.Common.{◌≡◌, ◌≤◌, inl, inr, refl, sym, ap, subst, arith, ◌∙◌}
-use Rattle.std.specs.Prelude.{ℕ, Bool, true, false, List, Option, Some, None}
-use Rattle.std.specs.List.{find, Contains}
+use Rattle.std.proofs.Common.{◌≡◌, ◌≤◌, refl, ap, arith}
+use Rattle.std.specs.Prelude.{ℕ, true, List, Option, Some, None}
 use Rattle.std.specs.Option.{option_map, option_and_then}
 use Rattle.std.proofs.lemmas.Bool.{false≢true}
 use Rattle.pst_base.specs.declared.position.Place.{Place}
@@ -13,15 +12,14 @@ use Rattle.pst_scope.specs.declared.declaration.Declaration.{Declaration}
 use Rattle.pst_scope.specs.declared.declaration.Scope.{Scope}
 use Rattle.pst_scope.specs.declared.declaration.Scope.TheVariants.{Files, Part}
 use Rattle.pst_scope.specs.Declarations.{declarations}
-use Rattle.pst_scope.specs.Sorts.{same_place, same_scope, is_field}
+use Rattle.pst_scope.specs.Sorts.{same_place, same_scope}
 use Rattle.pst_scope.specs.Uses.{ArraySize}
 use Rattle.pst_type_rules.specs.declared.typed.ConstantValue.{ConstantValue}
 use Rattle.pst_type_rules.specs.Sites.{DeclaredField, fields, field_at}
 use Rattle.pst_type_rules.specs.TypeRules.{TypeBreach}
 use Rattle.pst_type_rules.specs.Typed.{AreConstants}
 use Rattle.pst_terms.specs.Sources.{amount_of}
-use Rattle.pst_terms.specs.Fields.{elements_in, size_of, count_of}
-use Rattle.pst_terms.specs.Readings.{is_inner_sort}
+use Rattle.pst_terms.specs.Fields.{elements_in, count_of}
 use Rattle.pst_elab_rules.specs.Model.{sources}
 use Rattle.pst_sound_expressions.specs.Conditions.{HaveOwnPlaces}
 use Rattle.pst_sound_expressions.proofs.Members.{In, in_find, to_contains}

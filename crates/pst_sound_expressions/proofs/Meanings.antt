@@ -1,7 +1,6 @@
 -- What a name in an expression that is no inline constraint stands for.
-use Rattle.std.proofs.Common.{◌≡◌, ◌⊎◌, inl, inr, refl, sym, ap, subst, ◌∙◌}
-use Rattle.std.specs.Prelude.{ℕ, Bool, true, false, ◌&&◌, List, [], ◌∷◌, codes, Option, Some, None, if◌then◌else◌}
-use Rattle.std.specs.List.{find}
+use Rattle.std.proofs.Common.{◌≡◌, refl, sym, ap, subst, ◌∙◌}
+use Rattle.std.specs.Prelude.{ℕ, Bool, true, false, ◌&&◌, List, codes, Option, Some, None, if◌then◌else◌}
 use Rattle.std.specs.Option.{option_or, option_and_then}
 use Rattle.std.proofs.lemmas.Bool.{false≢true}
 use Rattle.std.proofs.lemmas.Option.{none-some, same_Some}
@@ -14,14 +13,13 @@ use Rattle.pst_scope.specs.declared.declaration.Scope.TheVariants.{Files, Part}
 use Rattle.pst_scope.specs.declared.declaration.Sort.{Sort}
 use Rattle.pst_scope.specs.declared.declaration.Sort.TheVariants as sort
 use Rattle.pst_scope.specs.declared.environment.Environment.{Environment}
-use Rattle.pst_scope.specs.declared.referent.Owner.{Owner}
-use Rattle.pst_scope.specs.declared.referent.Owner.TheVariants.{Nobody, OfAction, OfObject}
+use Rattle.pst_scope.specs.declared.referent.Owner.TheVariants.{OfObject}
 use Rattle.pst_scope.specs.declared.referent.Traversal.{Traversal}
 use Rattle.pst_scope.specs.declared.referent.Referent.{Referent}
 use Rattle.pst_scope.specs.declared.referent.Referent.TheVariants.{Declared, Initial, Previous, Number}
 use Rattle.pst_scope.specs.Inner.{inner_named}
 use Rattle.pst_scope.specs.Sorts.{same_name, is_state, is_resource, is_field}
-use Rattle.pst_scope.specs.Lookups.{declared_at, item_at, is_item_at, item_here, referent, is_text, word_in, field_of, owned, value_behind, value_named, member_of, traversed, traversed_member, stands_for}
+use Rattle.pst_scope.specs.Lookups.{declared_at, item_at, is_item_at, item_here, referent, is_text, word_in, field_of, owned, value_behind, value_named, member_of, traversed, stands_for}
 use Rattle.pst_inherited.specs.Bases.{fields_of}
 use Rattle.pst_terms.specs.Readings.{is_inner_sort}
 use Rattle.pst_sound_expressions.proofs.Members.{In, in_find}

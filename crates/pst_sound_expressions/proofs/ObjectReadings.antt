@@ -1,44 +1,38 @@
 -- Paths in the constraints of objects.
-use Rattle.std.proofs.Common.{◌≡◌, ◌⊎◌, ◌<◌, ◌≤◌, inl, inr, refl, sym, ap, subst, arith, ◌∙◌}
-use Rattle.std.specs.Prelude.{ℕ, zero, suc, ◌+◌, Bool, true, false, List, [], ◌∷◌, length, Option, Some, None}
+use Rattle.std.proofs.Common.{◌≡◌, ◌⊎◌, ◌<◌, ◌≤◌, inl, refl, sym, ap, subst, arith, ◌∙◌}
+use Rattle.std.specs.Prelude.{ℕ, ◌+◌, true, false, List, [], length, Option, Some, None}
 use Rattle.std.specs.List.{find}
-use Rattle.std.specs.Option.{option_and_then}
 use Rattle.std.proofs.lemmas.Bool.{false≢true}
 use Rattle.std.proofs.lemmas.Option.{none-some, same_Some}
 use Rattle.pst_base.specs.declared.position.Place.{Place}
 use Rattle.pst_base.specs.declared.table.NameId.{NameId}
-use Rattle.pst_ast.specs.declared.declaration.ObjectWord.{ObjectWord}
 use Rattle.pst_ast.specs.declared.declaration.ObjectWord.TheVariants as word
 use Rattle.pst_expr.specs.declared.ranges.Span.{Span}
 use Rattle.pst_model.specs.Limits.{most_elements}
-use Rattle.pst_model.specs.declared.object.ObjectKind.{ObjectKind}
 use Rattle.pst_model.specs.declared.object.ObjectKind.TheVariants.{State, Resource}
 use Rattle.pst_model.specs.ConstraintTree.{SlotTree, Own, Prev, IsFirst, Id}
-use Rattle.pst_model.specs.ModelTree.{ObjectTree}
 use Rattle.pst_model.specs.SoundSlots.{IsObjectSlot}
 use Rattle.pst_scope.specs.declared.declaration.Declaration.{Declaration}
 use Rattle.pst_scope.specs.declared.declaration.Scope.{Scope}
 use Rattle.pst_scope.specs.declared.declaration.Sort.{Sort}
 use Rattle.pst_scope.specs.declared.declaration.Sort.TheVariants as sort
-use Rattle.pst_scope.specs.declared.environment.Environment.{Environment}
 use Rattle.pst_scope.specs.declared.referent.Owner.{Owner}
-use Rattle.pst_scope.specs.declared.referent.Owner.TheVariants.{OfAction, OfObject}
+use Rattle.pst_scope.specs.declared.referent.Owner.TheVariants.{OfObject}
 use Rattle.pst_scope.specs.declared.referent.Referent.{Referent}
 use Rattle.pst_scope.specs.declared.referent.Referent.TheVariants.{Declared, Initial, Previous, Number}
 use Rattle.pst_scope.specs.declared.referent.PathPart.{PathPart}
-use Rattle.pst_scope.specs.Sorts.{is_field, is_state, is_resource, is_need, is_handle, same_place}
+use Rattle.pst_scope.specs.Sorts.{is_field, is_state, is_resource, is_handle, same_place}
 use Rattle.pst_scope.specs.Lookups.{field_of, owned, referent}
-use Rattle.pst_scope.specs.Paths.{is_head, is_last, is_head_sort, named_behind, is_handle_referent, is_need_referent}
+use Rattle.pst_scope.specs.Paths.{is_head, is_head_sort, named_behind, is_handle_referent}
 use Rattle.pst_inherited.specs.Bases.{fields_of}
 use Rattle.pst_terms.specs.Sources.{Sources, declared_in}
 use Rattle.pst_terms.specs.Fields.{count_of, field_number}
-use Rattle.pst_terms.specs.Terms.{Reading, ANumber, AThing, AnArray}
-use Rattle.pst_terms.specs.Readings.{Turn, AtLevel, AtNumber, Setting, is_inner_sort, field_reading, declared_reading, turn_reading, name_reading, behind_reading, own_reading}
+use Rattle.pst_terms.specs.Readings.{Turn, AtNumber, Setting, is_inner_sort, declared_reading, turn_reading, name_reading, behind_reading, own_reading}
 use Rattle.pst_elab_rules.specs.Types.{kind_in, model_object, model_fields}
 use Rattle.pst_sound_expressions.specs.Blocks.{without_field, with_field, has_field, AreRows}
 use Rattle.pst_sound_expressions.specs.Used.{IsGood}
 use Rattle.pst_sound_expressions.proofs.Members.{In, in_find}
-use Rattle.pst_sound_expressions.proofs.Owned.{HasOwnPlace, field_found, member_declared}
+use Rattle.pst_sound_expressions.proofs.Owned.{field_found, member_declared}
 use Rattle.pst_sound_expressions.proofs.FieldRows.{fields_apart, within_model, good_field, good_thing}
 use Rattle.pst_sound_expressions.proofs.Facts.{AreFacts, own_place}
 use Rattle.pst_sound_expressions.proofs.PathsRead.{IsPathOf, Alone, Behind, Twice}

@@ -1,7 +1,7 @@
 -- The constraints of object types are sound.
-use Rattle.std.proofs.Common.{◌≡◌, ◌⊎◌, inl, inr, refl, sym, ap, subst, ◌∙◌}
-use Rattle.std.specs.Prelude.{ℕ, Bool, true, false, List, [], ◌∷◌, map, length, get_or, All, Option, Some, None}
-use Rattle.std.specs.List.{find, filter, flat_map, filter_map, Contains}
+use Rattle.std.proofs.Common.{◌≡◌, refl, sym, ap, subst, ◌∙◌}
+use Rattle.std.specs.Prelude.{ℕ, List, [], map, get_or, All, Option, Some, None}
+use Rattle.std.specs.List.{flat_map, filter_map}
 use Rattle.std.specs.Option.{option_map_or}
 use Rattle.std.proofs.lemmas.List.Elements.{All-nil, All-map, Contains-get_or}
 use Rattle.std.proofs.lemmas.Option.{none-some, same_Some}
@@ -19,7 +19,7 @@ use Rattle.pst_scope.specs.Breaches.{IsNone}
 use Rattle.pst_scope.specs.declared.declaration.Declaration.{Declaration}
 use Rattle.pst_scope.specs.declared.declaration.Sort.TheVariants as sort
 use Rattle.pst_scope.specs.declared.referent.Owner.{Owner}
-use Rattle.pst_scope.specs.declared.referent.Owner.TheVariants.{OfAction, OfObject}
+use Rattle.pst_scope.specs.declared.referent.Owner.TheVariants.{OfObject}
 use Rattle.pst_scope.specs.declared.referent.PathReferent.{PathReferent}
 use Rattle.pst_scope.specs.declared.referent.Checked.{Checked}
 use Rattle.pst_scope.specs.declared.referent.Checked.TheVariants.{Is, Breaks}
@@ -27,23 +27,22 @@ use Rattle.pst_scope.specs.Declarations.{type_declared, index, in_object_part, d
 use Rattle.pst_scope.specs.NameRules.{item_by}
 use Rattle.pst_scope.specs.Paths.{is_value, read_path}
 use Rattle.pst_scope.specs.Sorts.{is_object, same_place}
-use Rattle.pst_scope.specs.Uses.{Use, Constrains, part_of, parts_of, path_uses, uses, object_part_uses, environment}
+use Rattle.pst_scope.specs.Uses.{Constrains, part_of, parts_of, path_uses, object_part_uses, environment}
 use Rattle.pst_type_rules.specs.Members.{those_that}
 use Rattle.pst_type_rules.specs.Sites.{items_of}
 use Rattle.pst_type_rules.specs.TypeRules.{TypeBreach}
 use Rattle.pst_terms.specs.Sources.{Sources, declared_in}
-use Rattle.pst_terms.specs.Readings.{Setting, AtNumber, item_reading, own_reading, owner_reading, checked_reading, reading_of}
+use Rattle.pst_terms.specs.Readings.{Setting, AtNumber, item_reading, owner_reading, checked_reading, reading_of}
 use Rattle.pst_terms.specs.Slots.{constraint_of}
 use Rattle.pst_elab_rules.specs.Constraints.{with_turn, declaration_terms}
-use Rattle.pst_elab_rules.specs.Model.{sources, model_by, IsModel}
-use Rattle.pst_elab_rules.specs.Types.{DeclaredObject, setting_of, objects_in_item, object_at, object_constraint_in, object_constraints, model_object, model_objects}
-use Rattle.pst_sound_expressions.specs.Blocks.{HasBlocks}
-use Rattle.pst_sound_expressions.specs.Used.{IsGood, AllBlocks}
+use Rattle.pst_elab_rules.specs.Model.{sources, IsModel}
+use Rattle.pst_elab_rules.specs.Types.{DeclaredObject, setting_of, objects_in_item, object_at, object_constraint_in, object_constraints, model_object}
+use Rattle.pst_sound_expressions.specs.Used.{IsGood}
 use Rattle.pst_sound_expressions.specs.Conditions.{HaveOwnPlaces}
 use Rattle.pst_sound_expressions.proofs.Members.{In, in_find, from_contains}
 use Rattle.pst_sound_expressions.proofs.Owned.{those_declared}
 use Rattle.pst_sound_expressions.proofs.TermsOf.{Each}
-use Rattle.pst_sound_expressions.proofs.SetTerms.{IsUsed, AreUses, AreDeclared, declarations_blocks}
+use Rattle.pst_sound_expressions.proofs.SetTerms.{IsUsed, declarations_blocks}
 use Rattle.pst_sound_expressions.proofs.PathsRead.{path_of}
 use Rattle.pst_sound_expressions.proofs.Meanings.{AreIndices}
 use Rattle.pst_sound_expressions.proofs.Facts.{AreFacts}

@@ -1,9 +1,8 @@
 -- Expressions that are no inline constraints.
-use Rattle.std.proofs.Common.{◌≡◌, ◌⊎◌, inl, inr, refl, sym, ap, subst, ◌∙◌}
-use Rattle.std.specs.Prelude.{ℕ, Bool, true, false, List, [], ◌∷◌, map, All, Option, Some, None}
-use Rattle.std.specs.List.{find, filter_map, cons_option}
+use Rattle.std.proofs.Common.{◌≡◌, inl, inr, refl, sym, ap, ◌∙◌}
+use Rattle.std.specs.Prelude.{ℕ, true, List, [], ◌∷◌, map, All, Option, Some, None}
+use Rattle.std.specs.List.{filter_map, cons_option}
 use Rattle.std.proofs.lemmas.List.Elements.{All-cons, All-nil}
-use Rattle.std.proofs.lemmas.Option.{none-some, same_Some}
 use Rattle.pst_base.specs.declared.position.Place.{Place}
 use Rattle.pst_ast.specs.declared.leaf.Name.{Name}
 use Rattle.pst_model.specs.ConstraintTree.{SlotTree}
@@ -17,11 +16,10 @@ use Rattle.pst_scope.specs.Declarations.{index}
 use Rattle.pst_scope.specs.Sorts.{same_place}
 use Rattle.pst_scope.specs.Lookups.{declared_at}
 use Rattle.pst_terms.specs.Sources.{Sources, declared_in}
-use Rattle.pst_terms.specs.Terms.{Term, Reading}
+use Rattle.pst_terms.specs.Terms.{Term}
 use Rattle.pst_terms.specs.Slots.{constraint_of}
 use Rattle.pst_terms.specs.Readings.{Setting, Turn, AtNumber, owner_reading, traversed_with, path_reading}
-use Rattle.pst_elab_rules.specs.Constraints.{with_turn}
-use Rattle.pst_sound_expressions.specs.Blocks.{HasBlocks, AreRows}
+use Rattle.pst_sound_expressions.specs.Blocks.{AreRows}
 use Rattle.pst_sound_expressions.specs.Used.{AllBlocks}
 use Rattle.pst_sound_expressions.proofs.Members.{In, in_find}
 use Rattle.pst_sound_expressions.proofs.TermSound.{term_is_sound}

@@ -1,16 +1,16 @@
 -- Rows of slots of actions have no slot in common, and are the same in derived actions.
 use Rattle.std.proofs.Common.{◌≡◌, ◌⊎◌, ◌<◌, ◌≤◌, inl, inr, refl, sym, ap, subst, arith, ◌∙◌}
-use Rattle.std.specs.Prelude.{ℕ, zero, suc, ◌+◌, Bool, true, false, List, [], ◌∷◌, ◌++◌, map, length, slice_get, Option, Some, None}
+use Rattle.std.specs.Prelude.{ℕ, ◌+◌, Bool, false, List, slice_get, Some}
 use Rattle.std.proofs.lemmas.Bool.{false≢true}
-use Rattle.std.proofs.lemmas.Option.{none-some, same_Some}
+use Rattle.std.proofs.lemmas.Option.{same_Some}
 use Rattle.pst_model.specs.Limits.{most_elements}
-use Rattle.pst_model.specs.ConstraintTree.{SlotTree, Own, Object, First, ClaimId, ClaimField, Through}
+use Rattle.pst_model.specs.ConstraintTree.{SlotTree, Object, First, ClaimId, ClaimField, Through}
 use Rattle.pst_scope.specs.declared.declaration.Declaration.{Declaration}
 use Rattle.pst_scope.specs.declared.declaration.Sort.{Sort}
 use Rattle.pst_scope.specs.Sorts.{is_field, is_reference, is_claim, is_handle}
 use Rattle.pst_scope.specs.Lookups.{type_of}
 use Rattle.pst_scope.specs.NameRules.{Reaches}
-use Rattle.pst_inherited.specs.Bases.{with_bases, members_that, fields_of, references_of, claims_of, handles_of, number_in, reference_number, claim_number, handle_number}
+use Rattle.pst_inherited.specs.Bases.{with_bases, members_that, fields_of, number_in, reference_number, claim_number, handle_number}
 use Rattle.pst_terms.specs.Sources.{Sources, declared_in}
 use Rattle.pst_terms.specs.Fields.{count_of, field_number_in, field_number}
 use Rattle.pst_sound_expressions.specs.Blocks.{without_field, with_field, has_field, AreRows}
@@ -145,7 +145,12 @@ module _ (s : Sources) (facts : AreFacts s) where
 
     pub action_rows : (IsSlot : SlotTree → Type 0) → ((slot : SlotTree) (first count k : ℕ) → Row slot first count → k < count → IsSlot (with_field slot (first + k))) → AreRows IsSlot Row
     action_rows IsSlot sound = record {
-      bare = rows_bare; alone = rows_alone; least = λ slot f n row. (rows_few slot f n row).0; most = λ slot f n row. (rows_few slot f n row).1; apart = rows_apart; sound = sound;
+      bare = rows_bare;
+      alone = rows_alone;
+      least = λ slot f n row. (rows_few slot f n row).0;
+      most = λ slot f n row. (rows_few slot f n row).1;
+      apart = rows_apart;
+      sound = sound;
     }
 
   -- ---- derived actions

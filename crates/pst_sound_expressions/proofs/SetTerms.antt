@@ -1,5 +1,5 @@
 -- The terms of constraints whose paths stand for numbers and blocks.
-use Rattle.std.proofs.Common.{◌≡◌, inl, inr, refl, sym, subst}
+use Rattle.std.proofs.Common.{inl, inr, refl}
 use Rattle.std.specs.Prelude.{ℕ, zero, suc, ◌+◌, List, [], ◌∷◌, ◌++◌, map}
 use Rattle.std.specs.List.{flat_map}
 use Rattle.pst_base.specs.declared.position.Place.{Place}
@@ -7,7 +7,7 @@ use Rattle.pst_ast.specs.declared.leaf.Name.{Name}
 use Rattle.pst_scope.specs.declared.declaration.Declaration.{Declaration}
 use Rattle.pst_scope.specs.Declarations.{index, in_set, in_item, in_item_row, in_constraint}
 use Rattle.pst_ast.specs.ExpressionTree.{ExprTree, PathTree}
-use Rattle.pst_ast.specs.SharedTree.{NextExprTree, MakeNextExpr}
+use Rattle.pst_ast.specs.SharedTree.{NextExprTree}
 use Rattle.pst_ast.specs.ConstraintTree.{ConstraintTree, ConstraintOne, ConstraintBlock, ConstraintItemTree, ConstraintItemEmpty, ConstraintItemExpr, ConstraintItemImplies, ConstraintItemIf, ConstraintItemIfElse, ConstraintItemUnique, ConstraintItemForeach, ConstraintItemRow, NoConstraintItemRow, MoreConstraintItemRow, ConstraintDeclarationTree, MakeConstraintDeclaration, ConstraintContentNamed, ConstraintContentSet}
 use Rattle.pst_ast.specs.DeclarationTree.{UnitTree}
 use Rattle.pst_expr.specs.declared.tree.UnaryOp.TheVariants.{Not}
@@ -15,16 +15,16 @@ use Rattle.pst_expr.specs.declared.tree.BinaryOp.{BinaryOp}
 use Rattle.pst_expr.specs.declared.tree.BinaryOp.TheVariants.{NotEqual, Implies}
 use Rattle.pst_model.specs.ConstraintTree.{SlotTree}
 use Rattle.pst_scope.specs.declared.environment.Environment.{Environment}
-use Rattle.pst_scope.specs.Uses.{Use, Judges, Repeats, Uniques, Role, Constrains, expr_uses, path_uses, uses, whole_uses, next_expr, next_expr_uses, with_inner, plain_part, set_uses, item_uses, item_row_uses, constraint_uses}
+use Rattle.pst_scope.specs.Uses.{Use, Judges, Role, Constrains, expr_uses, path_uses, uses, whole_uses, next_expr, next_expr_uses, set_uses, item_uses, item_row_uses, constraint_uses}
 use Rattle.pst_terms.specs.Fields.{counted}
 use Rattle.pst_terms.specs.Sources.{Sources}
 use Rattle.pst_terms.specs.Terms.{Term, Prefix, Infix}
 use Rattle.pst_terms.specs.Readings.{Setting, AtNumber, reading_of, expr_term}
-use Rattle.pst_elab_rules.specs.Constraints.{with_turn, pairs, implied, for_each, turns_of, set_terms, item_terms, item_row_terms, declaration_terms}
+use Rattle.pst_elab_rules.specs.Constraints.{with_turn, pairs, implied, turns_of, set_terms, item_terms, item_row_terms, declaration_terms}
 use Rattle.pst_sound_expressions.specs.Blocks.{HasBlocks}
 use Rattle.pst_sound_expressions.specs.Used.{IsGood, AllBlocks}
 use Rattle.pst_sound_expressions.proofs.Members.{In, to_left, to_right}
-use Rattle.pst_sound_expressions.proofs.TermsOf.{Each, each_left, each_right, each_more, term_blocks}
+use Rattle.pst_sound_expressions.proofs.TermsOf.{Each, each_left, each_right, term_blocks}
 
 -- a use in an expression of the sources as a whole
 pub record IsUsed (units : List UnitTree) (role : Role) (at : Environment) (u : Use) : Type 0 where

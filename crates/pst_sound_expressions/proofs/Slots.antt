@@ -1,12 +1,12 @@
 -- Slots with and without the numbers of their fields.
-use Rattle.std.proofs.Common.{◌≡◌, ◌⊎◌, ◌<◌, ◌≤◌, inl, inr, refl, sym, ap, subst, arith, ◌∙◌, true≢false}
-use Rattle.std.specs.Prelude.{ℕ, zero, suc, ◌+◌, Bool, true, false, ◌||◌, List, [], ◌∷◌, ◌++◌, map, length}
+use Rattle.std.proofs.Common.{◌≡◌, ◌⊎◌, ◌<◌, ◌≤◌, inl, inr, refl, sym, ap, arith, ◌∙◌}
+use Rattle.std.specs.Prelude.{ℕ, zero, suc, ◌+◌, Bool, true, false, List, [], ◌∷◌, ◌++◌, map, length}
 use Rattle.std.proofs.lemmas.Bool.{false≢true, or_cases, or_left, or_right}
 use Rattle.pst_model.specs.ConstraintTree.{SlotTree, Own, Object, First, ClaimId, ClaimField, Prev, IsFirst, Id, Index, Local, Through, Outer}
 use Rattle.pst_terms.specs.Fields.{counted}
 use Rattle.pst_terms.specs.Slots.{same_slot}
 use Rattle.pst_terms.specs.Laws.{is_in, HasNoneTwice}
-use Rattle.pst_terms.proofs.SameSlots.{same_itself, same_to}
+use Rattle.pst_terms.proofs.SameSlots.{same_to}
 use Rattle.pst_sound_expressions.specs.Blocks.{without_field, with_field, has_field}
 
 abbrev pub field_in : SlotTree → ℕ

@@ -1,6 +1,6 @@
 -- A term whose slots and arrays are of rows that have a meaning is a sound expression.
 use Rattle.std.proofs.Common.{◌≡◌, ◌⊎◌, ◌<◌, ◌≤◌, inl, inr, ⊎_elim, refl, sym, ap, subst, arith, ◌∙◌}
-use Rattle.std.specs.Prelude.{ℕ, zero, suc, ◌+◌, ◌-◌, Bool, true, false, List, [], ◌∷◌, ◌++◌, map, length, slice_get, get_or, All, Some}
+use Rattle.std.specs.Prelude.{ℕ, ◌+◌, ◌-◌, Bool, true, false, List, [], ◌∷◌, map, length, get_or}
 use Rattle.std.specs.List.{flat_map, Contains}
 use Rattle.std.proofs.lemmas.Bool.{false≢true}
 use Rattle.std.proofs.lemmas.Option.{slice_get-get_or}
@@ -10,7 +10,7 @@ use Rattle.pst_model.specs.SoundConstraint.{IsSoundConstraint}
 use Rattle.pst_terms.specs.Fields.{counted}
 use Rattle.pst_terms.specs.Terms.{Term, Number, Leaf, Prefix, Infix, Indexed}
 use Rattle.pst_terms.specs.Slots.{same_slot, slots_of, constraint_of}
-use Rattle.pst_terms.specs.Laws.{blocks, is_in, HasNoneTwice, AreApart, HasRightArrays, slots_in}
+use Rattle.pst_terms.specs.Laws.{blocks, is_in, HasNoneTwice, AreApart, HasRightArrays}
 use Rattle.pst_terms.proofs.SameSlots.{same_itself, same_to}
 use Rattle.pst_terms.proofs.Standing.{slots_stand, in_got}
 use Rattle.pst_terms.proofs.Below.{below, among}

@@ -1,13 +1,13 @@
 -- The terms of expressions whose paths stand for numbers and blocks.
-use Rattle.std.proofs.Common.{◌≡◌, inl, inr, refl, sym, subst}
-use Rattle.std.specs.Prelude.{ℕ, List, [], ◌∷◌, ◌++◌, Option, Some, None}
+use Rattle.std.proofs.Common.{inr}
+use Rattle.std.specs.Prelude.{ℕ, List, ◌∷◌, ◌++◌, Option, Some, None}
 use Rattle.pst_ast.specs.ExpressionTree.{ExprTree, ExprUnary, ExprBinary, ExprIn, UnaryTree, UnaryPrefix, UnaryPrimary, PrimaryTree, PrimaryNumber, PrimaryTrue, PrimaryFalse, PrimaryPath, PrimaryGroup, PathTree, PathDotted, PathItem, PathLongItem, PartTree, MakePart, NextPartTree, MakeNextPart, IndexTree, MakeIndex, RangesTree, MakeRanges, NextRangeTree, MakeNextRange, RangeTree, RangeSingle, RangeBetween, NextPartRow, NoNextPartRow, MoreNextPartRow, MaybeIndex, NoIndex, SomeIndex, NextRangeRow, NoNextRangeRow, MoreNextRangeRow}
-use Rattle.pst_expr.specs.declared.tree.BinaryOp.TheVariants.{LessOrEqual, GreaterOrEqual, Equal, And, Or}
+use Rattle.pst_expr.specs.declared.tree.BinaryOp.TheVariants.{Or}
 use Rattle.pst_model.specs.ConstraintTree.{SlotTree}
 use Rattle.pst_scope.specs.declared.environment.Environment.{Environment}
 use Rattle.pst_scope.specs.Uses.{Use, Reads, part_of, parts_of, expr_uses, unary_uses, primary_uses, path_uses, part_uses, index_uses, next_part_uses, dotted_uses, ranges_uses, range_uses, next_range_uses, comma_range_uses}
 use Rattle.pst_terms.specs.Terms.{Term, Infix, Reading, ANumber, AThing, AnArray, term_at, first_some, term_of, unary_term, primary_term, path_index, part_index, maybe_index, index_term, row_index, dotted_index, ranges_term, or_ranges, next_range_term, range_term}
-use Rattle.pst_sound_expressions.specs.Blocks.{IsBlock, HasBlocks}
+use Rattle.pst_sound_expressions.specs.Blocks.{HasBlocks}
 use Rattle.pst_sound_expressions.specs.Used.{IsGood}
 use Rattle.pst_sound_expressions.proofs.Members.{In, to_left, to_right}
 

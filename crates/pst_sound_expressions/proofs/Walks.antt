@@ -1,24 +1,24 @@
 -- Where the parts of types stand: what they use and declare, the sources use and declare.
-use Rattle.std.proofs.Common.{◌≡◌, ◌⊎◌, inl, inr, refl, sym, ap, subst, ◌∙◌}
-use Rattle.std.specs.Prelude.{ℕ, List, [], ◌∷◌, ◌++◌, map, Option, Some, None}
+use Rattle.std.proofs.Common.{◌≡◌, inl, inr, refl, ap, subst}
+use Rattle.std.specs.Prelude.{List, [], ◌∷◌, map, Option, Some, None}
 use Rattle.std.specs.List.{flat_map}
 use Rattle.std.proofs.lemmas.Option.{none-some, same_Some}
 use Rattle.pst_base.specs.declared.position.Place.{Place}
 use Rattle.pst_ast.specs.declared.leaf.Name.{Name}
 use Rattle.pst_ast.specs.declared.declaration.ObjectWord.{ObjectWord}
 use Rattle.pst_ast.specs.declared.declaration.BaseNode.{BaseNode}
-use Rattle.pst_ast.specs.ExpressionTree.{ExprTree, PartTree, MakePart, MaybeIndex, NoIndex, SomeIndex, MakeIndex}
+use Rattle.pst_ast.specs.ExpressionTree.{ExprTree, PartTree, MakePart, NoIndex, SomeIndex, MakeIndex}
 use Rattle.pst_ast.specs.SharedTree.{TypeTree}
 use Rattle.pst_ast.specs.DeclarationTree.{UnitTree, MakeUnit, ItemTree, ItemComponent, ItemObject, ItemEnum, ItemFunction, ItemEmpty, MakeComponent, ComponentPartTree, ComponentPartAction, ComponentPartObject, ComponentPartEnum, ComponentPartFunction, ComponentPartPool, ComponentPartPoolBind, ComponentPartMembers, ComponentPartEmpty, ObjectTree, MakeObject, ObjectPartTree, ObjectPartField, ObjectPartConstraint, ObjectPartEmpty, ActionTree, MakeAction, ActionPartTree, ActionPartField, ActionPartReference, ActionPartClaim, ActionPartMembers, ActionPartConstraint, ActionPartActivity, ActionPartBody, ActionPartEmpty, FieldTree, MakeField}
 use Rattle.pst_scope.specs.declared.declaration.Declaration.{Declaration}
 use Rattle.pst_scope.specs.declared.declaration.Sort.TheVariants as sort
 use Rattle.pst_scope.specs.declared.environment.Environment.{Environment}
 use Rattle.pst_scope.specs.declared.referent.Owner.TheVariants.{OfAction, OfObject}
-use Rattle.pst_scope.specs.Declarations.{type_declared, action_declared, base_name, field_parts, next_field_part, in_action_part, in_object_part, in_action, in_object, in_component_part, in_item_of_unit, in_unit, declarations}
+use Rattle.pst_scope.specs.Declarations.{type_declared, action_declared, base_name, next_field_part, in_action_part, in_object_part, in_action, in_object, in_component_part, in_item_of_unit, in_unit, declarations}
 use Rattle.pst_scope.specs.Uses.{Use, Judges, ArraySize, NamesBase, option_uses, type_uses, size_of_part, field_uses, action_part_uses, object_part_uses, action_uses, object_uses, component_part_uses, unit_item_uses, unit_uses, uses, environment}
-use Rattle.pst_type_rules.specs.Sites.{DeclaredAction, action_of, actions_in_part, actions_in_item, actions, items_of, DeclaredField, size_in, field_of_part, type_of_field, fields_of, fields_in_action_part, fields_in_object_part, fields_in_action, fields_in_object, fields_in_part, fields_in_item, fields}
+use Rattle.pst_type_rules.specs.Sites.{DeclaredAction, action_of, actions_in_part, actions_in_item, actions, items_of, DeclaredField, field_of_part, fields_of, fields_in_action_part, fields_in_object_part, fields_in_action, fields_in_object, fields_in_part, fields_in_item, fields}
 use Rattle.pst_elab_rules.specs.Types.{DeclaredObject, object_of_tree, objects_in_part, objects_in_item}
-use Rattle.pst_sound_expressions.proofs.Members.{In, in_flat_map, to_flat_map, in_map, to_left, to_right}
+use Rattle.pst_sound_expressions.proofs.Members.{In, in_flat_map, to_flat_map, in_map, to_right}
 
 module _ (units : List UnitTree) where
   pub item_used : (item : ItemTree) → In item (flat_map items_of units) → (u : Use) → In u (unit_item_uses item) → In u (uses units)

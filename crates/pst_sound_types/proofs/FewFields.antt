@@ -1,16 +1,12 @@
 -- No type has too many fields.
 use Rattle.std.proofs.Common.{◌≡◌, ◌⊎◌, ◌<◌, ◌≤◌, inl, inr, refl, sym, ap, subst, arith, ◌∙◌}
-use Rattle.std.specs.Prelude.{ℕ, zero, suc, ◌+◌, Bool, true, false, ℤ, pos, negsuc, unsigned_abs, ◌≤ℤ◌, List, [], ◌∷◌, ◌++◌, map, length, All, Option, Some, None}
-use Rattle.std.specs.List.{filter}
+use Rattle.std.specs.Prelude.{ℕ, ◌+◌, true, ℤ, pos, negsuc, unsigned_abs, List, [], ◌∷◌, ◌++◌, length, All, Option, Some, None}
 use Rattle.std.specs.Option.{option_map, option_map_or, option_and_then}
-use Rattle.std.proofs.lemmas.Bool.{false≢true, cases_lt}
+use Rattle.std.proofs.lemmas.Bool.{cases_lt}
 use Rattle.std.proofs.lemmas.Int.{ints}
 use Rattle.std.proofs.lemmas.List.Elements.{All-map}
-use Rattle.std.proofs.lemmas.Option.{none-some, same_Some}
 use Rattle.pst_ast.specs.ExpressionTree.{ExprTree}
 use Rattle.pst_ast.specs.DeclarationTree.{UnitTree}
-use Rattle.pst_expr.specs.declared.ranges.Span.{Span}
-use Rattle.pst_expr.specs.Spans.{IsInSpan}
 use Rattle.pst_model.specs.Limits.{most_fields, most_elements}
 use Rattle.pst_model.specs.ModelTree.{ModelTree}
 use Rattle.pst_scope.specs.Breaches.{IsNone}
@@ -28,10 +24,10 @@ use Rattle.pst_type_rules.specs.Sites.{DeclaredField, fields, field_at}
 use Rattle.pst_type_rules.specs.TypeRules.{TypeBreach, OfUse, OfDeclaration, ValueOutside, ManyFields}
 use Rattle.pst_inherited.specs.Bases.{members, fields_of}
 use Rattle.pst_terms.specs.Sources.{Sources, value_of, amount_of}
-use Rattle.pst_terms.specs.Fields.{elements_in, size_of, count_of}
+use Rattle.pst_terms.specs.Fields.{elements_in, count_of}
 use Rattle.pst_elab_rules.specs.Model.{sources, IsModel}
 use Rattle.pst_elab_rules.specs.Types.{model_fields, model_action, model_object}
-use Rattle.pst_sound_expressions.proofs.Members.{In, in_find, to_right, to_contains}
+use Rattle.pst_sound_expressions.proofs.Members.{In, in_find, to_contains}
 use Rattle.pst_sound_expressions.proofs.Owned.{those_declared, member_declared, same_itself}
 use Rattle.pst_sound_expressions.proofs.FieldRows.{count_all, model_length}
 use Rattle.pst_sound_expressions.proofs.Walks.{sized}
@@ -104,8 +100,15 @@ module _ (units : List UnitTree) (names : List (List ℕ)) (right : IsNone (Name
       by (inr less) on =
           let r = on less in
           record {
-            front = d ∷ r.front; m = r.m; more = r.more; split = ap (λ (xs : List Declaration). d ∷ xs) r.split; n = count_of s d + r.n; together = More d r.front (count_of s d) r.n all.0 r.together; adds_m = r.adds_m;
-            few = omega (arith, r.few); many = omega (arith, r.many);
+            front = d ∷ r.front;
+            m = r.m;
+            more = r.more;
+            split = ap (λ (xs : List Declaration). d ∷ xs) r.split;
+            n = count_of s d + r.n;
+            together = More d r.front (count_of s d) r.n all.0 r.together;
+            adds_m = r.adds_m;
+            few = omega (arith, r.few);
+            many = omega (arith, r.many);
           }
 
   pub few_fields : (d : Declaration) → In d ds → length (model_fields s is.domains d) ≤ most_fields
@@ -126,8 +129,9 @@ module _ (units : List UnitTree) (names : List (List ℕ)) (right : IsNone (Name
 
   pub fields_few : All (λ action. length action.fields ≤ most_fields) model.actions × All (λ object. length object.fields ≤ most_fields) model.objects
   fields_few =
-      subst (λ (m : ModelTree). All (λ action. length action.fields ≤ most_fields) m.actions × All (λ object. length object.fields ≤ most_fields) m.objects) (sym is.is)
-      (All-map (λ action. length action.fields ≤ most_fields) (model_action s is.domains) (those_that is_action ds)
-          (all_in (λ d. length (model_fields s is.domains d) ≤ most_fields) (those_that is_action ds) (λ d there. few_fields d (those_declared is_action ds d there).0)),
-       All-map (λ object. length object.fields ≤ most_fields) (model_object s is.domains) (those_that is_object ds)
-          (all_in (λ d. length (model_fields s is.domains d) ≤ most_fields) (those_that is_object ds) (λ d there. few_fields d (those_declared is_object ds d there).0)))
+      subst (λ (m : ModelTree). All (λ action. length action.fields ≤ most_fields) m.actions × All (λ object. length object.fields ≤ most_fields) m.objects) (sym is.is) (
+        All-map (λ action. length action.fields ≤ most_fields) (model_action s is.domains) (those_that is_action ds)
+            (all_in (λ d. length (model_fields s is.domains d) ≤ most_fields) (those_that is_action ds) (λ d there. few_fields d (those_declared is_action ds d there).0)),
+        All-map (λ object. length object.fields ≤ most_fields) (model_object s is.domains) (those_that is_object ds)
+            (all_in (λ d. length (model_fields s is.domains d) ≤ most_fields) (those_that is_object ds) (λ d there. few_fields d (those_declared is_object ds d there).0)),
+      )

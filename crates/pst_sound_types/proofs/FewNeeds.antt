@@ -1,30 +1,27 @@
 -- Actions have few references and claims, and none where they have an activity.
 use Rattle.std.proofs.Common.{◌≡◌, ◌⊎◌, ◌<◌, ◌≤◌, inl, inr, refl, sym, ap, subst, arith, ◌∙◌}
-use Rattle.std.specs.Prelude.{ℕ, zero, suc, Bool, true, false, IsTrue, List, [], ◌∷◌, ◌++◌, map, length, slice_get, All, Option, Some, None, option_and_then}
-use Rattle.std.specs.List.{filter, filter_map, flat_map, cons_option}
-use Rattle.std.specs.Option.{option_or, option_map, option_map_or}
+use Rattle.std.specs.Prelude.{ℕ, zero, suc, Bool, true, List, [], ◌∷◌, ◌++◌, map, length, All, Option, Some, None, option_and_then}
+use Rattle.std.specs.List.{filter_map, flat_map}
+use Rattle.std.specs.Option.{option_or, option_map}
 use Rattle.std.proofs.lemmas.Bool.{false≢true, cases_lt}
 use Rattle.std.proofs.lemmas.List.{length-map, append-nil}
 use Rattle.std.proofs.lemmas.List.Elements.{All-map}
 use Rattle.std.proofs.lemmas.Grind.{flat_map-append}
-use Rattle.std.proofs.lemmas.Option.{none-some, same_Some}
+use Rattle.std.proofs.lemmas.Option.{none-some}
 use Rattle.pst_base.specs.declared.position.Place.{Place}
 use Rattle.pst_ast.specs.ActivityTree.{ActivityTree as ActivityText, MakeActivity, StatementTree}
 use Rattle.pst_ast.specs.BodyTree.{BodyTree}
 use Rattle.pst_ast.specs.DeclarationTree.{UnitTree, ActionPartTree, ActionPartField, ActionPartReference, ActionPartClaim, ActionPartMembers, ActionPartConstraint, ActionPartActivity, ActionPartBody, ActionPartEmpty}
-use Rattle.pst_ast.specs.declared.instance.Instance.{Instance}
 use Rattle.pst_expr.specs.declared.ranges.Span.{Span}
 use Rattle.pst_model.specs.ActivityTree.{ActivityTree}
 use Rattle.pst_model.specs.Limits.{most_references, most_claims}
-use Rattle.pst_model.specs.ModelTree.{Atomic, Compound, ModelTree}
-use Rattle.pst_model.specs.Sound.{IsSoundCompound}
+use Rattle.pst_model.specs.ModelTree.{Compound, ModelTree}
 use Rattle.pst_scope.specs.Breaches.{IsNone}
 use Rattle.pst_scope.specs.declared.declaration.Declaration.{Declaration}
 use Rattle.pst_scope.specs.declared.declaration.Sort.{Sort}
 use Rattle.pst_scope.specs.declared.declaration.Sort.TheVariants as sort
 use Rattle.pst_scope.specs.Declarations.{declarations}
-use Rattle.pst_scope.specs.Lookups.{base_of}
-use Rattle.pst_scope.specs.NameRules.{Reaches, NameBreach}
+use Rattle.pst_scope.specs.NameRules.{NameBreach}
 use Rattle.pst_scope.specs.Sorts.{is_action, is_reference, is_claim, is_need}
 use Rattle.pst_type_rules.specs.declared.typed.ConstantValue.{ConstantValue}
 use Rattle.pst_type_rules.specs.Limits.{IsLimited, References, Claims}
@@ -34,9 +31,9 @@ use Rattle.pst_type_rules.specs.TypeRules.{TypeBreach, OfDeclaration, TooMany, C
 use Rattle.pst_inherited.specs.Bases.{with_bases, members, references_of, claims_of}
 use Rattle.pst_inherited.specs.Contents.{Content, Activity, Body, activity_in, body_in, first_of, content_in, own_content, last_content, content_of}
 use Rattle.pst_inherited.proofs.Declared.{base_there}
-use Rattle.pst_terms.specs.Sources.{Sources, declared_in}
-use Rattle.pst_elab_rules.specs.Model.{sources, model_by, IsModel}
-use Rattle.pst_elab_rules.specs.Types.{reference, claim, compound, content, model_action, model_actions}
+use Rattle.pst_terms.specs.Sources.{Sources}
+use Rattle.pst_elab_rules.specs.Model.{sources, IsModel}
+use Rattle.pst_elab_rules.specs.Types.{reference, claim, compound, content, model_action}
 use Rattle.pst_sound_expressions.proofs.Members.{In, in_get, to_contains}
 use Rattle.pst_sound_expressions.proofs.Owned.{those_declared}
 use Rattle.pst_sound_expressions.proofs.Chains.{HasEnd, ends, bases_alone, bases_behind}
@@ -104,7 +101,6 @@ module _ (units : List UnitTree) (names : List (List ℕ)) (kept : IsNone (TypeB
       by (inr less) = less
       by (inl more) = let r = split counted most more in absurd (kept r.m.name.place 12 (OfDeclaration d r.m.name.place 12 (to_contains (declarations units) d there) (TooMany counted r.front r.more r.m most limited r.is r.long)))
 
-
 module _ (units : List UnitTree) (names : List (List ℕ)) (right : IsNone (NameBreach units names)) (kept : IsNone (TypeBreach units names)) where
   abbrev ds : List Declaration
   ds = declarations units
@@ -119,7 +115,7 @@ module _ (units : List UnitTree) (names : List (List ℕ)) (right : IsNone (Name
       let t = base_there ds d r.0 r.1 in
       subst (AreMembers ds d)
       (sym (ap (flat_map (own_members ds)) (bases_behind ds (no_loops units names right) d r.0 there r.1)
-          ∙ (flat_map-append (own_members ds) (with_bases ds r.0) (d ∷ []) ∙ ap (λ (xs : List Declaration). members ds r.0 ++ xs) (append-nil (own_members ds d)))))
+      ∙ (flat_map-append (own_members ds) (with_bases ds r.0) (d ∷ []) ∙ ap (λ (xs : List Declaration). members ds r.0 ++ xs) (append-nil (own_members ds d)))))
       (WithBase d r.0 (members ds r.0) r.1 (are_members k r.0 r.2 (in_get ds t.0 r.0 t.1)))
 
   pub its_members : (d : Declaration) → In d ds → AreMembers ds d (members ds d)

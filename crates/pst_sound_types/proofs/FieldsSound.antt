@@ -1,18 +1,17 @@
 -- Fields have domains.
-use Rattle.std.proofs.Common.{◌≡◌, ◌⊎◌, ◌<◌, ◌≤◌, inl, inr, refl, sym, ap, subst, arith, ◌∙◌}
-use Rattle.std.specs.Prelude.{ℕ, zero, suc, ◌+◌, Bool, true, false, List, [], ◌∷◌, ◌++◌, map, length, All, Option, Some, None, if◌then◌else◌, IfSome}
-use Rattle.std.specs.List.{filter, flat_map}
+use Rattle.std.proofs.Common.{◌≡◌, ◌⊎◌, ◌≤◌, inl, inr, refl, sym, ap, subst, arith, ◌∙◌}
+use Rattle.std.specs.Prelude.{ℕ, zero, suc, ◌+◌, Bool, true, false, List, [], ◌∷◌, map, All, Option, Some, None, if◌then◌else◌}
+use Rattle.std.specs.List.{flat_map}
 use Rattle.std.proofs.lemmas.Bool.{false≢true}
 use Rattle.std.proofs.lemmas.List.Elements.{All-map, All-cons, All-nil, All-append}
 use Rattle.pst_base.specs.declared.position.Place.{Place}
 use Rattle.pst_ast.specs.declared.leaf.Name.{Name}
 use Rattle.pst_ast.specs.ExpressionTree.{PartTree, MakePart}
 use Rattle.pst_ast.specs.SharedTree.{TypeTree}
-use Rattle.pst_ast.specs.DeclarationTree.{UnitTree, MakeUnit, ItemTree, ItemComponent, ItemObject, ItemEnum, ItemFunction, ItemEmpty, MakeComponent, ComponentPartTree, ComponentPartAction, ComponentPartObject, ComponentPartEnum, ComponentPartFunction, ComponentPartPool, ComponentPartPoolBind, ComponentPartMembers, ComponentPartEmpty, ObjectTree, MakeObject, ObjectPartTree, ObjectPartField, ObjectPartConstraint, ObjectPartEmpty, EnumTree, MakeEnum, FunctionTree, MakeFunction, MakePool, MembersTree, MakeMembers, ActionTree, MakeAction, ActionPartTree, ActionPartField, FieldTree}
+use Rattle.pst_ast.specs.DeclarationTree.{UnitTree, MakeUnit, ItemTree, ItemComponent, ItemObject, ItemEnum, ItemFunction, ItemEmpty, MakeComponent, ComponentPartTree, ComponentPartAction, ComponentPartObject, ComponentPartEnum, ComponentPartFunction, ComponentPartPool, ComponentPartPoolBind, ComponentPartMembers, ComponentPartEmpty, ObjectTree, MakeObject, ObjectPartTree, ObjectPartField, ObjectPartConstraint, ObjectPartEmpty, EnumTree, MakeEnum, FunctionTree, MakeFunction, MakePool, MembersTree, MakeMembers, ActionTree, MakeAction, ActionPartTree, FieldTree}
 use Rattle.pst_expr.specs.declared.ranges.Span.{Span}
 use Rattle.pst_expr.specs.Spans.{IsDomain}
 use Rattle.pst_model.specs.Limits.{most_elements}
-use Rattle.pst_model.specs.declared.action.Field.{Field}
 use Rattle.pst_model.specs.ModelTree.{ModelTree}
 use Rattle.pst_model.specs.Sound.{IsSoundField}
 use Rattle.pst_scope.specs.Breaches.{IsNone}
@@ -28,8 +27,8 @@ use Rattle.pst_type_rules.specs.Members.{those_that}
 use Rattle.pst_type_rules.specs.Sites.{DeclaredField, field_of_part, type_of_field, fields_of as fields_in, fields_in_action_part, fields_in_object_part, fields_in_action, fields_in_object, fields_in_part, fields_in_item, items_of, fields}
 use Rattle.pst_type_rules.specs.TypeRules.{TypeBreach}
 use Rattle.pst_inherited.specs.Bases.{fields_of}
-use Rattle.pst_terms.specs.Sources.{Sources, declared_in}
-use Rattle.pst_terms.specs.Fields.{counted, size_of, elements_in, count_of}
+use Rattle.pst_terms.specs.Sources.{Sources}
+use Rattle.pst_terms.specs.Fields.{counted, size_of, elements_in}
 use Rattle.pst_elab_rules.specs.Spans.{AreDomains, NoDomain, MoreDomains, domain_at}
 use Rattle.pst_elab_rules.specs.Model.{sources, IsModel}
 use Rattle.pst_elab_rules.specs.Types.{field, elements_of, model_fields, model_action, model_object}
@@ -179,14 +178,15 @@ module _ (units : List UnitTree) (names : List (List ℕ)) (model : ModelTree) (
   type_sound : (type : Declaration) → All IsSoundField (model_fields s is.domains type)
   type_sound type = all_flat IsSoundField (λ d. elements_of d.name (domain_at (fields units) is.domains d.name.place) (size_of s d)) (fields_of (declarations units) type)
       (λ d there.
-          let m = member_declared is_field (declarations units) type d there in
-          let f = field_declared units d m.0 m.1 in
-          let few = few_elements units names is.constants is.are_constants kept d in
-          field_sound d.name (domain_at (fields units) is.domains d.name.place) (size_of s d)
-          (domain_found units names (fields units) is.domains is.are_domains f.0 d.name.place f.1 (ap (λ (n : Name). same_place n.place d.name.place) f.2 ∙ same_itself d)) few.1)
+      let m = member_declared is_field (declarations units) type d there in
+      let f = field_declared units d m.0 m.1 in
+      let few = few_elements units names is.constants is.are_constants kept d in
+      field_sound d.name (domain_at (fields units) is.domains d.name.place) (size_of s d)
+      (domain_found units names (fields units) is.domains is.are_domains f.0 d.name.place f.1 (ap (λ (n : Name). same_place n.place d.name.place) f.2 ∙ same_itself d)) few.1)
 
   pub fields_sound : All (λ action. All IsSoundField action.fields) model.actions × All (λ object. All IsSoundField object.fields) model.objects
   fields_sound =
-      subst (λ (m : ModelTree). All (λ action. All IsSoundField action.fields) m.actions × All (λ object. All IsSoundField object.fields) m.objects) (sym is.is)
-      (All-map (λ action. All IsSoundField action.fields) (model_action s is.domains) (those_that is_action (declarations units)) (all_in (λ d. All IsSoundField (model_fields s is.domains d)) (those_that is_action (declarations units)) (λ d there. type_sound d)),
-       All-map (λ object. All IsSoundField object.fields) (model_object s is.domains) (those_that is_object (declarations units)) (all_in (λ d. All IsSoundField (model_fields s is.domains d)) (those_that is_object (declarations units)) (λ d there. type_sound d)))
+      subst (λ (m : ModelTree). All (λ action. All IsSoundField action.fields) m.actions × All (λ object. All IsSoundField object.fields) m.objects) (sym is.is) (
+        All-map (λ action. All IsSoundField action.fields) (model_action s is.domains) (those_that is_action (declarations units)) (all_in (λ d. All IsSoundField (model_fields s is.domains d)) (those_that is_action (declarations units)) (λ d there. type_sound d)),
+        All-map (λ object. All IsSoundField object.fields) (model_object s is.domains) (those_that is_object (declarations units)) (all_in (λ d. All IsSoundField (model_fields s is.domains d)) (those_that is_object (declarations units)) (λ d there. type_sound d)),
+      )

@@ -1,8 +1,7 @@
 -- No function has too many parameters.
-use Rattle.std.proofs.Common.{◌≡◌, ◌⊎◌, ◌<◌, ◌≤◌, inl, inr, refl, sym, ap, subst, arith, ◌∙◌}
-use Rattle.std.specs.Prelude.{ℕ, zero, suc, ◌+◌, Bool, true, false, List, [], ◌∷◌, ◌++◌, map, length, All, if◌then◌else◌, Option, Some, None}
+use Rattle.std.proofs.Common.{◌≡◌, ◌≤◌, inl, inr, refl, sym, ap, subst, arith, ◌∙◌}
+use Rattle.std.specs.Prelude.{ℕ, suc, ◌+◌, Bool, true, false, List, [], ◌∷◌, ◌++◌, map, length, All, if◌then◌else◌, Option, Some, None}
 use Rattle.std.specs.List.{filter, flat_map}
-use Rattle.std.proofs.lemmas.Bool.{cases_lt}
 use Rattle.std.proofs.lemmas.List.{length-append, length-map}
 use Rattle.std.proofs.lemmas.List.Elements.{All-map, filter-append}
 use Rattle.pst_base.specs.declared.position.Place.{Place}
@@ -20,10 +19,10 @@ use Rattle.pst_scope.specs.Sorts.{same_place, same_scope}
 use Rattle.pst_type_rules.specs.Limits.{is_parameter, IsLimited, Parameters}
 use Rattle.pst_type_rules.specs.Members.{those_that, own_members}
 use Rattle.pst_type_rules.specs.Sites.{DeclaredFunction, function_of, functions_in_part, functions_in_item, items_of, functions}
-use Rattle.pst_type_rules.specs.TypeRules.{TypeBreach, OfDeclaration, TooMany}
+use Rattle.pst_type_rules.specs.TypeRules.{TypeBreach}
 use Rattle.pst_elab_rules.specs.Model.{sources, IsModel}
-use Rattle.pst_elab_rules.specs.Types.{parameter_span, model_function, model_functions}
-use Rattle.pst_sound_expressions.proofs.Members.{In, in_flat_map, to_flat_map, to_contains}
+use Rattle.pst_elab_rules.specs.Types.{parameter_span, model_function}
+use Rattle.pst_sound_expressions.proofs.Members.{In, in_flat_map, to_flat_map}
 use Rattle.pst_sound_expressions.proofs.Owned.{same_itself}
 use Rattle.pst_sound_types.proofs.NeedsSound.{all_in}
 
@@ -100,9 +99,9 @@ module _ (units : List UnitTree) where
       function_in_part name.place r.0
       (λ d has. item_declares (ItemComponent (MakeComponent word name left parts right)) item d (inr (to_flat_map (in_component_part name.place) parts r.0 d r.1 has)))
       (λ place.
-          let one = counted_flat place (in_component_part name.place) parts r.0 r.1 in
-          let b = both_counted place (type_declared None sort.Component name ∷ []) (flat_map (in_component_part name.place) parts) in
-          let two = item_counted (ItemComponent (MakeComponent word name left parts right)) item place in omega (arith, one, b, two)) f r.2
+      let one = counted_flat place (in_component_part name.place) parts r.0 r.1 in
+      let b = both_counted place (type_declared None sort.Component name ∷ []) (flat_map (in_component_part name.place) parts) in
+      let two = item_counted (ItemComponent (MakeComponent word name left parts right)) item place in omega (arith, one, b, two)) f r.2
   function_in_item (ItemObject object) item f there = absurd there
   function_in_item (ItemEnum enum) item f there = absurd there
   function_in_item (ItemFunction function) item f (inl e) = subst (IsFunctionAt units) e (function_is None function (item_declares (ItemFunction function) item) (item_counted (ItemFunction function) item))
@@ -119,7 +118,7 @@ functions_sound few units names model kept is =
     (All-map IsSoundFunction (model_function (sources units names is.constants)) (functions units)
     (all_in (λ f. IsSoundFunction (model_function (sources units names is.constants) f)) (functions units)
     (λ f there.
-        let a = function_stands units f there in
-        let less = few units names kept a.declaration a.itself (those_that is_parameter (own_members (declarations units) a.declaration)) most_parameters Parameters in
-        let same : counted_at a.declaration.name.place (declarations units) ≡ counted_at f.name.place (declarations units) = ap (λ (n : Name). counted_at n.place (declarations units)) a.named in
-        omega (arith, less, same, a.many, length-map f.parameters (parameter_span (sources units names is.constants))))))
+    let a = function_stands units f there in
+    let less = few units names kept a.declaration a.itself (those_that is_parameter (own_members (declarations units) a.declaration)) most_parameters Parameters in
+    let same : counted_at a.declaration.name.place (declarations units) ≡ counted_at f.name.place (declarations units) = ap (λ (n : Name). counted_at n.place (declarations units)) a.named in
+    omega (arith, less, same, a.many, length-map f.parameters (parameter_span (sources units names is.constants))))))

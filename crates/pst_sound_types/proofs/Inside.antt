@@ -1,5 +1,5 @@
 -- What constraints, activities and bodies declare: indices, locals and the names of constraints.
-use Rattle.std.proofs.Common.{◌≡◌, ◌⊎◌, inl, inr, ⊎_elim, refl, sym, ap, subst}
+use Rattle.std.proofs.Common.{◌≡◌, inl, inr, ⊎_elim, refl, subst}
 use Rattle.std.specs.Prelude.{Bool, true, false, List, [], ◌∷◌, ◌++◌, Option, Some, None}
 use Rattle.std.specs.List.{flat_map}
 use Rattle.pst_base.specs.declared.position.Place.{Place}
@@ -10,8 +10,8 @@ use Rattle.pst_ast.specs.BodyTree.{BodyStatementTree, BodyStatementEmpty, BodySt
 use Rattle.pst_scope.specs.declared.declaration.Declaration.{Declaration}
 use Rattle.pst_scope.specs.declared.declaration.Sort.{Sort}
 use Rattle.pst_scope.specs.declared.declaration.Sort.TheVariants as sort
-use Rattle.pst_scope.specs.Declarations.{index_of, in_set, in_item, in_item_row, in_with, in_statement, in_core, in_branch, in_arm, in_statement_row, in_branch_row, in_arm_row, in_activity, in_body_statement, in_body_row, in_body, in_constraint_content, in_constraint}
-use Rattle.pst_sound_expressions.proofs.Members.{In, in_append, in_flat_map}
+use Rattle.pst_scope.specs.Declarations.{index_of, in_set, in_item, in_item_row, in_with, in_statement, in_core, in_branch, in_arm, in_statement_row, in_branch_row, in_arm_row, in_activity, in_body_statement, in_body_row, in_body, in_constraint}
+use Rattle.pst_sound_expressions.proofs.Members.{In, in_append}
 
 -- what is no action, pool, field, reference, claim or handle
 abbrev pub is_other : Sort → Bool

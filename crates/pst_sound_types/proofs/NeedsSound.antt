@@ -1,18 +1,13 @@
 -- References are of flow objects, and claims of resources.
-use Rattle.std.proofs.Common.{◌≡◌, ◌≢◌, inl, inr, refl, sym, ap, subst, ◌∙◌}
-use Rattle.std.specs.Prelude.{ℕ, Bool, true, false, IsTrue, IsFalse, List, [], ◌∷◌, map, length, slice_get, get_or, All, Option, Some, None}
-use Rattle.std.specs.List.{filter, Contains}
-use Rattle.std.specs.Option.{IsSomeAnd}
+use Rattle.std.proofs.Common.{◌≡◌, ◌≢◌, refl, sym, ap, subst, ◌∙◌}
+use Rattle.std.specs.Prelude.{ℕ, Bool, true, false, List, slice_get, get_or, All, Some}
 use Rattle.std.proofs.lemmas.Bool.{false≢true}
 use Rattle.std.proofs.lemmas.List.Elements.{All-map, Contains-get_or}
-use Rattle.std.proofs.lemmas.Option.{none-some, same_Some}
 use Rattle.pst_ast.specs.declared.declaration.ObjectWord.TheVariants as word
 use Rattle.pst_ast.specs.declared.shared.TypeName.{TypeName}
 use Rattle.pst_ast.specs.DeclarationTree.{UnitTree}
 use Rattle.pst_expr.specs.declared.ranges.Span.{Span}
-use Rattle.pst_model.specs.declared.object.ObjectKind.TheVariants.{Buffer, Stream, State, Resource}
-use Rattle.pst_model.specs.declared.action.Reference.{Reference}
-use Rattle.pst_model.specs.declared.action.Claim.{Claim}
+use Rattle.pst_model.specs.declared.object.ObjectKind.TheVariants.{Resource}
 use Rattle.pst_model.specs.ModelTree.{ModelTree}
 use Rattle.pst_model.specs.Sound.{IsSoundReference, IsSoundClaim}
 use Rattle.pst_scope.specs.Breaches.{IsNone}
@@ -25,15 +20,14 @@ use Rattle.pst_scope.specs.NameRules.{NameBreach}
 use Rattle.pst_scope.specs.Sorts.{is_action, is_resource, is_reference, is_claim}
 use Rattle.pst_type_rules.specs.Members.{those_that}
 use Rattle.pst_type_rules.specs.TypeRules.{TypeBreach, OfDeclaration, ReferenceOfResource, ClaimOfNoResource}
-use Rattle.pst_inherited.specs.Bases.{references_of, claims_of, object_number}
-use Rattle.pst_tree.specs.Instances.{parts_of}
+use Rattle.pst_inherited.specs.Bases.{references_of, claims_of}
 use Rattle.pst_ast.specs.declared.instance.Instance.{Instance}
 use Rattle.pst_terms.specs.Sources.{Sources, declared_in}
 use Rattle.pst_elab_rules.specs.Model.{sources, model_by, IsModel}
-use Rattle.pst_elab_rules.specs.Types.{object_of, reference, claim, kind_in, model_object, model_objects, model_action, model_actions}
+use Rattle.pst_elab_rules.specs.Types.{object_of, reference, claim, kind_in, model_object, model_objects, model_action}
 use Rattle.pst_sound_expressions.specs.Conditions.{HaveOwnPlaces}
 use Rattle.pst_sound_expressions.proofs.Members.{In, to_contains, from_contains}
-use Rattle.pst_sound_expressions.proofs.Owned.{those_declared, member_declared}
+use Rattle.pst_sound_expressions.proofs.Owned.{member_declared}
 use Rattle.pst_sound_expressions.proofs.Facts.{AreFacts}
 use Rattle.pst_sound_expressions.proofs.FactsOf.{facts_of}
 use Rattle.pst_sound_expressions.proofs.ObjectReadings.{kind_resource}

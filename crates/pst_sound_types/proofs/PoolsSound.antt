@@ -1,12 +1,12 @@
 -- Pools stand in instances, are of object types, and have a size within their limits.
-use Rattle.std.proofs.Common.{◌≡◌, ◌⊎◌, ◌<◌, ◌≤◌, inl, inr, refl, sym, ap, subst, arith, ◌∙◌}
-use Rattle.std.specs.Prelude.{ℕ, zero, suc, nat_eq, Bool, true, false, ◌&&◌, List, [], ◌∷◌, ◌++◌, map, length, slice_get, All, Option, Some, None, if◌then◌else◌, option_and_then}
-use Rattle.std.specs.List.{filter, flat_map, find, enumerate_from}
+use Rattle.std.proofs.Common.{◌≡◌, ◌<◌, ◌≤◌, inl, inr, refl, sym, ap, subst, arith, ◌∙◌}
+use Rattle.std.specs.Prelude.{ℕ, true, ◌&&◌, List, [], ◌∷◌, map, length, slice_get, All, Option, Some, None, if◌then◌else◌, option_and_then}
+use Rattle.std.specs.List.{flat_map, enumerate_from}
 use Rattle.std.specs.Option.{option_map_or}
 use Rattle.std.proofs.lemmas.Bool.{false≢true}
 use Rattle.std.proofs.lemmas.List.{length-map}
 use Rattle.std.proofs.lemmas.List.Elements.{All-map}
-use Rattle.std.proofs.lemmas.Option.{none-some, same_Some, slice_get_within}
+use Rattle.std.proofs.lemmas.Option.{slice_get_within}
 use Rattle.pst_base.specs.declared.position.Place.{Place}
 use Rattle.pst_ast.specs.declared.instance.Instance.{Instance}
 use Rattle.pst_ast.specs.declared.shared.TypeName.{TypeName}
@@ -26,16 +26,15 @@ use Rattle.pst_scope.specs.declared.referent.Owner.TheVariants.{Nobody}
 use Rattle.pst_scope.specs.Declarations.{member, declarations}
 use Rattle.pst_scope.specs.Lookups.{declared_at, component_of as text_of, home, type_of}
 use Rattle.pst_scope.specs.NameRules.{NameBreach}
-use Rattle.pst_scope.specs.Sorts.{is_component, is_object, is_pool, is_field, same_place, same_scope}
+use Rattle.pst_scope.specs.Sorts.{is_component, is_object, is_pool, same_place, same_scope}
 use Rattle.pst_scope.specs.Uses.{Use, Judges, NamesType, AnObject, PoolSize, option_uses, size_uses, component_part_uses, uses, environment}
 use Rattle.pst_type_rules.specs.declared.typed.ConstantValue.{ConstantValue}
-use Rattle.pst_type_rules.specs.Sites.{DeclaredAction, items_of}
+use Rattle.pst_type_rules.specs.Sites.{items_of}
 use Rattle.pst_type_rules.specs.TypeRules.{TypeBreach}
 use Rattle.pst_type_rules.specs.Typed.{AreConstants}
-use Rattle.pst_inherited.specs.Bases.{object_number}
-use Rattle.pst_tree.specs.Instances.{part_of, parts_of}
+use Rattle.pst_tree.specs.Instances.{part_of}
 use Rattle.pst_bind.specs.Pools.{component_of, pools_in, pools_at, pools}
-use Rattle.pst_terms.specs.Sources.{Sources, declared_in}
+use Rattle.pst_terms.specs.Sources.{Sources}
 use Rattle.pst_elab_rules.specs.Model.{DeclaredPool, pools_in_part, pools_in_item, pool_at, amount_in, size_of_pool, model_pool, sources, model_by, IsModel}
 use Rattle.pst_elab_rules.specs.Types.{object_of, model_object, model_objects}
 use Rattle.pst_sound_expressions.specs.Conditions.{HaveOwnPlaces}

@@ -1,13 +1,12 @@
 -- Pools serve each reference and claim of each atomic action that isn't abstract, in each instance of its component.
 use Rattle.std.proofs.Common.{◌≡◌, ◌⊎◌, ◌<◌, inl, inr, refl, sym, ap, subst, arith, ◌∙◌}
-use Rattle.std.specs.Prelude.{ℕ, zero, suc, ◌+◌, nat_eq, Bool, true, false, not, ◌&&◌, List, [], ◌∷◌, ◌++◌, map, length, slice_get, get_or, Option, Some, None, is_some, IsSome, if◌then◌else◌, option_and_then}
-use Rattle.std.specs.List.{filter, filter_map, flat_map, enumerate_from, cons_option, Contains}
+use Rattle.std.specs.Prelude.{ℕ, zero, suc, ◌+◌, nat_eq, Bool, true, false, not, ◌&&◌, List, [], ◌∷◌, map, length, slice_get, get_or, Option, Some, None, IsSome, if◌then◌else◌, option_and_then}
+use Rattle.std.specs.List.{filter, filter_map, flat_map, enumerate_from, cons_option}
 use Rattle.std.specs.Option.{option_map, option_map_or}
 use Rattle.std.proofs.lemmas.Bool.{false≢true, eq-eqb}
 use Rattle.std.proofs.lemmas.List.{length-append, length-map}
-use Rattle.std.proofs.lemmas.Option.{none-some, same_Some, slice_get-map, slice_get-get_or}
+use Rattle.std.proofs.lemmas.Option.{none-some, same_Some, slice_get-get_or}
 use Rattle.pst_base.specs.declared.position.Place.{Place}
-use Rattle.pst_base.specs.declared.table.NameId.{NameId}
 use Rattle.pst_ast.specs.declared.instance.Instance.{Instance}
 use Rattle.pst_ast.specs.ActivityTree.{MakeActivity}
 use Rattle.pst_ast.specs.DeclarationTree.{UnitTree}
@@ -18,14 +17,13 @@ use Rattle.pst_model.specs.ModelTree.{ActionTree, ModelTree}
 use Rattle.pst_model.specs.Served.{objects_of, is_entry, pool_in, IsAtomic, IsServedWhole}
 use Rattle.pst_scope.specs.Breaches.{IsNone}
 use Rattle.pst_scope.specs.declared.declaration.Declaration.{Declaration}
-use Rattle.pst_scope.specs.declared.declaration.Scope.TheVariants.{Files, Part as Inside}
+use Rattle.pst_scope.specs.declared.declaration.Scope.TheVariants.{Files}
 use Rattle.pst_scope.specs.Declarations.{declarations}
 use Rattle.pst_scope.specs.Lookups.{look_up, declared_at}
-use Rattle.pst_scope.specs.NameRules.{is_declared_before, NameBreach, OfDeclaration, Twice}
-use Rattle.pst_scope.specs.Sorts.{is_action, is_reference, is_claim, same_name, same_place, same_scope}
+use Rattle.pst_scope.specs.NameRules.{NameBreach, OfDeclaration, Twice}
+use Rattle.pst_scope.specs.Sorts.{is_action, same_name, same_place, same_scope}
 use Rattle.pst_type_rules.specs.Members.{those_that}
-use Rattle.pst_type_rules.specs.Sites.{DeclaredAction, action_at}
-use Rattle.pst_type_rules.specs.TypeRules.{TypeBreach}
+use Rattle.pst_type_rules.specs.Sites.{DeclaredAction}
 use Rattle.pst_inherited.specs.Bases.{references_of, claims_of, needs_of}
 use Rattle.pst_inherited.specs.Contents.{Content, Activity, Body, content_of, is_activity, is_compound}
 use Rattle.pst_tree.specs.Instances.{part_of, parts_of}
@@ -34,18 +32,16 @@ use Rattle.pst_bind.specs.Laws.{NeedsAreServed}
 use Rattle.pst_bind.specs.Needs.{Need, is_concrete, is_performed, numbered_actions, is_there, is_home, homes_of, needs_in, needs, served_by, serving, served}
 use Rattle.pst_bind.specs.Pools.{component_of}
 use Rattle.pst_bind.specs.PoolRules.{PoolBreach}
-use Rattle.pst_bind.specs.Serving.{serving_pool}
 use Rattle.pst_terms.specs.Sources.{Sources, declared_in}
-use Rattle.pst_elab_rules.specs.Ends.{LastBreach, OfPools, IsElaborated}
-use Rattle.pst_elab_rules.specs.Model.{serve_of, sources, model_by, IsModel}
-use Rattle.pst_elab_rules.specs.Types.{reference, claim, compound, content, name_at, is_abstract, model_action, model_actions}
+use Rattle.pst_elab_rules.specs.Ends.{OfPools, IsElaborated}
+use Rattle.pst_elab_rules.specs.Model.{serve_of, sources, model_by}
+use Rattle.pst_elab_rules.specs.Types.{reference, claim, content, name_at, is_abstract, model_action}
 use Rattle.pst_sound_expressions.specs.Conditions.{HaveOwnPlaces}
 use Rattle.pst_sound_expressions.proofs.Members.{In, in_get, in_find, to_map, to_flat_map, to_filter, to_numbered, to_contains}
-use Rattle.pst_sound_expressions.proofs.Owned.{those_declared, both_true, and_true, same_itself}
+use Rattle.pst_sound_expressions.proofs.Owned.{those_declared, and_true, same_itself}
 use Rattle.pst_sound_expressions.proofs.Facts.{AreFacts}
 use Rattle.pst_sound_expressions.proofs.FactsOf.{facts_of}
-use Rattle.pst_sound_types.proofs.Standing.{IsComponentAt}
-use Rattle.pst_sound_types.proofs.Typed.{some_found, IsDeclaredAction, declared_action, at_place}
+use Rattle.pst_sound_types.proofs.Typed.{some_found, declared_action, at_place}
 
 -- where an entry of a list of the model comes from
 pub got_back : {A B : Type 0} (f : A → B) (xs : List A) (k : ℕ) (y : B) → slice_get (map f xs) k ≡ Some y → (x : A) × (slice_get xs k ≡ Some x) × (f x ≡ y)
@@ -87,7 +83,7 @@ file_named s facts right c there files =
     by x e false is =
         absurd (right c.name.place 1 (OfDeclaration c 1 (to_contains (declared_in s) c there)
         (Twice (ap (λ (o : _). option_map_or (λ e. not (same_place e.name.place c.name.place)) (look_up (declared_in s) o c.name.id) false) files
-            ∙ (ap (λ (o : Option Declaration). option_map_or (λ e. not (same_place e.name.place c.name.place)) o false) e ∙ ap not is)))))
+        ∙ (ap (λ (o : Option Declaration). option_map_or (λ e. not (same_place e.name.place c.name.place)) o false) e ∙ ap not is)))))
 
 module _ (s : Sources) (facts : AreFacts s) (right : IsNone (NameBreach s.units s.names)) (domains : List (List Span)) (instances : List Instance) (pools_right : IsNone (PoolBreach s.units instances)) (law : NeedsAreServed) where
   abbrev ds : List Declaration
@@ -109,7 +105,7 @@ module _ (s : Sources) (facts : AreFacts s) (right : IsNone (NameBreach s.units 
     home_there i e =
         let a = declared_action s.units d there is in
         let named : name_at ds d.inside d.name.id ≡ a.component.name.id =
-            ap (λ (o : Option Place). option_map_or (λ d. d.name.id) (option_and_then (declared_at ds) o) d.name.id) a.inside ∙ ap (λ (o : Option Declaration). option_map_or (λ d. d.name.id) o d.name.id) (at_place s facts right a.component a.is_component.itself) in
+        ap (λ (o : Option Place). option_map_or (λ d. d.name.id) (option_and_then (declared_at ds) o) d.name.id) a.inside ∙ ap (λ (o : Option Declaration). option_map_or (λ d. d.name.id) o d.name.id) (at_place s facts right a.component a.is_component.itself) in
         let found : component_of ds i ≡ Some a.component = ap (look_up ds Files) (e ∙ named) ∙ file_named s facts right a.component a.is_component.itself a.is_component.scope_is in
         ap (λ (o : Option Place). is_there o (component_of ds i)) a.inside ∙ (ap (is_there (Some a.component.name.place)) found ∙ same_itself a.component)
 
@@ -129,12 +125,12 @@ module _ (s : Sources) (facts : AreFacts s) (right : IsNone (NameBreach s.units 
         let among : In x (filter (λ (x : ℕ × Declaration). is_performed s.units x.1) (numbered_actions ds)) = to_filter (λ (x : ℕ × Declaration). is_performed s.units x.1) (numbered_actions ds) x (to_numbered (those_that is_action ds) number d at) performs in
         let y : ℕ × Instance = (instance, i) in
         let homes : In instance (homes_of ds instances d) =
-            to_map (λ (x : ℕ × Instance). x.0) (filter (λ (x : ℕ × Instance). is_home ds d x.1) (enumerate_from 0 instances)) y (to_filter (λ (x : ℕ × Instance). is_home ds d x.1) (enumerate_from 0 instances) y (to_numbered instances instance i here) home) in
+        to_map (λ (x : ℕ × Instance). x.0) (filter (λ (x : ℕ × Instance). is_home ds d x.1) (enumerate_from 0 instances)) y (to_filter (λ (x : ℕ × Instance). is_home ds d x.1) (enumerate_from 0 instances) y (to_numbered instances instance i here) home) in
         let z : ℕ × Declaration = (reference, need) in
         let in_row : In n (needs_in ds x instance) =
-            to_map (λ (y : ℕ × Declaration). record { number = x.0; action = x.1; instance = instance; reference = y.0; need = y.1 }) (enumerate_from 0 (needs_of ds x.1)) z (to_numbered (needs_of ds d) reference need got) in
+        to_map (λ (y : ℕ × Declaration). record { number = x.0; action = x.1; instance = instance; reference = y.0; need = y.1 }) (enumerate_from 0 (needs_of ds x.1)) z (to_numbered (needs_of ds d) reference need got) in
         let all : In n (needs s.units instances) =
-            to_flat_map (λ (x : ℕ × Declaration). flat_map (needs_in ds x) (homes_of ds instances x.1)) (filter (λ (x : ℕ × Declaration). is_performed s.units x.1) (numbered_actions ds)) x n among (to_flat_map (needs_in ds x) (homes_of ds instances d) instance n homes in_row) in
+        to_flat_map (λ (x : ℕ × Declaration). flat_map (needs_in ds x) (homes_of ds instances x.1)) (filter (λ (x : ℕ × Declaration). is_performed s.units x.1) (numbered_actions ds)) x n among (to_flat_map (needs_in ds x) (homes_of ds instances d) instance n homes in_row) in
         let p = law s.units instances n pools_right (to_contains (needs s.units instances) n all) in
         let listed : In (served_by n p.0) (served s.units instances) = to_filter_map (serving s.units instances) (needs s.units instances) n (served_by n p.0) all (ap (option_map (served_by n)) p.1) in
         pool_found (map serve_of (served s.units instances)) number instance reference (serve_of (served_by n p.0)) (to_map serve_of (served s.units instances) (served_by n p.0) listed)

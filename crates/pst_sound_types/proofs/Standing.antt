@@ -1,25 +1,22 @@
 -- Where declarations stand in the sources.
-use Rattle.std.proofs.Common.{◌≡◌, ◌⊎◌, inl, inr, ⊎_elim, refl, sym, ap, subst, ◌∙◌}
-use Rattle.std.specs.Prelude.{Bool, true, false, List, [], ◌∷◌, ◌++◌, map, Option, Some, None}
+use Rattle.std.proofs.Common.{◌≡◌, inl, inr, refl, subst}
+use Rattle.std.specs.Prelude.{true, List, [], ◌∷◌, map, Option, Some, None}
 use Rattle.std.specs.List.{flat_map}
-use Rattle.std.proofs.lemmas.Bool.{false≢true}
 use Rattle.pst_base.specs.declared.position.Place.{Place}
-use Rattle.pst_ast.specs.declared.leaf.Name.{Name}
 use Rattle.pst_ast.specs.declared.shared.TypeName.{TypeName}
-use Rattle.pst_ast.specs.DeclarationTree.{UnitTree, MakeUnit, ItemTree, ItemComponent, ItemObject, ItemEnum, ItemFunction, ItemEmpty, MakeComponent, ComponentPartTree, ComponentPartAction, ComponentPartObject, ComponentPartEnum, ComponentPartFunction, ComponentPartPool, ComponentPartPoolBind, ComponentPartMembers, ComponentPartEmpty, ObjectTree, MakeObject, ObjectPartTree, EnumTree, MakeEnum, FunctionTree, MakeFunction, MakePool, SizeTree, MembersTree, MakeMembers, ActionTree, MakeAction, ActionPartTree}
+use Rattle.pst_ast.specs.DeclarationTree.{UnitTree, MakeUnit, ItemTree, ItemComponent, ItemObject, ItemEnum, ItemFunction, ItemEmpty, MakeComponent, ComponentPartTree, ComponentPartAction, ComponentPartObject, ComponentPartEnum, ComponentPartFunction, ComponentPartPool, ComponentPartPoolBind, ComponentPartMembers, ComponentPartEmpty, ObjectTree, MakeObject, ObjectPartTree, EnumTree, MakeEnum, FunctionTree, MakeFunction, MakePool, MembersTree, MakeMembers, ActionTree, MakeAction, ActionPartTree}
 use Rattle.pst_scope.specs.declared.declaration.Declaration.{Declaration}
-use Rattle.pst_scope.specs.declared.declaration.Scope.TheVariants.{Files, Part}
-use Rattle.pst_scope.specs.declared.declaration.Sort.{Sort}
+use Rattle.pst_scope.specs.declared.declaration.Scope.TheVariants.{Files}
 use Rattle.pst_scope.specs.declared.declaration.Sort.TheVariants as sort
-use Rattle.pst_scope.specs.Declarations.{member, type_declared, action_declared, level_of, item_name, next_item, parameter_name, parameters_of, names_of, in_action_part, in_object_part, in_action, in_object, in_enum, in_function, in_members, in_component_part, in_item_of_unit, in_unit, declarations}
+use Rattle.pst_scope.specs.Declarations.{member, type_declared, level_of, item_name, next_item, parameter_name, parameters_of, names_of, in_action_part, in_object_part, in_action, in_object, in_enum, in_function, in_members, in_component_part, in_item_of_unit, in_unit, declarations}
 use Rattle.pst_scope.specs.Sorts.{is_action}
-use Rattle.pst_scope.specs.Uses.{Use, NamesType, AnObject, option_uses, size_uses, component_part_uses, unit_item_uses, uses}
+use Rattle.pst_scope.specs.Uses.{Use, NamesType, AnObject, option_uses, size_uses, component_part_uses, uses}
 use Rattle.pst_type_rules.specs.Sites.{DeclaredAction, action_of, actions_in_part, actions_in_item, actions, items_of}
 use Rattle.pst_elab_rules.specs.Types.{DeclaredObject, object_of_tree, objects_in_part, objects_in_item}
 use Rattle.pst_elab_rules.specs.Model.{DeclaredPool, pools_in_part, pools_in_item}
-use Rattle.pst_sound_expressions.proofs.Members.{In, in_append, in_map, in_flat_map, to_flat_map, to_left, to_right}
+use Rattle.pst_sound_expressions.proofs.Members.{In, in_map, in_flat_map, to_flat_map, to_left, to_right}
 use Rattle.pst_sound_expressions.proofs.Walks.{item_used, item_declared}
-use Rattle.pst_sound_types.proofs.Inside.{is_other, AreOthers}
+use Rattle.pst_sound_types.proofs.Inside.{is_other}
 
 module _ (units : List UnitTree) where
   -- a component in which something stands

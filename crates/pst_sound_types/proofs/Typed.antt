@@ -1,10 +1,10 @@
 -- References and claims have object types, pools too, and actions are found by their names.
-use Rattle.std.proofs.Common.{◌≡◌, ◌≢◌, ◌⊎◌, inl, inr, ⊎_elim, refl, sym, ap, subst, ◌∙◌}
-use Rattle.std.specs.Prelude.{ℕ, Bool, true, false, IsTrue, IsFalse, List, [], ◌∷◌, ◌++◌, map, length, slice_get, Option, Some, None, if◌then◌else◌, cond, is_some, option_and_then}
-use Rattle.std.specs.List.{flat_map, find}
-use Rattle.std.specs.Option.{option_or, option_map_or}
+use Rattle.std.proofs.Common.{◌≡◌, inl, refl, sym, ap, subst, ◌∙◌}
+use Rattle.std.specs.Prelude.{ℕ, Bool, true, false, List, Option, Some, None, if◌then◌else◌, is_some, option_and_then}
+use Rattle.std.specs.List.{find}
+use Rattle.std.specs.Option.{option_or}
 use Rattle.std.proofs.lemmas.Bool.{false≢true}
-use Rattle.std.proofs.lemmas.Option.{none-some, same_Some}
+use Rattle.std.proofs.lemmas.Option.{none-some}
 use Rattle.pst_base.specs.declared.position.Place.{Place}
 use Rattle.pst_ast.specs.declared.leaf.Name.{Name}
 use Rattle.pst_ast.specs.declared.shared.TypeName.{TypeName}
@@ -15,19 +15,17 @@ use Rattle.pst_ast.specs.SharedTree.{NamesTree}
 use Rattle.pst_ast.specs.DeclarationTree.{UnitTree, ActionPartTree, ActionPartField, ActionPartReference, ActionPartClaim, ActionPartMembers, ActionPartConstraint, ActionPartActivity, ActionPartBody, ActionPartEmpty, ObjectPartTree, ObjectPartField, ObjectPartConstraint, ObjectPartEmpty, FieldTree, MakeReference, MakeClaim, MakeMembers}
 use Rattle.pst_scope.specs.Breaches.{IsNone}
 use Rattle.pst_scope.specs.declared.declaration.Declaration.{Declaration}
-use Rattle.pst_scope.specs.declared.declaration.Scope.TheVariants.{Files, Part}
 use Rattle.pst_scope.specs.declared.declaration.Sort.{Sort}
 use Rattle.pst_scope.specs.declared.declaration.Sort.TheVariants as sort
-use Rattle.pst_scope.specs.declared.referent.Owner.TheVariants.{OfAction}
 use Rattle.pst_scope.specs.declared.referent.Finding.{Finding}
-use Rattle.pst_scope.specs.Declarations.{member, action_declared, field_part, field_parts, is_output, names_of, in_field, in_action_part, in_object_part, declarations}
-use Rattle.pst_scope.specs.Lookups.{look_up, declared_at, type_here, component_named, type_by, type_named, second_of, component_of, home, if_sort, type_in, is_type_for, type_of}
-use Rattle.pst_scope.specs.NameRules.{finding, unless, is_wanted, is_so, type_finding, use_finding, NameBreach, OfUse}
-use Rattle.pst_scope.specs.Sorts.{is_action, is_object, is_pool, is_field, is_reference, is_claim, is_handle, same_place}
-use Rattle.pst_scope.specs.Uses.{Use, NamesType, Wanted, AnObject, AnAction, uses, environment}
+use Rattle.pst_scope.specs.Declarations.{member, action_declared, field_part, field_parts, is_output, names_of, in_action_part, in_object_part, declarations}
+use Rattle.pst_scope.specs.Lookups.{declared_at, type_here, component_named, type_by, type_named, second_of, component_of, home, if_sort, type_in, is_type_for, type_of}
+use Rattle.pst_scope.specs.NameRules.{unless, is_wanted, is_so, type_finding, use_finding, NameBreach, OfUse}
+use Rattle.pst_scope.specs.Sorts.{is_action, is_object, is_pool, is_field, is_reference, is_claim, same_place}
+use Rattle.pst_scope.specs.Uses.{Use, NamesType, Wanted, AnObject, uses}
 use Rattle.pst_type_rules.specs.Sites.{DeclaredAction, actions, action_at}
 use Rattle.pst_terms.specs.Sources.{Sources, declared_in}
-use Rattle.pst_sound_expressions.proofs.Members.{In, in_find, none_found, in_map, in_flat_map, to_contains}
+use Rattle.pst_sound_expressions.proofs.Members.{In, in_find, none_found, in_map, to_contains}
 use Rattle.pst_sound_expressions.proofs.Owned.{same_itself}
 use Rattle.pst_sound_expressions.proofs.Facts.{AreFacts}
 use Rattle.pst_sound_expressions.proofs.Walks.{IsActionAt, action_stands}
@@ -255,13 +253,14 @@ module _ (s : Sources) (facts : AreFacts s) (right : IsNone (NameBreach s.units 
       → (t : Declaration) × (type_of ds d ≡ Some t) × (is_wanted wanted t.sort ≡ true)
   unfolding type_of
   typed_by component wanted name d used at named same =
-      let t = type_right s.units s.names right component wanted name used in
-      (t.0,
-       ap (λ (o : Option TypeName). option_and_then (if_sort (is_type_for d.sort)) (option_and_then (type_named ds (home ds d)) o)) named
-       ∙ (ap (λ (c : Option Place). option_and_then (if_sort (is_type_for d.sort)) (type_named ds c name)) at
-       ∙ (ap (option_and_then (if_sort (is_type_for d.sort))) t.1
-       ∙ ap (λ (b : Bool). if b then Some t.0 else None) (sym (same t.0.sort) ∙ t.2))),
-       t.2)
+      let t = type_right s.units s.names right component wanted name used in (
+        t.0,
+        ap (λ (o : Option TypeName). option_and_then (if_sort (is_type_for d.sort)) (option_and_then (type_named ds (home ds d)) o)) named
+            ∙ (ap (λ (c : Option Place). option_and_then (if_sort (is_type_for d.sort)) (type_named ds c name)) at
+            ∙ (ap (option_and_then (if_sort (is_type_for d.sort))) t.1
+            ∙ ap (λ (b : Bool). if b then Some t.0 else None) (sym (same t.0.sort) ∙ t.2))),
+        t.2,
+      )
 
   abbrev HasObject : Declaration → Type 0
   HasObject d = (t : Declaration) × (type_of ds d ≡ Some t) × (is_object t.sort ≡ true)
