@@ -1,10 +1,10 @@
 -- Each further value of a compound action is of its field's domain.
-use Rattle.std.proofs.Common.{◌≡◌, ◌⊎◌, ℕ, zero, suc, ◌+◌, ◌<◌, ℤ, pos, negsuc, List, [], ◌∷◌, ◌++◌, map, length, Bool, true, false, cond, nat_lt, nat_le, if◌then◌else◌, Option, Some, None, refl, sym, ap, ◌∙◌, subst, inl, inr, arith, length-append}
+use Rattle.std.proofs.Common.{◌≡◌, ◌⊎◌, ℕ, zero, suc, ◌+◌, ◌<◌, ℤ, pos, negsuc, List, [], ◌∷◌, ◌++◌, length, Bool, true, false, nat_lt, nat_le, if◌then◌else◌, Option, Some, None, refl, sym, ap, ◌∙◌, subst, inl, inr, arith, length-append}
 use Rattle.std.specs.Prelude.{slice_get}
 use Rattle.std.specs.List.{enumerate_from, find}
 use Rattle.std.specs.Option.{option_and_then}
 use Rattle.std.proofs.lemmas.Bool.{false≢true}
-use Rattle.std.proofs.lemmas.Option.{none-some, same_Some}
+use Rattle.std.proofs.lemmas.Option.{none-some}
 use Rattle.pst_expr.specs.Laws.{DomainsListValues}
 use Rattle.pst_expr.specs.Spans.{size_of}
 use Rattle.pst_expr.specs.Value.{is_false}
@@ -21,8 +21,8 @@ use Rattle.pst_scen.specs.declared.scenario.Scenario.{Scenario}
 use Rattle.pst_legal.specs.Types.{type_of, action_field, action_instances}
 use Rattle.pst_legal.specs.Growing.{Look, Inner, Leaf, with_look}
 use Rattle.pst_legal.specs.Pieces.{Context, Piece, Action, Statement, Turning, statements, value_in, mask, IsValueOf}
-use Rattle.pst_legal.specs.Menus.{Menu, Way, Place, Weighted, Closed, plain, content_menu, instance_menu, action_menu, join_menu, block_menu, available, branch_menu, repeat_menu, if_menu, is_in_arm, other_menu, arm_menu, match_menu, statement_menu, menu}
-use Rattle.pst_legal.specs.Reading.{put_value, value_number}
+use Rattle.pst_legal.specs.Menus.{Menu, Place, Closed, plain, content_menu, instance_menu, action_menu, join_menu, block_menu, available, branch_menu, repeat_menu, if_menu, is_in_arm, arm_menu, match_menu, statement_menu, menu}
+use Rattle.pst_legal.specs.Reading.{value_number}
 use Rattle.pst_built.proofs.Parents.{get_more, get_last, get_cases}
 use Rattle.pst_built.proofs.SoundActs.{all_get}
 use Rattle.pst_longer.specs.StepsOf.{FieldSteps, AllWays}

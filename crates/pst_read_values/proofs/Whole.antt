@@ -1,6 +1,5 @@
 -- The values of compound actions are of their domains in whatever is read.
-use Rattle.std.proofs.Common.{◌≡◌, ℕ, List, [], ◌∷◌, ◌++◌, refl, ap, ◌∙◌, subst}
-use Rattle.std.specs.Prelude.{slice_get}
+use Rattle.std.proofs.Common.{ℕ, List, [], ◌∷◌, ◌++◌, subst}
 use Rattle.std.proofs.lemmas.Option.{none-some}
 use Rattle.pst_expr.specs.Laws.{DomainsListValues}
 use Rattle.pst_model.specs.ModelTree.{ModelTree}
@@ -15,7 +14,7 @@ use Rattle.pst_longer.specs.StepsOf.{BlankSteps}
 use Rattle.pst_longer.proofs.Goes.{Stands, Goes, stands, goes_then}
 use Rattle.pst_longer.proofs.Readers.{goes_tree, goes_supply, goes_values}
 use Rattle.pst_order_stays.specs.SoFar.{HasRead}
-use Rattle.pst_read_values.specs.Laws.{CompoundsAreValued, CompoundValuesAreInDomains}
+use Rattle.pst_read_values.specs.Laws.{CompoundValuesAreInDomains}
 use Rattle.pst_read_values.proofs.Steps.{IsStart, Keeps, menu_starts, looks_keep}
 
 keeps_same : (m : ModelTree) (s : Scenario) → Keeps m s s
