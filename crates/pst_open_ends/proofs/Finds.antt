@@ -54,6 +54,14 @@ any_append {A = A} t (x ∷ xs) ys = go (t x) (any_append t xs ys)
     go true e = refl
     go false e = e
 
+pub or_assoc : (a b c : Bool) → ((a || b) || c) ≡ (a || (b || c))
+or_assoc true b c = refl
+or_assoc false b c = refl
+
+-- in this action, or in a later one
+pub any_step : (t : Spot → Bool) (acts : List Act) (i : ℕ) (x : Act) → i < length acts → x ≡ get_or acts i x → list_any t (spots_from i (drop i acts)) ≡ (list_any t (spots_of i 0 x.references) || list_any t (spots_from (i + 1) (drop (i + 1) acts)))
+any_step t acts i x l e = ap (list_any t) (acts_from acts i x l e) ∙ any_append t (spots_of i 0 x.references) (spots_from (i + 1) (drop (i + 1) acts))
+
 -- it is found in this action
 pub any_here : (t : Spot → Bool) (acts : List Act) (i : ℕ) (x : Act) → i < length acts → x ≡ get_or acts i x → list_any t (spots_of i 0 x.references) ≡ true → true ≡ list_any t (spots_from i (drop i acts))
 any_here t acts i x l e h =

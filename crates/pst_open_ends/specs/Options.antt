@@ -1,6 +1,7 @@
 -- The sources of a need, with what the program knows beside the actions: the bind of the need, and whether one more action
 -- may be inferred.
-use Rattle.std.specs.Prelude.{ℕ, List, [], ◌∷◌, ◌++◌, map, Bool, true, ◌&&◌, nat_eq, if◌then◌else◌, Option, Some, None, flat_map}
+use Rattle.std.specs.Prelude.{◌≡◌, is_some, ℕ, List, [], ◌∷◌, ◌++◌, map, Bool, true, ◌&&◌, nat_eq, if◌then◌else◌, Option, Some, None, flat_map}
+use Rattle.std.specs.HashMap.{HashMap, get}
 use Rattle.std.specs.List.{enumerate_from, filter}
 use Rattle.pst_base.specs.declared.table.NameId.{NameId}
 use Rattle.pst_model.specs.declared.action.Reference.{Reference}
@@ -13,7 +14,8 @@ use Rattle.pst_legal.specs.Growing.{open_reference}
 use Rattle.pst_scen.specs.declared.act.Link.{Link}
 use Rattle.pst_scen.specs.declared.act.Link.TheVariants as link
 use Rattle.pst_ties.specs.declared.tied.End.{End}
-use Rattle.pst_legal.specs.SupplyReading.{Spot, Source, Initially, New, same_link, is_writer, spots, is_open, fits, is_candidate, source_of, initial_sources, old_sources, sources_of_type}
+use Rattle.pst_ties.specs.Tieds.{same_end}
+use Rattle.pst_legal.specs.SupplyReading.{Spot, Source, Initially, New, same_link, is_writer, is_previous, spots, is_open, fits, is_candidate, source_of, initial_sources, old_sources, sources_of_type}
 
 -- the first object, or a reference
 abbrev pub link_of : Option End → Link
@@ -23,6 +25,14 @@ link_of (Some end) = link.Act end.act end.reference
 -- a writer of the pool that has that as its previous writer
 abbrev pub is_previous_at : ℕ → Link → Spot → Bool
 is_previous_at pool to spot = is_writer spot.filled.flow && (nat_eq spot.filled.pool pool && same_link spot.filled.link to)
+
+-- the reference is kept
+abbrev pub is_taken : {S : Type 0} → HashMap End Bool S → End → Bool
+is_taken taken q = is_some (get same_end taken q)
+
+-- for a writer, those that are the previous writer of another are kept
+abbrev pub KnowsTaken : {S : Type 0} → HashMap End Bool S → List Act → Filled → Type 0
+KnowsTaken taken acts need = is_writer need.flow ≡ true → (q : End) → is_taken taken q ≡ is_previous acts need.pool (link_of (Some q))
 
 abbrev pub initially_if : Bool → List Source
 initially_if b = if b then Initially ∷ [] else []

@@ -5,7 +5,7 @@ ghost use Rattle.pst_ties.specs.Tieds.{fixed_of};
 ghost use Rattle.pst_open_ends.specs.Spots.{read_spot, given_sources};
 ghost use Rattle.pst_open_ends.specs.Options.{free_by, fixed_by, options_by};
 
-use crate::among::{add_fixed, add_old, may_be_initial};
+use crate::among::{add_fixed, add_old, may_be_initial, taken_for};
 use crate::beyond::add_new;
 use crate::flows::is_nothing;
 use crate::spot::{Source, Spot};
@@ -29,7 +29,8 @@ fn free_sources(
     if may_be_initial(acts, need) {
         found.push(Source::Initially)?;
     }
-    add_old(&mut found, acts, need)?;
+    let taken = taken_for(alloc, acts, need)?;
+    add_old(&mut found, &taken, acts, need)?;
     if more {
         add_new(&mut found, model, need)?;
     }
@@ -47,7 +48,8 @@ fn fixed_sources(
 {
     let mut found = Vec::new(alloc);
     if is_nothing(need.link) {
-        add_fixed(&mut found, acts, need, end)?;
+        let taken = taken_for(alloc, acts, need)?;
+        add_fixed(&mut found, &taken, acts, need, end)?;
     }
     Ok(found)
 }

@@ -16,7 +16,7 @@ use Rattle.pst_legal.specs.ValueReading.{Answer, Options, Dead, Whole, answer_of
 use Rattle.pst_open_ends.specs.declared.spot.Spot.{Spot}
 use Rattle.pst_open_ends.specs.Spots.{read_spot, kept_spot}
 use Rattle.pst_open_ends.specs.Options.{options_by}
-use Rattle.pst_open_ends.specs.Changes.{supplied_acts, Supplies}
+use Rattle.pst_open_ends.specs.Changes.{undone, supplied_acts, Supplies}
 use Rattle.pst_supply.specs.declared.walk.Stop.{Stop}
 use Rattle.pst_supply.specs.declared.walk.Made.{Made}
 use Rattle.pst_supply.specs.Walks.{scenario_with, scenario_at, next_of, IfRead, HasDigit}
@@ -188,3 +188,9 @@ module _ (g : Ground) where
             ∙ ap (λ p. read_supply g.model g.seed (now new) p left) size;
       } in
       (stands, stop, subst (AllStand g first made) s.back h)
+
+  -- what the last choice changed
+  pub last_change : (first : Stop) (x : Made) (older : List Made) (acts : List Act) → AllStand g first (x ∷ older) acts → IfRead (read_of (digits_of (x ∷ older))) (λ s. IfRead (read_of (digits_of older)) (λ t. t.actions ≡ undone x.change s.actions))
+  last_change first x older acts h =
+      made_reads first (x ∷ older) acts (λ s. IfRead (read_of (digits_of older)) (λ t. t.actions ≡ undone x.change s.actions)) h
+      (made_reads first older (undone x.change acts) (λ t. t.actions ≡ undone x.change acts) h.2 refl)

@@ -1,11 +1,12 @@
 -- The choices of a walk, and what one of them does.
-use Rattle.std.specs.Prelude.{◌≡◌, ℕ, List, [], ◌∷◌, ◌++◌, length, Some, slice_get}
+use Rattle.std.specs.Prelude.{◌≡◌, ℕ, List, [], ◌∷◌, ◌++◌, length, Option, Some, None, slice_get}
 use Rattle.pst_rng.specs.Words.{start_of}
 use Rattle.pst_model.specs.ModelTree.{ModelTree}
 use Rattle.pst_scen.specs.declared.act.Act.{Act}
 use Rattle.pst_legal.specs.Binds.{Bound}
 use Rattle.pst_legal.specs.Reading.{option_at}
 use Rattle.pst_legal.specs.SupplyReading.{Spot, Source}
+use Rattle.pst_open_ends.specs.declared.links.Change.{Change}
 use Rattle.pst_open_ends.specs.Changes.{Supplies}
 use Rattle.pst_supply.specs.declared.walk.Made.{Made}
 use Rattle.pst_supply.specs.declared.walk.Went.{Went}
@@ -15,6 +16,11 @@ use Rattle.pst_supply.specs.Stops.{IsStop}
 abbrev pub digits_of : List Made → List ℕ
 digits_of [] = []
 digits_of (made ∷ older) = digits_of older ++ made.digit ∷ []
+
+-- what the last of choices changed, latest first
+abbrev pub change_after : List Made → Option Change
+change_after [] = None
+change_after (made ∷ older) = Some made.change
 
 -- the digit names that source among these, at that place
 abbrev pub NamesSource : ℕ → ℕ → List Source → ℕ → Source → Type 0

@@ -40,8 +40,12 @@ AllStand g first (made ∷ older) acts = Stands g (digits_of (made ∷ older)) a
 abbrev pub ground_of : Inside → Ground
 ground_of w = record { model = view_model w.model.now; nodes = w.nodes.now; leaves = w.leaves.now; seed = w.seed; place = w.place; level = w.level }
 
+-- the walk with these choices, latest first
+abbrev pub kept_with : Inside → List Made → Kept
+kept_with w made = record { model = w.model.now; nodes = w.nodes.now; leaves = w.leaves.now; seed = w.seed; place = w.place; level = w.level; choices = digits_of made }
+
 abbrev pub kept_by : Inside → Kept
-kept_by w = record { model = w.model.now; nodes = w.nodes.now; leaves = w.leaves.now; seed = w.seed; place = w.place; level = w.level; choices = digits_of (reverse w.made.items) }
+kept_by w = kept_with w (reverse w.made.items)
 
 pub record IsKept (w : Inside) : Type 0 where
   pub count : w.count ≡ length (leaves_of w.nodes.now)

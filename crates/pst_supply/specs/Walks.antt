@@ -1,5 +1,5 @@
 -- What a walk keeps, and what its list of choices reads.
-use Rattle.std.specs.Prelude.{ℕ, ◌<◌, List, [], ◌∷◌, ◌++◌, map}
+use Rattle.std.specs.Prelude.{◌≡◌, ℕ, ◌<◌, List, [], ◌∷◌, ◌++◌, map, Option, Some, None}
 use Rattle.pst_model.specs.declared.model.Model.{Model}
 use Rattle.pst_model.specs.ModelTree.{ModelTree}
 use Rattle.pst_model.specs.ModelView.{view_model}
@@ -10,7 +10,8 @@ use Rattle.pst_scen.specs.declared.next.Next.TheVariants as next
 use Rattle.pst_scen.specs.declared.scenario.Scenario.{Scenario}
 use Rattle.pst_legal.specs.SupplyReading.{read_supply}
 use Rattle.pst_legal.specs.ValueReading.{Answer, Options, Dead, Whole, answer_of}
-use Rattle.pst_open_ends.specs.Changes.{opened}
+use Rattle.pst_open_ends.specs.declared.links.Change.{Change}
+use Rattle.pst_open_ends.specs.Changes.{opened, undone}
 
 -- the model, the nodes and leaves that are read, the seed, the number of the first place, the level and the choices
 pub record Kept : Type 0 where
@@ -53,3 +54,9 @@ abbrev pub HasDigit : Answer → ℕ → Type 0
 HasDigit (Options s n) digit = digit < n
 HasDigit Dead digit = ⊥
 HasDigit (Whole s) digit = ⊥
+
+-- What the last choice changed: taken back, it gives the actions that the choices before it have read.
+abbrev pub IsChange : Kept → Option Change → Type 0
+IsChange k None = k.choices ≡ []
+IsChange k (Some change) =
+    (before : List ℕ) × (digit : ℕ) × (k.choices ≡ before ++ digit ∷ []) × IfRead (answer k) (λ s. IfRead (answer (record k { choices = before })) (λ t. t.actions ≡ undone change s.actions))

@@ -7,9 +7,9 @@ ghost use Rattle.pst_legal.specs.SupplyReading.{next_need};
 ghost use Rattle.pst_legal.specs.Reading.{option_at};
 ghost use Rattle.pst_open_ends.specs.Spots.{read_spot, kept_spot, given_source, given_sources};
 ghost use Rattle.pst_open_ends.specs.Turns.{AreDone};
-ghost use Rattle.pst_supply.specs.Walks.{Kept, with_choice, answer, next_of, IfRead, HasDigit};
+ghost use Rattle.pst_supply.specs.Walks.{with_choice, answer, next_of, IfRead, HasDigit, IsChange};
 ghost use Rattle.pst_supply.specs.Stops.{options_at, IsStop, stop_after, may_infer, shown_at};
-ghost use Rattle.pst_supply.specs.Choices.{NamesSource, Advances};
+ghost use Rattle.pst_supply.specs.Choices.{NamesSource, Advances, change_after};
 
 use pst_base::NoMemory;
 use pst_model::Model;
@@ -132,6 +132,16 @@ fn stop_of(made: &[Made], first: Stop) -> Stop
     match made.last() {
         Some(made) => made.stop,
         None => first,
+    }
+}
+
+// What the last of these choices changed.
+fn change_of(made: &[Made]) -> Option<Change>
+    ensures { result ≡ change_after (reverse made.now) }
+{
+    match made.last() {
+        Some(made) => Some(made.change),
+        None => None,
     }
 }
 
@@ -297,6 +307,14 @@ impl<'a> SupplyWalk<'a> {
         ensures { IfRead (answer self.now) (λ s. result.now ≡ s.actions) }
     {
         &self.acts
+    }
+
+    /// What the last choice changed, and nothing where there is no choice: the ends that were linked,
+    /// and how many actions there were before.
+    pub fn change(&self) -> Option<Change>
+        ensures { IsChange self.now result }
+    {
+        change_of(&self.made)
     }
 
     /// Makes a choice at the place where the walk stands.

@@ -1,7 +1,7 @@
 -- Joined references, as the definitions see them.
-use Rattle.std.specs.Prelude.{ℕ, List, Option, flat_map, option_to_list}
+use Rattle.std.specs.Prelude.{ℕ, List, [], ◌∷◌, map, Bool, ◌&&◌, nat_eq, if◌then◌else◌, Option, Some, None, flat_map, option_to_list}
 use Rattle.std.specs.List.{enumerate_from}
-use Rattle.std.specs.Option.{option_map, option_and_then}
+use Rattle.std.specs.Option.{option_map, option_and_then, option_or}
 use Rattle.pst_model.specs.declared.activity.Tie.{Tie}
 use Rattle.pst_model.specs.ModelTree.{ModelTree}
 use Rattle.pst_scen.specs.declared.tree.Fill.{Fill}
@@ -33,3 +33,22 @@ binds_in m fill = ties_in (option_and_then (action_activity m) (compound_in fill
 -- what the binds join in the nodes that are numbered from there on
 abbrev pub bounds_from : ModelTree → List Node → ℕ → List Node → List Bound
 bounds_from m nodes number some = flat_map (λ e. flat_map (λ tie. option_to_list (bound_by m nodes e.0 tie)) (ties_at m nodes e.0)) (enumerate_from number some)
+
+-- ---- ends that are kept
+
+abbrev pub same_end : End → End → Bool
+same_end a b = nat_eq a.act b.act && nat_eq a.reference b.reference
+
+-- what was found, or else the other end, where that is found
+abbrev pub or_end : Option End → Bool → End → Option End
+or_end found next other = option_or found (if next then Some other else None)
+
+-- the output of the first bind that names the input
+abbrev pub output_to : List Tied → End → Option End
+output_to [] q = None
+output_to (t ∷ more) q = if same_end t.to q then Some t.from else output_to more q
+
+-- the input of the first bind that names the output
+abbrev pub input_from : List Tied → End → Option End
+input_from [] q = None
+input_from (t ∷ more) q = if same_end t.from q then Some t.to else input_from more q

@@ -1,10 +1,11 @@
 //! Looking up what a bind fixes.
-ghost use Rattle.std.specs.Prelude.{◌≡◌, ◌&&◌, IfOk, map, nat_eq, drop};
+ghost use Rattle.std.specs.Prelude.{◌≡◌, IfOk, OnOk};
+ghost use Rattle.std.specs.HashMap.{get};
 ghost use Rattle.std.specs.List.{find};
 ghost use Rattle.std.specs.Option.{option_map};
 ghost use Rattle.pst_model.specs.ModelView.{view_model};
 ghost use Rattle.pst_legal.specs.Binds.{bounds_of, fixed_source, is_to, is_from, from_of, to_of};
-ghost use Rattle.pst_ties.specs.Tieds.{bound_of, fixed_of};
+ghost use Rattle.pst_ties.specs.Tieds.{fixed_of, same_end, or_end, output_to, input_from};
 
 use crate::found::all_ties;
 use crate::tied::{End, Tied};
@@ -12,47 +13,71 @@ use pst_base::NoMemory;
 use pst_model::Model;
 use pst_scen::{Flow, Node};
 use std::alloc::Global;
+use std::collections::HashMap;
 
 /// The references that the binds of the activities join. Contracts see it as their list, by node and
-/// by the text of the activity.
+/// by the text of the activity. A look-up takes expected constant time.
 #[derive(Drop)]
 pub struct Ties {
     found: Vec<Tied>,
+    outputs: HashMap<End, End>,
+    inputs: HashMap<End, End>,
 }
 
 impl std::marker::Model for Ties {
     ghost use Rattle.std.specs.Prelude.{List, map};
-    ghost use Rattle.std.specs.Coded.{coded_list};
     ghost use Rattle.pst_legal.specs.Binds.{Bound};
     ghost use Rattle.pst_ties.specs.Tieds.{bound_of};
+    ghost use Rattle.pst_ties.specs.Kept.{IsTies};
 
     ghost Value = { List Bound };
 
     ghost view = { λ t. map bound_of t.found.items };
+
+    ghost invariant = { IsTies };
 }
 
-// The output that is bound to an input.
-fn source_to(found: &[Tied], act: usize, reference: usize) -> Option<End>
-    ensures { fixed_of result ≡ option_map from_of (find (is_to act reference) (map bound_of found.now)) }
+// Keeps the other end at its key, where nothing is there yet.
+fn keep(ends: &mut HashMap<End, End>, key: End, other: End) -> Result<(), NoMemory>
+    ensures { OnOk result ((q : End) → get same_end ends.new q ≡ or_end (get same_end ends.old q) (same_end q key) other) }
 {
-    for tied in found {
-        if tied.to.act == act && tied.to.reference == reference {
-            return Some(tied.from);
-        }
+    if !ends.contains_key(&key) {
+        ends.insert(key, other)?;
     }
-    None
+    Ok(())
 }
 
-// The input to which an output is bound.
-fn source_from(found: &[Tied], act: usize, reference: usize) -> Option<End>
-    ensures { fixed_of result ≡ option_map to_of (find (is_from act reference) (map bound_of found.now)) }
+// For each input the output of the first bind that names it.
+fn all_outputs(alloc: Global, found: &[Tied]) -> Result<HashMap<End, End>, NoMemory>
+    ensures { IfOk result (λ ends. (q : End) → get same_end ends q ≡ output_to found.now q) }
 {
+    let mut ends = HashMap::new(alloc);
     for tied in found {
-        if tied.from.act == act && tied.from.reference == reference {
-            return Some(tied.to);
-        }
+        keep(&mut ends, tied.to, tied.from)?;
     }
-    None
+    Ok(ends)
+}
+
+// For each output the input of the first bind that names it.
+fn all_inputs(alloc: Global, found: &[Tied]) -> Result<HashMap<End, End>, NoMemory>
+    ensures { IfOk result (λ ends. (q : End) → get same_end ends q ≡ input_from found.now q) }
+{
+    let mut ends = HashMap::new(alloc);
+    for tied in found {
+        keep(&mut ends, tied.from, tied.to)?;
+    }
+    Ok(ends)
+}
+
+// The other end that is kept for a reference.
+fn other_end(ends: &HashMap<End, End>, act: usize, reference: usize) -> Option<End>
+    ensures { result ≡ get same_end ends.now (record { act = act; reference = reference }) }
+{
+    let key = End { act, reference };
+    match ends.get(&key) {
+        Some(other) => Some(*other),
+        None => None,
+    }
 }
 
 impl Ties {
@@ -60,9 +85,28 @@ impl Ties {
     pub fn new(alloc: Global, model: &Model, nodes: &[Node]) -> Result<Ties, NoMemory>
         ensures { IfOk result (λ ties. ties ≡ bounds_of (view_model model.now) nodes.now) }
     {
+        let found = all_ties(alloc, model, nodes)?;
+        let outputs = all_outputs(alloc, found.as_slice())?;
+        let inputs = all_inputs(alloc, found.as_slice())?;
         Ok(Ties {
-            found: all_ties(alloc, model, nodes)?,
+            found,
+            outputs,
+            inputs,
         })
+    }
+
+    // The output that is bound to an input.
+    fn output_of(&self, act: usize, reference: usize) -> Option<End>
+        ensures { fixed_of result ≡ option_map from_of (find (is_to act reference) self.now) }
+    {
+        other_end(&self.outputs, act, reference)
+    }
+
+    // The input to which an output is bound.
+    fn input_of(&self, act: usize, reference: usize) -> Option<End>
+        ensures { fixed_of result ≡ option_map to_of (find (is_from act reference) self.now) }
+    {
+        other_end(&self.inputs, act, reference)
     }
 
     /// The reference that a bind fixes as the source of a need: that of an input, or of a stream
@@ -73,8 +117,8 @@ impl Ties {
         match flow {
             Flow::BufferOut => None,
             Flow::StateOut => None,
-            Flow::StreamOut => source_from(self.found.as_slice(), act, reference),
-            _ => source_to(self.found.as_slice(), act, reference),
+            Flow::StreamOut => self.input_of(act, reference),
+            _ => self.output_of(act, reference),
         }
     }
 }

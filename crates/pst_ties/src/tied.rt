@@ -1,7 +1,7 @@
 //! References that are joined.
 
 /// The number of an action and of its reference.
-#[derive(Clone, Copy, Debug, PartialEq, Eq)]
+#[derive(Clone, Copy, Debug, PartialEq, Eq, Hash)]
 pub struct End {
     /// The action.
     pub act: usize,
