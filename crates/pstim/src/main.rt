@@ -1,31 +1,15 @@
-//! The program: it reads a source, finds the scenario of a root action, runs it and prints its
-//! trace.
+//! The program: it hands the words of the command line, the system's files and standard output to
+//! the call that answers them, and ends with the status of the answer.
 #![tactic(auto)]
 
-mod answer;
-mod laws;
-mod loading;
-mod parsing;
-mod printing;
-mod replying;
-mod running;
-mod scenario;
-mod source;
-mod straight;
-mod text;
-mod top;
-mod words;
-
-pub use answer::{Answer, What};
-pub use laws::{answers_are_one, scenarios_are_one};
 use pst_base::NoMemory;
 use pst_io::{FileShelf, OutSink};
+use pst_portable::portable_stimulus;
 use pst_target::{OpenGate, ScriptTarget};
 use std::alloc::{AllocError, Global};
 use std::env;
 use std::process::ExitCode;
 use std::rt::Env;
-pub use top::{portable_alone, portable_stimulus};
 
 /// The status where the program itself finds no memory.
 const NO_MEMORY: u8 = 8;
@@ -50,9 +34,6 @@ fn lanes_of(alloc: Global) -> Result<Vec<ScriptTarget>, AllocError> {
     }
     Ok(lanes)
 }
-
-#[cfg(test)]
-mod tests;
 
 fn main(rt: HostRuntime) -> ExitCode {
     let alloc = rt.alloc();

@@ -1,0 +1,5 @@
+mod Said
+mod Ends
+mod SourceNames
+mod Served
+mod Kept

@@ -1,0 +1,60 @@
+//! The calls of the program.
+use crate::setting::Parts;
+use pst_outcome::Answer;
+use pst_portable::{portable_alone, portable_stimulus};
+use pst_target::{OpenGate, SureTarget};
+use std::alloc::{AllocError, Global};
+use std::sync::Wait;
+use std::thread::Threads;
+
+// The status of an answer and the text that was written.
+fn written(alloc: Global, answer: &Answer, bytes: &[u8]) -> Result<String, AllocError> {
+    let mut text = String::new(alloc);
+    write!(text, "{} ", answer.status())?;
+    for byte in bytes {
+        text.push(if *byte == b'\n' {
+            '/'
+        } else {
+            char::from(*byte)
+        })?;
+    }
+    Ok(text)
+}
+
+/// What words are answered on one lane.
+pub fn alone(alloc: Global, text: &str) -> Result<String, AllocError> {
+    let parts = Parts::of(text);
+    let words = parts.words(alloc)?;
+    let mut shelf = parts.shelf(alloc)?;
+    let mut sink = parts.sink(alloc)?;
+    let mut lane = SureTarget::new(alloc, Vec::new(alloc));
+    let answer = portable_alone(alloc, words.as_slice(), &mut shelf, &mut sink, &mut lane);
+    written(alloc, &answer, sink.bytes())
+}
+
+/// What words are answered on so many lanes.
+pub fn on_lanes<R: Threads + Wait + Sync + AllocGlobal>(
+    rt: &R,
+    count: u32,
+    text: &str,
+) -> Result<String, AllocError> {
+    let alloc = rt.alloc();
+    let parts = Parts::of(text);
+    let words = parts.words(alloc)?;
+    let mut shelf = parts.shelf(alloc)?;
+    let mut sink = parts.sink(alloc)?;
+    let mut lanes = Vec::new(alloc);
+    for _ in 0..count {
+        lanes.push(SureTarget::new(alloc, Vec::new(alloc)))?;
+    }
+    let answer = portable_stimulus(
+        rt,
+        alloc,
+        words.as_slice(),
+        &mut shelf,
+        &mut sink,
+        &mut lanes,
+        &OpenGate,
+    );
+    written(alloc, &answer, sink.bytes())
+}

@@ -1,0 +1,65 @@
+//! The table of the program: what words are answered over files in memory, with calls of the shelf
+//! and writes to the sink that fail, is compared with answers that were worked out by hand.
+//!
+//! `stdin` is the table, in the form that `pst_cases` describes. A case is `STATUS TEXT: WORDS =>
+//! NAMES => SHELF => SINK => TEXTS`: the text has a `/` for each line feed; `''` is a word without
+//! letters; the names and texts are those of the files; the shelf's calls with these numbers fail;
+//! the sink takes so many bytes a write, and the writes with the numbers behind fail.
+#![tactic(auto)]
+
+mod calls;
+mod cuts;
+mod setting;
+
+use pst_cases::{Heading, Score, framed, joined_lines, repeated};
+use std::alloc::AllocError;
+use std::io;
+use std::io::Read;
+use std::sync::Wait;
+use std::thread::Threads;
+
+/// The most bytes that are read.
+const LIMIT: u64 = 1 << 24;
+
+// What is answered to a call on a text.
+fn answer<R: Threads + Wait + Sync + AllocGlobal>(
+    rt: &R,
+    heading: &Heading,
+    text: &str,
+) -> Result<String, AllocError> {
+    let alloc = rt.alloc();
+    match heading.call.as_str() {
+        "alone" => calls::alone(alloc, text),
+        "lanes" => calls::on_lanes(rt, heading.number, text),
+        _ => cuts::answers(alloc, text),
+    }
+}
+
+// What must be answered to a case, and what is.
+fn compared<R: Threads + Wait + Sync + AllocGlobal>(
+    rt: &R,
+    heading: &Heading,
+    line: &str,
+) -> Result<(String, String), AllocError> {
+    let alloc = rt.alloc();
+    let (owed, text) = line.split_once(": ").unwrap_or((line, ""));
+    let whole = framed(alloc, heading.frame.as_str(), text)?;
+    let written = repeated(alloc, whole.as_str())?;
+    let wanted = String::from_str(alloc, owed)?;
+    let found = answer(rt, heading, written.as_str())?;
+    Ok((wanted, found))
+}
+
+fn main(rt: HostRuntime) -> io::Result<()> {
+    let alloc = rt.alloc();
+    let table = io::read_to_string(alloc, rt.reader().take(LIMIT))?;
+    let mut heading = Heading::new(alloc);
+    let mut score = Score::new();
+    for line in &joined_lines(alloc, table.as_str())? {
+        if !heading.take(line.as_str())? {
+            let (wanted, found) = compared(&rt, &heading, line.as_str())?;
+            score.count(&rt, line.as_str(), wanted.as_str(), found.as_str())?;
+        }
+    }
+    score.print(&rt)
+}
