@@ -17,7 +17,7 @@ use Rattle.pst_scen.specs.declared.act.Link.TheVariants as link
 use Rattle.pst_scen.specs.declared.scenario.First.{First}
 use Rattle.pst_scen.specs.declared.scenario.Scenario.{Scenario}
 use Rattle.pst_trace_texts.specs.Lines.{line, each_from}
-use Rattle.pst_trace_texts.specs.Named.{name, paths, pool_text, type_text, action_fields, reference_fields, claim_fields, pool_fields, reference_name, claim_name, reference_in, claim_in, reference_of}
+use Rattle.pst_trace_texts.specs.Named.{name, paths, pool_text, type_text, action_fields, reference_fields, claim_fields, pool_fields, reference_name, claim_name, reference_in, claim_in, act_reference}
 
 -- ---- values
 
@@ -92,7 +92,7 @@ join_text number (Match arm) = []
 abbrev pub supplier_text : List (List ℕ) → ModelTree → Scenario → List ℕ → Link → List ℕ
 supplier_text names m s own link.Nothing = []
 supplier_text names m s own link.Initial = codes " " ++ own ++ codes "<initial"
-supplier_text names m s own (link.Act act reference) = codes " " ++ own ++ codes "<" ++ decimal act ++ codes "." ++ reference_name names (reference_of m s act reference)
+supplier_text names m s own (link.Act act reference) = codes " " ++ own ++ codes "<" ++ decimal act ++ codes "." ++ reference_name names (act_reference m s act reference)
 
 -- what a reference is linked to; nothing is printed for the output of a buffer or a stream
 abbrev pub link_text : List (List ℕ) → ModelTree → Scenario → List ℕ → Flow → Link → List ℕ

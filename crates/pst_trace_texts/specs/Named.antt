@@ -81,5 +81,5 @@ abbrev pub claim_in : Option ActionTree → ℕ → Option Claim
 claim_in type claim = option_and_then (λ t. slice_get t.claims claim) type
 
 -- the reference of that number of an action of the scenario
-abbrev pub reference_of : ModelTree → Scenario → ℕ → ℕ → Option Reference
-reference_of m s act reference = option_and_then (λ a. reference_in (slice_get m.actions a.action) reference) (slice_get s.actions act)
+abbrev pub act_reference : ModelTree → Scenario → ℕ → ℕ → Option Reference
+act_reference m s act reference = option_and_then (λ a. reference_in (slice_get m.actions a.action) reference) (slice_get s.actions act)

@@ -7,7 +7,7 @@ ghost use Rattle.pst_trace_texts.specs.Header.{values_text, used_text, supplier_
 
 use crate::lookups::{
     claim_fields, claim_in, claim_name, fields_of, reference_fields, reference_in, reference_name,
-    reference_of,
+    act_reference,
 };
 use crate::nodes::write_used;
 use crate::values::write_values;
@@ -30,7 +30,7 @@ fn write_supplier(
         Link::Nothing => Ok(()),
         Link::Initial => Ok(write!(text, " {own}<initial")?),
         Link::Act { act, reference } => {
-            let supplier = reference_name(names, reference_of(model, scenario, act, reference));
+            let supplier = reference_name(names, act_reference(model, scenario, act, reference));
             Ok(write!(text, " {own}<{act}.{supplier}")?)
         }
     }

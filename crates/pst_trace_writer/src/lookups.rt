@@ -2,7 +2,7 @@
 ghost use Rattle.std.specs.Prelude.{◌≡◌, [], get_or, slice_get, Option, map};
 ghost use Rattle.pst_model.specs.ModelTree.{ModelTree};
 ghost use Rattle.pst_model.specs.ModelView.{view_model, view_action, view_object};
-ghost use Rattle.pst_trace_texts.specs.Named.{name, action_fields, object_fields as object_fields_of, reference_fields as reference_fields_of, claim_fields as claim_fields_of, pool_fields as pool_fields_of, reference_name as reference_name_of, claim_name as claim_name_of, reference_in as reference_in_type, claim_in as claim_in_type, reference_of as reference_of_act};
+ghost use Rattle.pst_trace_texts.specs.Named.{name, action_fields, object_fields as object_fields_of, reference_fields as reference_fields_of, claim_fields as claim_fields_of, pool_fields as pool_fields_of, reference_name as reference_name_of, claim_name as claim_name_of, reference_in as reference_in_type, claim_in as claim_in_type, act_reference as reference_of_act};
 
 use pst_base::{NameId, Names};
 use pst_model::{ActionType, Claim, Field, Model, Pool, Reference};
@@ -56,7 +56,7 @@ pub(crate) fn claim_in(model: &Model, action: u32, claim: usize) -> Option<Claim
 }
 
 /// The reference of that number of an action of the scenario.
-pub(crate) fn reference_of(
+pub(crate) fn act_reference(
     model: &Model,
     scenario: &Scenario,
     act: u32,
