@@ -1,0 +1,4 @@
+mod Calls
+mod Turns
+mod OneRun
+mod OneAnswer
