@@ -13,3 +13,4 @@ pub use command::{Command, Lines};
 pub use key::Key;
 pub use line::{Line, Root};
 pub use reading::read_words;
+pub use value::number_in;

@@ -48,7 +48,7 @@ fn value_of(text: &[u8]) -> Option<u64>
 }
 
 /// The number below 2^64 whose decimal spelling the text is.
-pub(crate) fn number_in(text: &[u8]) -> Option<u64>
+pub fn number_in(text: &[u8]) -> Option<u64>
     ensures { MatchOption result ((n : ℕ) → n < 2 ^ 64 → text.now ≡ decimal n → ⊥) (λ n. (text.now ≡ decimal n) × (n < 2 ^ 64)) }
 {
     if is_plain(text) { value_of(text) } else { None }

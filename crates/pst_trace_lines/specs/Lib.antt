@@ -1,0 +1,4 @@
+pub mod Forms
+pub mod Last
+pub mod Blocks
+pub mod Headers
