@@ -179,13 +179,13 @@ pub end_line : (text : List ℕ) (act : ℕ) → IsEnd text act → IsBlockLine 
 end_line text act e = record { block = OfEnd act e.small; is = e.is ∙ sym (append-nil (event_text false (End act))) }
 
 -- a line of a block is that of an end or of starts
-pub block_cases : (text : List ℕ) (events : List Event) → IsBlockLine text events → ((act : ℕ) × IsEnd text act) ⊎ IsStartLine text events
+pub block_cases : (text : List ℕ) (events : List Event) → IsBlockLine text events → ((act : ℕ) × (events ≡ End act ∷ []) × IsEnd text act) ⊎ IsStartLine text events
 block_cases text events b = by events b.block b.is
   where
-    by : (es : List Event) → IsOneBlock es → line text ≡ events_text false es → ((act : ℕ) × IsEnd text act) ⊎ IsStartLine text es
+    by : (es : List Event) → IsOneBlock es → line text ≡ events_text false es → ((act : ℕ) × (es ≡ End act ∷ []) × IsEnd text act) ⊎ IsStartLine text es
     by es (OfStarts _ starts) is =
         inr (record { rest = pairs_text es; begins = drop_last text (codes "start " ++ pairs_text es) 10 (is ∙ sym (starts_text es starts)); pairs = record { starts = starts; are = refl } })
-    by _ (OfEnd act small) is = inl (act, record { small = small; is = is ∙ append-nil (event_text false (End act)) })
+    by _ (OfEnd act small) is = inl (act, refl, record { small = small; is = is ∙ append-nil (event_text false (End act)) })
 
 pub pairs_behind : (text rest : List ℕ) (events : List Event) → text ≡ codes "start " ++ rest → IsStartLine text events → ArePairs rest events
 pairs_behind text rest events is s =
@@ -197,5 +197,61 @@ pub block_of : {N : Type 0} (r : Result Bool N) (text : List ℕ) (old new : Lis
     → IfOk r (λ good. MatchBool good ((own : List Event) × (new ≡ old ++ own) × IsStartLine text own) ((own : List Event) → IsStartLine text own → ⊥))
     → IfOk r (λ good. MatchBool good ((own : List Event) × (new ≡ old ++ own) × IsBlockLine text own) ((own : List Event) → IsBlockLine text own → ⊥))
 block_of (Ok true) text old new none (own, are, starts) = (own, are, starts_line text own starts)
-block_of (Ok false) text old new none never = λ own block. ⊎_elim (λ e. none e.0 e.1) (λ starts. never own starts) (block_cases text own block)
+block_of (Ok false) text old new none never = λ own block. ⊎_elim (λ e. none e.0 e.2) (λ starts. never own starts) (block_cases text own block)
 block_of (Err e) text old new none given = given
+
+-- ---- a line is that of one block
+
+pairs_one : (es fs : List Event) (text : List ℕ) → ArePairs text es → ArePairs text fs → es ≡ fs
+pairs_one [] fs text p q = absurd p.starts
+pairs_one (End act ∷ es) fs text p q = absurd p.starts
+pairs_one (Start a l false ∷ e ∷ es) fs text p q = absurd p.starts
+pairs_one (Start a l false ∷ []) fs text p q = by (split text fs q)
+  where
+    own : IsPair text a l
+    own = record { of_act = p.starts.0; of_lane = p.starts.1; is = p.are }
+
+    by : Split text fs → Start a l false ∷ [] ≡ fs
+    by (One b k is other) = let same = pair_same text a l b k own other in ap (λ (n : ℕ). Start n l false ∷ []) same.0 ∙ ap (λ (n : ℕ). Start b n false ∷ []) same.1 ∙ sym is
+    by (More b k others front rest is cuts other pairs) = absurd (no_more text front rest a l cuts own)
+pairs_one (Start a l true ∷ es) fs text p q = by (λ others pairs. pairs_one es others (pairs_text es) (record { starts = p.starts.2; are = refl }) pairs) (split text fs q)
+  where
+    first : List ℕ
+    first = decimal a ++ 58 ∷ decimal l
+
+    cuts_own : text ≡ first ++ 32 ∷ pairs_text es
+    cuts_own = p.are ∙ sym (append_assoc (decimal a) (58 ∷ decimal l) (32 ∷ pairs_text es))
+
+    own : IsPair first a l
+    own = record { of_act = p.starts.0; of_lane = p.starts.1; is = refl }
+
+    by : ((others : List Event) → ArePairs (pairs_text es) others → es ≡ others) → Split text fs → Start a l true ∷ es ≡ fs
+    by each (One b k is other) = absurd (no_more text first (pairs_text es) b k cuts_own other)
+    by each (More b k others front rest is cuts other pairs) =
+        let cut = first_cut 32 first (pairs_text es) front rest (sym cuts_own ∙ cuts) (no_blank_in a l own.of_act own.of_lane)
+            (λ h. no_blank_in b k other.of_act other.of_lane (subst (λ (t : List ℕ). Contains t 32) other.is h)) in
+        let same = pair_same first a l b k own (subst (λ (t : List ℕ). IsPair t b k) (sym cut.0) other) in
+        let behind = each others (subst (λ (t : List ℕ). ArePairs t others) (sym cut.1) pairs) in
+        ap (λ (n : ℕ). Start n l true ∷ es) same.0 ∙ ap (λ (n : ℕ). Start b n true ∷ es) same.1 ∙ ap (λ (r : List Event). Start b k true ∷ r) behind ∙ sym is
+
+end_one : (text : List ℕ) (a b : ℕ) → IsEnd text a → IsEnd text b → a ≡ b
+end_one text a b one other =
+    let whole : codes "end " ++ decimal a ≡ codes "end " ++ decimal b = drop_last (codes "end " ++ decimal a) (codes "end " ++ decimal b) 10 (sym one.is ∙ other.is) in
+    decimal_injective a b (wide a one.small) (wide b other.small) (append_cancel_left (codes "end ") (decimal a) (decimal b) whole)
+
+no_start : (text rest : List ℕ) (act : ℕ) → text ≡ codes "start " ++ rest → IsEnd text act → ⊥
+no_start text rest act is e =
+    let same : 115 ∷ 116 ∷ 97 ∷ 114 ∷ 116 ∷ 32 ∷ (rest ++ 10 ∷ []) ≡ line (codes "end " ++ decimal act) = ap line (sym is) ∙ e.is in
+    heads 115 101 _ _ (λ same. absurd (omega (arith, same))) same
+  where
+    heads : (x y : ℕ) (xs ys : List ℕ) → (x ≡ y → ⊥) → x ∷ xs ≡ y ∷ ys → ⊥
+    heads x y xs ys apart same = apart cc
+
+pub block_one : (text : List ℕ) (own other : List Event) → IsBlockLine text own → IsBlockLine text other → own ≡ other
+block_one text own other p q = by (block_cases text own p) (block_cases text other q)
+  where
+    by : ((act : ℕ) × (own ≡ End act ∷ []) × IsEnd text act) ⊎ IsStartLine text own → ((act : ℕ) × (other ≡ End act ∷ []) × IsEnd text act) ⊎ IsStartLine text other → own ≡ other
+    by (inl (a, is, one)) (inl (b, are, two)) = is ∙ ap (λ (n : ℕ). End n ∷ []) (end_one text a b one two) ∙ sym are
+    by (inl (a, is, one)) (inr starts) = absurd (no_start text starts.rest a starts.begins one)
+    by (inr starts) (inl (b, are, two)) = absurd (no_start text starts.rest b starts.begins two)
+    by (inr starts) (inr others) = pairs_one own other starts.rest starts.pairs (pairs_behind text starts.rest other starts.begins others)

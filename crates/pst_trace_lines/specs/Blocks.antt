@@ -48,3 +48,7 @@ pub record IsStartLine (text : List ℕ) (events : List Event) : Type 0 where
   pub rest : List ℕ
   pub begins : text ≡ codes "start " ++ rest
   pub pairs : ArePairs rest events
+
+-- a line is that of at most one block
+abbrev pub BlockLinesAreOne : Type 0
+BlockLinesAreOne = (text : List ℕ) (own other : List Event) → IsBlockLine text own → IsBlockLine text other → own ≡ other
