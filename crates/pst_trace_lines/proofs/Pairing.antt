@@ -229,7 +229,7 @@ pairs_one (Start a l true ∷ es) fs text p q = by (λ others pairs. pairs_one e
     by each (One b k is other) = absurd (no_more text first (pairs_text es) b k cuts_own other)
     by each (More b k others front rest is cuts other pairs) =
         let cut = first_cut 32 first (pairs_text es) front rest (sym cuts_own ∙ cuts) (no_blank_in a l own.of_act own.of_lane)
-            (λ h. no_blank_in b k other.of_act other.of_lane (subst (λ (t : List ℕ). Contains t 32) other.is h)) in
+        (λ h. no_blank_in b k other.of_act other.of_lane (subst (λ (t : List ℕ). Contains t 32) other.is h)) in
         let same = pair_same first a l b k own (subst (λ (t : List ℕ). IsPair t b k) (sym cut.0) other) in
         let behind = each others (subst (λ (t : List ℕ). ArePairs t others) (sym cut.1) pairs) in
         ap (λ (n : ℕ). Start n l true ∷ es) same.0 ∙ ap (λ (n : ℕ). Start b n true ∷ es) same.1 ∙ ap (λ (r : List Event). Start b k true ∷ r) behind ∙ sym is

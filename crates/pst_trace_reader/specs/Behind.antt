@@ -1,5 +1,5 @@
 -- What the lines behind the counts of a text come to.
-use Rattle.std.specs.Prelude.{◌≡◌, ⊥, ℕ, ◌+◌, List, [], ◌∷◌, ◌++◌, length, map, string_bytes, Result, Ok, Err}
+use Rattle.std.specs.Prelude.{◌≡◌, ℕ, ◌+◌, List, [], ◌∷◌, ◌++◌, length, map, string_bytes, Result, Ok, Err}
 use Rattle.pst_scen.specs.declared.event.Event.{Event}
 use Rattle.pst_trace_lines.specs.declared.last.LastLine.{LastLine}
 use Rattle.pst_trace_reader.specs.declared.line.Reading.{Reading}

@@ -1,5 +1,5 @@
 -- One line of the rest of a trace.
-use Rattle.std.specs.Prelude.{◌≡◌, ⊥, ℕ, ◌≤◌, List, [], ◌∷◌, ◌++◌, map, string_bytes}
+use Rattle.std.specs.Prelude.{◌≡◌, ℕ, ◌≤◌, List, [], ◌∷◌, ◌++◌, map, string_bytes}
 use Rattle.pst_scen.specs.declared.event.Event.{Event}
 use Rattle.pst_trace_lines.specs.declared.header.HeaderLine.{HeaderLine}
 use Rattle.pst_trace_lines.specs.declared.header.HeaderLine.TheVariants.{Join}

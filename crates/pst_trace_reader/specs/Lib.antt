@@ -1,3 +1,4 @@
 pub mod Traces
 pub mod Going
 pub mod Behind
+pub mod Top

@@ -1,5 +1,5 @@
 -- Which texts are those of traces, in either format, and which line of another text is the first bad one.
-use Rattle.std.specs.Prelude.{◌≡◌, ◌⊎◌, ⊥, ℕ, ◌+◌, ◌≤◌, List, [], ◌∷◌, ◌++◌, length, map, string_bytes, codes, decimal, All, Contains}
+use Rattle.std.specs.Prelude.{◌≡◌, ◌⊎◌, ℕ, ◌+◌, ◌≤◌, List, [], ◌∷◌, ◌++◌, length, map, string_bytes, codes, decimal, All, Contains}
 use Rattle.std.specs.List.{flat_map}
 use Rattle.pst_scen.specs.declared.event.Event.{Event}
 use Rattle.pst_trace_texts.specs.Lines.{line}

@@ -1,11 +1,12 @@
 //! The lines behind the counts of a text.
 ghost use Rattle.std.specs.Prelude.{◌≡◌, ◌≤◌, ◌<◌, ◌+◌, ◌^◌, ℕ, List, nat_eq, MatchResult};
 ghost use Rattle.std.specs.List.{count_by};
-ghost use Rattle.pst_trace_reader.specs.Behind.{IsBehind, BodyEnds};
+ghost use Rattle.pst_trace_reader.specs.declared.body.TraceEnd.TheVariants.{NoMemory as OutOfMemory};
+ghost use Rattle.pst_trace_reader.specs.Behind.{BodyEnds};
 
 use crate::line::{Reading, Step, read_line};
 use pst_base::NoMemory;
-use pst_trace_lines::{LastLine, cut};
+use pst_trace_lines::{LastLine, block_lines_are_one, cut};
 use std::alloc::Global;
 
 /// Why lines are no trace.
@@ -22,7 +23,7 @@ pub enum TraceEnd {
 }
 
 impl From<NoMemory> for TraceEnd {
-    ghost from_gives = { λ _ end. end ≡ TraceEnd.NoMemory };
+    ghost from_gives = { λ _ end. end ≡ OutOfMemory };
 
     fn from(_error: NoMemory) -> TraceEnd {
         TraceEnd::NoMemory
@@ -39,6 +40,7 @@ pub(crate) fn read_body(
     requires few { count_by (nat_eq 10) text.now + 3 < 2 ^ 32 }
     ensures { BodyEnds reading.old reading.new text.now result }
 {
+    block_lines_are_one();
     let mut rest = text;
     let mut line = 3;
     'lines: while let Some((one, more)) = cut(rest, b'\n') {
@@ -48,7 +50,7 @@ pub(crate) fn read_body(
                 line += 1;
             }
             Step::Ends(last) => {
-                if more.is_empty() {
+                if more.len() == 0 {
                     return Ok(last);
                 }
                 return Err(TraceEnd::Bad { line: line + 1 });

@@ -99,11 +99,7 @@ fn read_of_block(reading: &mut Reading, line: &[u8]) -> Result<Step, NoMemory>
 }
 
 /// Reads one line behind the counts of a text.
-pub(crate) fn read_line(
-    alloc: Global,
-    reading: &mut Reading,
-    line: &[u8],
-) -> Result<Step, NoMemory>
+pub(crate) fn read_line(alloc: Global, reading: &mut Reading, line: &[u8]) -> Result<Step, NoMemory>
     ensures { IfOk result (λ step. Steps reading.old reading.new line.now step) }
 {
     if let Some(sort) = read_header_line(line) {

@@ -1,0 +1,7 @@
+mod Printed
+mod Chosen
+mod Heads
+mod Onward
+mod Cut
+mod Rests
+mod Tops
