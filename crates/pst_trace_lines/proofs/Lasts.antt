@@ -18,13 +18,13 @@ drop_last (x ∷ a) (y ∷ b) m e =
     let tail : a ++ m ∷ [] ≡ b ++ m ∷ [] = cc in
     ap (λ (n : ℕ). n ∷ a) head ∙ ap (λ (l : List ℕ). y ∷ l) (drop_last a b m tail)
 
-abbrev three_text : ℕ → ℕ → ℕ → List ℕ
+abbrev pub three_text : ℕ → ℕ → ℕ → List ℕ
 three_text a b c = decimal a ++ 32 ∷ (decimal b ++ 32 ∷ decimal c)
 
-fault_text : (a b c : ℕ) → codes "fault " ++ decimal a ++ codes " " ++ decimal b ++ codes " " ++ decimal c ≡ codes "fault " ++ three_text a b c
+pub fault_text : (a b c : ℕ) → codes "fault " ++ decimal a ++ codes " " ++ decimal b ++ codes " " ++ decimal c ≡ codes "fault " ++ three_text a b c
 fault_text a b c = simp append_assoc
 
-trap_text : (a b c : ℕ) → codes "trap " ++ decimal a ++ codes " " ++ decimal b ++ codes " " ++ decimal c ≡ codes "trap " ++ three_text a b c
+pub trap_text : (a b c : ℕ) → codes "trap " ++ decimal a ++ codes " " ++ decimal b ++ codes " " ++ decimal c ≡ codes "trap " ++ three_text a b c
 trap_text a b c = simp append_assoc
 
 pub fault_three : (text rest : List ℕ) (a b c : ℕ) → text ≡ codes "fault " ++ rest → IsFault text a b c → AreThree rest a b c

@@ -1,3 +1,4 @@
 mod Cutting
 mod Lasts
 mod Pairing
+mod Ends

@@ -11,6 +11,6 @@ mod numbers;
 pub use blocks::read_block;
 pub use header::{HeaderLine, read_header_line};
 pub use last::{LastLine, read_last};
-pub use laws::block_lines_are_one;
+pub use laws::{block_lines_are_one, last_lines_are_one};
 pub use lines::{read_counts, read_end};
 pub use numbers::cut;

@@ -5,3 +5,4 @@ mod Onward
 mod Cut
 mod Rests
 mod Tops
+mod OneReading

@@ -16,7 +16,7 @@ use Rattle.pst_trace_reader.specs.Behind.{IsRest, IsBadRest, IsFirstBadRest, IsR
 use Rattle.pst_trace_reader.specs.Top.{RestEnds}
 use Rattle.pst_trace_reader.proofs.Cut.{Unbroken, cut_all, line_first}
 
-format_one : (text : List ℕ) (a b : ℕ) → IsFormatLine text a → IsFormatLine text b → a ≡ b
+pub format_one : (text : List ℕ) (a b : ℕ) → IsFormatLine text a → IsFormatLine text b → a ≡ b
 format_one text a b one other =
     decimal_injective a b (small a one.known) (small b other.known) (append_cancel_left (codes "pst ") (decimal a) (decimal b) (sym one.is ∙ other.is))
   where

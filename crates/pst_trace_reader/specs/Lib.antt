@@ -2,3 +2,4 @@ pub mod Traces
 pub mod Going
 pub mod Behind
 pub mod Top
+pub mod Laws
