@@ -1,0 +1,7 @@
+pub mod Alters
+pub mod Each
+pub mod Rows
+pub mod Firsts
+pub mod Listed
+pub mod Cleared
+pub mod Puts

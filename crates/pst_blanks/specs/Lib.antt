@@ -1,0 +1,4 @@
+pub mod Blanks
+pub mod Fields
+pub mod Placed
+pub mod Filling
