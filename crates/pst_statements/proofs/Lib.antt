@@ -1,5 +1,5 @@
 pub mod Children
-mod Found
+pub mod Found
 pub mod Kept
-mod Listed
+pub mod Listed
 mod Whole

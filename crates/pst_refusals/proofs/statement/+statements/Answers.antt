@@ -1,0 +1,28 @@
+use Rattle.std.proofs.Common.{◌≡◌, ◌<◌, Some, sym, ◌∙◌, refl, subst, arith}
+use Rattle.std.specs.Prelude.{IfOk, slice_get}
+use Rattle.std.specs.Option.{option_map}
+use Rattle.pst_model.specs.ModelView.{view_model}
+use Rattle.pst_statements.specs.Stated.{parent_of}
+use Rattle.pst_refusals.specs.Founds.{stated_of}
+use Rattle.pst_refusals.proofs.Steps.{got}
+use Rattle.pst_refusals.proofs.Within.{within_turn, within_part}
+use Rattle.pst_refusals.proofs.statement.+statements.Goals as goal
+
+pub stated_within-returns-in-Turn : goal.stated_within-returns-in-Turn
+stated_within-returns-in-Turn t c =
+    let m = view_model c.args.model.now in
+    let some : 0 < c.args.levels = omega arith in
+    let at : slice_get c.args.nodes.now c.in-Some.parent ≡ Some c.in-Some-get.node.now = got c.args.nodes.now c.in-Some.parent c.get.result c.in-Some-get.node c.get.ensures.lookup.0 c.get.ensures.lookup.1 c.in-Some-get.is in
+    subst (λ o. IfOk c.in_turn.result (λ found. option_map stated_of found ≡ o))
+    (within_turn m c.args.nodes.now c.args.levels c.args.n c.in-Some.parent c.in-Turn.index c.in-Some-get.node.now some (sym c.parent_of.ensures ∙ c.in-Some.is) at c.in-Turn.is)
+    c.in_turn.ensures
+
+pub stated_within-returns-in_default-fill : goal.stated_within-returns-in_default-fill
+stated_within-returns-in_default-fill t c =
+    let m = view_model c.args.model.now in
+    let some : 0 < c.args.levels = omega arith in
+    let at : slice_get c.args.nodes.now c.in-Some.parent ≡ Some c.in-Some-get.node.now = got c.args.nodes.now c.in-Some.parent c.get.result c.in-Some-get.node c.get.ensures.lookup.0 c.get.ensures.lookup.1 c.in-Some-get.is in
+    subst (λ o. IfOk c.in_part.result (λ found. option_map stated_of found ≡ o))
+    (within_part m c.args.nodes.now c.args.levels c.args.n c.in-Some.parent c.in-Some-get.node.now c.in-Some-get.node.now.fill some (sym c.parent_of.ensures ∙ c.in-Some.is) at refl
+    (λ action instance fields. c.in_default-fill.not-Compound action instance fields) (λ index. c.in_default-fill.not-Turn index))
+    c.in_part.ensures

@@ -1,0 +1,20 @@
+-- What is told of a scenario's constraints.
+use Rattle.std.specs.Prelude.{◌≡◌, ℕ, ◌<◌, List, Bool, true, false, Some, slice_get}
+use Rattle.pst_model.specs.ModelTree.{ModelTree}
+use Rattle.pst_scen.specs.declared.tree.Node.{Node}
+use Rattle.pst_scen.specs.declared.scenario.Scenario.{Scenario}
+use Rattle.pst_legal.specs.Constraints.{Holds}
+use Rattle.pst_legal.specs.First.{NoneRefused}
+use Rattle.pst_more_known.specs.Refused.{SomeRefused}
+
+-- each node's parent stands before it
+abbrev pub StandEarlier : List Node → Type 0
+StandEarlier nodes = (n parent : ℕ) (node : Node) → slice_get nodes n ≡ Some node → node.parent ≡ Some parent → parent < n
+
+abbrev pub TellsRefusals : ModelTree → Scenario → Bool → Type 0
+TellsRefusals m s true = SomeRefused m s
+TellsRefusals m s false = NoneRefused m s
+
+abbrev pub TellsUnmet : ModelTree → Scenario → Bool → Type 0
+TellsUnmet m s true = Holds m s → ⊥
+TellsUnmet m s false = Holds m s
