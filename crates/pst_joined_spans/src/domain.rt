@@ -1,5 +1,6 @@
 //! The domains of joined spans.
 ghost use Rattle.std.specs.Prelude.{◌≡◌, IfOk};
+ghost use Rattle.pst_expr.specs.Spans.{IsDomain};
 ghost use Rattle.pst_joined_spans.specs.Joined.{AreJoined};
 
 use pst_base::NoMemory;
@@ -10,7 +11,8 @@ use pst_expr::{Domain, Span};
 #[tactic(auto, using(crate::proofs::Sizes::is_domain_by))]
 pub fn domain_of(spans: Vec<Span>) -> Result<Domain, NoMemory>
     requires { AreJoined spans.items }
-    ensures { IfOk result (λ domain. domain ≡ spans.items) }
+    ensures same { IfOk result (λ domain. domain ≡ spans.items) }
+    ensures domain { IfOk result (λ domain. IsDomain domain) }
 {
     if spans.is_empty() {
         return Err(NoMemory);
