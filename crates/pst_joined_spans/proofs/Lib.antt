@@ -1,0 +1,4 @@
+pub mod In
+pub mod Joining
+pub mod Cutting
+pub mod Sizes
