@@ -36,12 +36,12 @@ groups_same s p q first second =
     let others = second.entries.many in
     same_number_lists p.groups q.groups (many ∙ sym others)
     (λ a below.
-      let inside : a < length s.actions = omega (arith, below, many) in
-      let one_is = first.entries.group a inside in
-      let two_is = second.entries.group a inside in
-      let under = one_is.least (get_or q.groups a 0) two_is.member in
-      let over = two_is.least (get_or p.groups a 0) one_is.member in
-      omega (arith, under, over))
+    let inside : a < length s.actions = omega (arith, below, many) in
+    let one_is = first.entries.group a inside in
+    let two_is = second.entries.group a inside in
+    let under = one_is.least (get_or q.groups a 0) two_is.member in
+    let over = two_is.least (get_or p.groups a 0) one_is.member in
+    omega (arith, under, over))
 
 -- ---- what was made
 
@@ -104,7 +104,7 @@ module _ (bodies : BodiesEndOnce) (cores : CoreIsOne) (m : ModelTree) (s : Scena
       → (a : RanUpTo m s p (Some before) (Some after) action to book) (b : RanUpTo m s q (Some before) (Some after) act other view) → Alike book view action act to other a.runs.part b.runs.part
   parts_alike book view action act to other stops stop a b =
       let same = on_calls a.actions b.actions (Some action) (Some act) to other a.runs.part b.runs.part a.made b.made a.calls b.calls
-          (goes_part m s p (Some before) (Some after) action to book a stops) (goes_part m s q (Some before) (Some after) act other view b stop) in
+      (goes_part m s p (Some before) (Some after) action to book a stops) (goes_part m s q (Some before) (Some after) act other view b stop) in
       let action_is : action ≡ act = inj same.last in
       record {
         action_is = action_is;
@@ -143,10 +143,11 @@ runs_one bodies cores names m s p q before after old new _ _ _ _ first second (H
     absurd (part_and_whole bodies cores m s p q before after book view action (Trap kind) tt a b)
 runs_one bodies cores names m s p q before after old new _ _ _ _ first second (HasFailed action call book fits a count) (HasFailed act number view fits2 b count2) =
     let same = parts_alike bodies cores m s p q before after book view action act (Wants a.function a.arguments) (Wants b.function b.arguments) tt tt a.ran b.ran in
-    let call_is : call ≡ number = a.number ∙ ap (λ (l : List Answered). length l + 1) same.parts ∙ sym b.number in
-    (ap (λ n. TargetFault 0 n call) same.action_is ∙ ap (λ n. TargetFault 0 act n) call_is,
-    ap (λ (t : List Event). trace_text names m s t (last.Fault 0 action call)) same.trace
-    ∙ ap (λ (l : Last). trace_text names m s view.trace l) (ap (λ n. last.Fault 0 n call) same.action_is ∙ ap (λ n. last.Fault 0 act n) call_is))
+    let call_is : call ≡ number = a.number ∙ ap (λ (l : List Answered). length l + 1) same.parts ∙ sym b.number in (
+      ap (λ n. TargetFault 0 n call) same.action_is ∙ ap (λ n. TargetFault 0 act n) call_is,
+      ap (λ (t : List Event). trace_text names m s t (last.Fault 0 action call)) same.trace
+          ∙ ap (λ (l : Last). trace_text names m s view.trace l) (ap (λ n. last.Fault 0 n call) same.action_is ∙ ap (λ n. last.Fault 0 act n) call_is),
+    )
 runs_one bodies cores names m s p q before after old new _ _ _ _ first second (HasFailed action call book fits a count) (HasTrapped act kind view fits2 b count2) =
     let same = parts_alike bodies cores m s p q before after book view action act (Wants a.function a.arguments) (Trap kind) tt tt a.ran b in
     absurd (subst is_wants same.comes tt)
@@ -155,10 +156,11 @@ runs_one bodies cores names m s p q before after old new _ _ _ _ first second (H
     absurd (subst is_wants (sym same.comes) tt)
 runs_one bodies cores names m s p q before after old new _ _ _ _ first second (HasTrapped action kind book fits a count) (HasTrapped act other view fits2 b count2) =
     let same = parts_alike bodies cores m s p q before after book view action act (Trap kind) (Trap other) tt tt a b in
-    let kind_is : kind ≡ other = inj kind other same.comes in
-    (ap (λ n. BodyTrap 0 n kind) same.action_is ∙ ap (λ n. BodyTrap 0 act n) kind_is,
-    ap (λ (t : List Event). trace_text names m s t (last.Trap 0 action kind)) same.trace
-    ∙ ap (λ (l : Last). trace_text names m s view.trace l) (ap (λ n. last.Trap 0 n kind) same.action_is ∙ ap (λ n. last.Trap 0 act n) kind_is))
+    let kind_is : kind ≡ other = inj kind other same.comes in (
+      ap (λ n. BodyTrap 0 n kind) same.action_is ∙ ap (λ n. BodyTrap 0 act n) kind_is,
+      ap (λ (t : List Event). trace_text names m s t (last.Trap 0 action kind)) same.trace
+          ∙ ap (λ (l : Last). trace_text names m s view.trace l) (ap (λ n. last.Trap 0 n kind) same.action_is ∙ ap (λ n. last.Trap 0 act n) kind_is),
+    )
   where
     inj : (kind other : ℕ) → Trap kind ≡ Trap other → kind ≡ other
     inj kind other is = cc

@@ -159,10 +159,10 @@ module _ (m : ModelTree) (s : Scenario) (bodies : BodiesEndOnce) (cores : CoreIs
       let back = sym same in
       let calls_same = one_run m s x run run2 rest rest2 bodies ended (subst (λ (n : ℕ). body_run m s n run2 ≡ Some HasEnded) back ended2) (sym are ∙ are2) in
       let next = one ((cs ++ Open ∷ []) ++ Close x ∷ []) (pre ++ x ∷ []) xs ys o r to other part more rest
-          (core_on s cs pre x (turns_of xs ++ last_commands o) (events_of xs ++ last_events o) core first)
-          (go_on m s pre xs x o to part rest first a.whole others)
-          (go_on m s pre ys x r other more rest (subst (λ (n : ℕ). IsTurn s (events_of pre) n (turns_of ys ++ last_commands r) (events_of ys ++ last_events r)) back second)
-          (subst (λ (n : ℕ). IsWholeAt s r (events_of pre ++ events_of (n ∷ ys))) back b.whole) (subst (λ (l : List Answered). Comes m s ys r other more l) (sym calls_same.1) others2)) in
+      (core_on s cs pre x (turns_of xs ++ last_commands o) (events_of xs ++ last_events o) core first)
+      (go_on m s pre xs x o to part rest first a.whole others)
+      (go_on m s pre ys x r other more rest (subst (λ (n : ℕ). IsTurn s (events_of pre) n (turns_of ys ++ last_commands r) (events_of ys ++ last_events r)) back second)
+      (subst (λ (n : ℕ). IsWholeAt s r (events_of pre ++ events_of (n ∷ ys))) back b.whole) (subst (λ (l : List Answered). Comes m s ys r other more l) (sym calls_same.1) others2)) in
       record { actions = heads same next.actions; last = next.last; comes = next.comes; parts = next.parts }
     where
       heads : x ≡ y → xs ≡ ys → x ∷ xs ≡ y ∷ ys

@@ -64,21 +64,47 @@ pub fn show_run<T: Target>(
         Ok(book) => {
             let actions = scenario.actions.as_slice().len() as u32;
             let text = trace_of(alloc, names, model, scenario, &book, Last::Done)?;
-            Ok(ShownRun { answer: RunAnswer::Done { actions }, text })
+            Ok(ShownRun {
+                answer: RunAnswer::Done { actions },
+                text,
+            })
         }
         Err(RunEnd::Narrow { need, have }) => {
             let text = narrow_line(alloc, need, have)?;
-            Ok(ShownRun { answer: RunAnswer::Narrow { need, have }, text })
+            Ok(ShownRun {
+                answer: RunAnswer::Narrow { need, have },
+                text,
+            })
         }
-        Err(RunEnd::TargetFault { lane, action, call, book }) => {
+        Err(
+            RunEnd::TargetFault {
+                lane,
+                action,
+                call,
+                book,
+            },
+        ) => {
             let last = Last::Fault { lane, action, call };
             let text = trace_of(alloc, names, model, scenario, &book, last)?;
-            Ok(ShownRun { answer: RunAnswer::TargetFault { lane, action, call }, text })
+            Ok(ShownRun {
+                answer: RunAnswer::TargetFault { lane, action, call },
+                text,
+            })
         }
-        Err(RunEnd::BodyTrap { lane, action, kind, book }) => {
+        Err(
+            RunEnd::BodyTrap {
+                lane,
+                action,
+                kind,
+                book,
+            },
+        ) => {
             let last = Last::Trap { lane, action, kind };
             let text = trace_of(alloc, names, model, scenario, &book, last)?;
-            Ok(ShownRun { answer: RunAnswer::BodyTrap { lane, action, kind }, text })
+            Ok(ShownRun {
+                answer: RunAnswer::BodyTrap { lane, action, kind },
+                text,
+            })
         }
         Err(RunEnd::NoMemory) => Err(NoMemory),
     }

@@ -6,8 +6,8 @@ ghost use Rattle.pst_trace_texts.specs.Named.{paths as all_paths, action_fields}
 ghost use Rattle.pst_trace_texts.specs.Header.{values_text, used_text, supplier_text, link_text, reference_text, claim_text, origin_text, action_line};
 
 use crate::lookups::{
-    claim_fields, claim_in, claim_name, fields_of, reference_fields, reference_in, reference_name,
-    act_reference,
+    act_reference, claim_fields, claim_in, claim_name, fields_of, reference_fields, reference_in,
+    reference_name,
 };
 use crate::nodes::write_used;
 use crate::values::write_values;
