@@ -1,4 +1,0 @@
-mod Calls
-mod Turns
-mod OneRun
-mod OneAnswer
