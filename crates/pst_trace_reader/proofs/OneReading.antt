@@ -156,22 +156,31 @@ lines_alike text n k a b = by (order (length a.front) (length b.front))
     by (inr (inl equal)) = a.number_is ∙ ap (λ m. m + 1) equal ∙ sym b.number_is
     by (inr (inr more)) = absurd (not_behind b.front b.behind b.rest a.front a.behind (sym same) more b.bad a.begins)
 
-never_both : (text : List ℕ) (t : TraceText) (n : ℕ) → IsTraceText text t → IsFirstBad text n → ⊥
-never_both text t n a b = by b.behind (sym both.0) b.bad
+one_of_lines : (blocks : BlockLinesAreOne) (lasts : LastLinesAreOne) (text : List ℕ) (lines others : List (List ℕ)) (f g : ℕ) (h k : List (List ℕ)) (e d : List Event) (l m : LastLine)
+    → AreLines text lines [] → AreLines text others [] → AreTrace lines f h e l → AreTrace others g k d m → (f ≡ g) × (h ≡ k) × (e ≡ d) × (l ≡ m)
+one_of_lines blocks lasts text lines others f g h k e d l m own are one other =
+    let same = (lines_one text lines others [] [] own are).0 in
+    let (formats, rest) = trace_one blocks lasts others f g h k e d l m (subst (λ (ls : List (List ℕ)). AreTrace ls f h e l) same one) other in
+    (formats, rest.headers, rest.events, rest.lasts)
+
+never_bad : (text : List ℕ) (lines : List (List ℕ)) (n : ℕ) → AreLines text lines [] → IsTrace lines → IsFirstBad text n → ⊥
+never_bad text lines n are whole b = by b.behind (sym both.0) b.bad
   where
-    both : (a.lines ≡ b.front ++ b.behind) × ([] ≡ b.rest)
-    both = lines_one text a.lines (b.front ++ b.behind) [] b.rest a.are b.are
+    both : (lines ≡ b.front ++ b.behind) × ([] ≡ b.rest)
+    both = lines_one text lines (b.front ++ b.behind) [] b.rest are b.are
 
-    whole : IsTrace a.lines
-    whole = record { format = t.format; header = map string_bytes t.header.items; events = t.events.items; last = t.last; is = a.trace }
-
-    by : (behind : List (List ℕ)) → b.front ++ behind ≡ a.lines → IsBadBehind b.front behind b.rest → ⊥
+    by : (behind : List (List ℕ)) → b.front ++ behind ≡ lines → IsBadBehind b.front behind b.rest → ⊥
     by [] is bad = bad (subst IsTrace (sym is ∙ append-nil b.front) whole) (sym both.1)
     by (x ∷ more) is bad = bad (more, subst IsTrace (sym is ∙ sym (append_assoc b.front (x ∷ []) more)) whole)
+
+never_both : (text : List ℕ) (t : TraceText) (n : ℕ) → IsTraceText text t → IsFirstBad text n → ⊥
+never_both text t n a b = never_bad text a.lines n a.are (record { format = t.format; header = map string_bytes t.header.items; events = t.events.items; last = t.last; is = a.trace }) b
 
 pub readings_one : BlockLinesAreOne → LastLinesAreOne → ReadingsAreOne
 readings_one blocks lasts = record {
   one_trace = texts_alike blocks lasts;
   one_line = lines_alike;
   apart = never_both;
+  one_reading = one_of_lines blocks lasts;
+  never_bad = never_bad;
 }

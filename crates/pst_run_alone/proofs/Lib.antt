@@ -1,0 +1,5 @@
+mod Calls
+mod Turns
+mod OneRun
+mod OneAnswer
+mod Shows

@@ -1,0 +1,5 @@
+mod Printed
+mod Named
+mod Heads
+mod Events
+mod Whole
