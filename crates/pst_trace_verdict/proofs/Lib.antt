@@ -1,0 +1,5 @@
+mod Blocks
+mod Leaving
+mod OneVerdict
+mod Running
+mod Answering

@@ -1,0 +1,3 @@
+pub mod Verdicts
+pub mod Events
+pub mod Laws
