@@ -12,10 +12,10 @@ use Rattle.pst_longer.specs.StepsOf.{BlankSteps}
 use Rattle.pst_longer.proofs.Goes.{Stands, stands}
 use Rattle.pst_longer.proofs.Readers.{goes_values}
 
-same : (s : Scenario) → IsSameOrder s s
+pub same : (s : Scenario) → IsSameOrder s s
 same s = record { level = refl; nodes = refl; acts = refl; kinds = refl; references = refl }
 
-same_then : (s t u : Scenario) → IsSameOrder s t → IsSameOrder t u → IsSameOrder s u
+pub same_then : (s t u : Scenario) → IsSameOrder s t → IsSameOrder t u → IsSameOrder s u
 same_then s t u one other = record {
   level = other.level ∙ one.level;
   nodes = other.nodes ∙ one.nodes;
@@ -34,7 +34,7 @@ altered s f n node kinds references = record {
   references = alter_same bares_in f references n s.actions;
 }
 
-option_same : (m : ModelTree) (s : Scenario) (k : ℕ) (blank : Blank) → IsSameOrder s (with_option m k blank s)
+pub option_same : (m : ModelTree) (s : Scenario) (k : ℕ) (blank : Blank) → IsSameOrder s (with_option m k blank s)
 option_same m s k (Instance act claim) = altered s (with_claim m claim k) act (λ x. refl) (λ x. refl) (λ x. refl)
 option_same m s k (OfFirst pool field) = record { level = refl; nodes = refl; acts = refl; kinds = refl; references = refl }
 option_same m s k (OfAct act field) = altered s (act_with_value (option_value m s.actions (OfAct act field) k)) act (λ x. refl) (λ x. refl) (λ x. refl)
@@ -45,7 +45,7 @@ option_same m s k (OfOutput act reference field) =
 option_same m s k (OfClaim act claim field) =
     altered s (with_claim_value claim (option_value m s.actions (OfClaim act claim field) k)) act (λ x. refl) (λ x. refl) (λ x. refl)
 
-blanks_same : (m : ModelTree) (blanks : List Blank) (s : Scenario) → BlankSteps IsSameOrder m blanks s
+pub blanks_same : (m : ModelTree) (blanks : List Blank) (s : Scenario) → BlankSteps IsSameOrder m blanks s
 blanks_same m [] s = tt
 blanks_same m (blank ∷ more) s = λ k l. (option_same m s k blank, blanks_same m more (with_option m k blank s))
 

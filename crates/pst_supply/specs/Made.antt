@@ -38,16 +38,16 @@ AllStand g first [] acts = (acts ≡ map (opened g.model) g.leaves) × StopsAt g
 AllStand g first (made ∷ older) acts = Stands g (digits_of (made ∷ older)) acts × StopsAt g acts made.stop × AllStand g first older (undone made.change acts)
 
 abbrev pub ground_of : Inside → Ground
-ground_of w = record { model = view_model w.model.now; nodes = w.nodes.now; leaves = w.leaves.now; seed = w.seed; place = w.place; level = w.level }
+ground_of w = record { model = view_model w.model.now; nodes = w.nodes.items; leaves = w.leaves.items; seed = w.seed; place = w.place; level = w.level }
 
 -- the walk with these choices, latest first
 abbrev pub kept_with : Inside → List Made → Kept
-kept_with w made = record { model = w.model.now; nodes = w.nodes.now; leaves = w.leaves.now; seed = w.seed; place = w.place; level = w.level; choices = digits_of made }
+kept_with w made = record { model = w.model.now; nodes = w.nodes.items; leaves = w.leaves.items; seed = w.seed; place = w.place; level = w.level; choices = digits_of made }
 
 abbrev pub kept_by : Inside → Kept
 kept_by w = kept_with w (reverse w.made.items)
 
 pub record IsKept (w : Inside) : Type 0 where
-  pub count : w.count ≡ length (leaves_of w.nodes.now)
-  pub ties : w.ties ≡ bounds_of (view_model w.model.now) w.nodes.now
+  pub count : w.count ≡ length (leaves_of w.nodes.items)
+  pub ties : w.ties ≡ bounds_of (view_model w.model.now) w.nodes.items
   pub stands : AllStand (ground_of w) w.first (reverse w.made.items) w.acts.items

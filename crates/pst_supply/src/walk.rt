@@ -12,6 +12,7 @@ ghost use Rattle.pst_supply.specs.Stops.{options_at, IsStop, stop_after, may_inf
 ghost use Rattle.pst_supply.specs.Choices.{NamesSource, Advances, change_after};
 
 use pst_base::NoMemory;
+use pst_copies::{copy_acts, copy_nodes};
 use pst_model::Model;
 use pst_open_ends::{
     Change, Source, Spot, leaf_count, next_need, open_acts, sources, supply, take_back,
@@ -219,8 +220,8 @@ fn go_on(
 pub struct SupplyWalk<'a> {
     alloc: Global,
     model: &'a Model,
-    nodes: &'a [Node],
-    leaves: &'a [Act],
+    nodes: Vec<Node>,
+    leaves: Vec<Act>,
     seed: u64,
     place: u64,
     level: u32,
@@ -251,12 +252,13 @@ impl<'a> std::marker::Model for SupplyWalk<'a> {
 
 impl<'a> SupplyWalk<'a> {
     /// The walk without a choice. The nodes and leaves are those of a list of choices that fills the
-    /// activity, whose length is `place`; `level` is how many actions are to be inferred.
+    /// activity, whose length is `place`; `level` is how many actions are to be inferred. The walk keeps
+    /// a copy of both, so that the walk that gave them may go on.
     pub fn new(
         alloc: Global,
         model: &'a Model,
-        nodes: &'a [Node],
-        leaves: &'a [Act],
+        nodes: &[Node],
+        leaves: &[Act],
         seed: u64,
         place: u64,
         level: u32,
@@ -267,6 +269,8 @@ impl<'a> SupplyWalk<'a> {
         let ties = Ties::new(alloc, model, nodes)?;
         let acts = open_acts(alloc, model, leaves)?;
         let first = look(alloc, model, &ties, &acts, count, level, 0)?;
+        let nodes = copy_nodes(alloc, nodes)?;
+        let leaves = copy_acts(alloc, leaves)?;
         Ok(SupplyWalk {
             alloc,
             model,

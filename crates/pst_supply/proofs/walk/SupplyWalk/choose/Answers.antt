@@ -31,8 +31,8 @@ pick-requires c =
     let has = subst (λ k. HasDigit (answer k) c.args.digit) (sym c.self.view_is) c.requires in
     let t = made_digit (ground_of w) w.first made w.acts.items c.args.digit c.self.invariant.stands has in
     let need : t.need ≡ c.in-Some.need = sym (same_Some c.in-Some.need t.need (sym c.in-Some.is ∙ ap (λ s. s.need) at ∙ t.is)) in
-    subst (λ (l : List Source). c.args.digit < length l) (sym (same_options m w.ties (bounds_of m w.nodes.now) c.deref-2.result.now w.acts.items w.count (length (leaves_of w.nodes.now)) w.level c.in-Some.need c.self.invariant.ties c.deref-2.ensures.value c.self.invariant.count))
-    (subst (λ n. c.args.digit < length (options_at m (bounds_of m w.nodes.now) w.acts.items (length (leaves_of w.nodes.now)) w.level n)) need t.below)
+    subst (λ (l : List Source). c.args.digit < length l) (sym (same_options m w.ties (bounds_of m w.nodes.items) c.deref-2.result.now w.acts.items w.count (length (leaves_of w.nodes.items)) w.level c.in-Some.need c.self.invariant.ties c.deref-2.ensures.value c.self.invariant.count))
+    (subst (λ n. c.args.digit < length (options_at m (bounds_of m w.nodes.items) w.acts.items (length (leaves_of w.nodes.items)) w.level n)) need t.below)
 
 pub invariant_of-self-2 : goal.invariant_of-self-2
 invariant_of-self-2 c =
@@ -46,13 +46,13 @@ invariant_of-self-2 c =
     let has = subst (λ k. HasDigit (answer k) c.args.digit) (sym c.self.view_is) c.requires in
     let t = made_digit g w.first made w.acts.items c.args.digit c.self.invariant.stands has in
     let same : t.need ≡ need = sym (same_Some need t.need (sym c.in-Some.is ∙ ap (λ s. s.need) at ∙ t.is)) in
-    let below = subst (λ n. c.args.digit < length (options_at m (bounds_of m w.nodes.now) w.acts.items (length (leaves_of w.nodes.now)) w.level n)) same t.below in
+    let below = subst (λ n. c.args.digit < length (options_at m (bounds_of m w.nodes.items) w.acts.items (length (leaves_of w.nodes.items)) w.level n)) same t.below in
     let turn : (stop_after w.first made).need ≡ Some need = ap (λ s. s.need) (sym at) ∙ c.in-Some.is in
-    let options = same_options m w.ties (bounds_of m w.nodes.now) c.deref-2.result.now w.acts.items w.count (length (leaves_of w.nodes.now)) w.level need c.self.invariant.ties c.deref-2.ensures.value c.self.invariant.count in
+    let options = same_options m w.ties (bounds_of m w.nodes.items) c.deref-2.result.now w.acts.items w.count (length (leaves_of w.nodes.items)) w.level need c.self.invariant.ties c.deref-2.ensures.value c.self.invariant.count in
     let many : c.len.result ≡ length made = c.len.ensures ∙ c.reserve.ensures.len ∙ w.made.ok.0 ∙ sym (length-reverse w.made.items) in
-    let named = subst (λ k. NamesSource w.seed (w.place + k) (options_at m (bounds_of m w.nodes.now) w.acts.items (length (leaves_of w.nodes.now)) w.level need) c.args.digit (given_source c.in_ok-source.source)) many
+    let named = subst (λ k. NamesSource w.seed (w.place + k) (options_at m (bounds_of m w.nodes.items) w.acts.items (length (leaves_of w.nodes.items)) w.level need) c.args.digit (given_source c.in_ok-source.source)) many
     (subst (λ l. NamesSource w.seed (w.place + c.len.result) l c.args.digit (given_source c.in_ok-source.source)) options c.in_ok-source.ensures) in
-    let stop = subst (λ k. IsStop m (bounds_of m w.nodes.now) new k w.level c.in_ok-went.went.stop) c.self.invariant.count
+    let stop = subst (λ k. IsStop m (bounds_of m w.nodes.items) new k w.level c.in_ok-went.went.stop) c.self.invariant.count
     (subst (λ b. IsStop m b new w.count w.level c.in_ok-went.went.stop) c.self.invariant.ties c.in_ok-went.ensures.gone.stop) in
     let x : Made = record { digit = c.args.digit; change = c.in_ok-went.went.change; stop = c.in_ok-went.went.stop } in
     let items : c.push.new.self.items ≡ w.made.items ++ x ∷ [] = c.in-Ok.ensures.items ∙ ap (λ l. l ++ x ∷ []) c.reserve.ensures.items in

@@ -1,0 +1,9 @@
+pub mod Cut
+pub mod Used
+pub mod Plain
+pub mod Walking
+pub mod Beginning
+pub mod Ends
+pub mod Answering
+pub mod Choosing
+pub mod Back

@@ -1,0 +1,245 @@
+//! Walks through the choices of an activity and of its sources.
+ghost use Rattle.std.specs.Prelude.{◌≡◌, ℕ, ◌+◌, ◌<◌, IfOk, OnOk, OnErr, length, []};
+ghost use Rattle.pst_legal.specs.ValueReading.{answer_of};
+ghost use Rattle.pst_shape.specs.Walks.{next_of, IfRead, HasDigit};
+ghost use Rattle.pst_link_walk.specs.Walks.{with_choice, tree_reading, reading, answer, IsUsed, AtEnd};
+ghost use Rattle.pst_link_walk.specs.Made.{shape_of, IsInside, Begins, Goes};
+
+use pst_base::NoMemory;
+use pst_copies::copy_acts;
+use pst_model::Model;
+use pst_open_ends::open_acts;
+use pst_scen::{Act, Next, Node};
+use pst_shape::Walk;
+use pst_supply::SupplyWalk;
+use std::alloc::Global;
+
+// The walk over the sources, where the activity is read through.
+fn begin<'a>(
+    alloc: Global,
+    model: &'a Model,
+    shape: &Walk<'a>,
+    root: u32,
+    seed: u64,
+    place: u64,
+    level: u32,
+) -> Result<Option<SupplyWalk<'a>>, NoMemory>
+    requires shape { shape.now ≡ shape_of model.now root seed shape.now.choices }
+    requires place { place ≡ length shape.now.choices }
+    requires used { IsUsed (tree_reading model.now root seed level shape.now.choices) }
+    ensures { IfOk result (λ supply. Begins model.now root seed level shape.now.choices supply) }
+{
+    match shape.next() {
+        Next::Whole => {
+            let supply = SupplyWalk::new(
+                alloc,
+                model,
+                shape.nodes(),
+                shape.leaves(),
+                seed,
+                place,
+                level,
+            )?;
+            Ok(Some(supply))
+        }
+        _ => Ok(None),
+    }
+}
+
+// So many, and so many more.
+fn sum(count: u64, more: u64) -> Result<u64, NoMemory>
+    ensures { IfOk result (λ n. n ≡ count + more) }
+{
+    match count.checked_add(more) {
+        None => Err(NoMemory),
+        Some(all) => Ok(all),
+    }
+}
+
+// Makes a choice of the activity, and goes on to the sources where that reads it through.
+fn choose_shape<'a>(
+    alloc: Global,
+    model: &'a Model,
+    shape: &mut Walk<'a>,
+    root: u32,
+    seed: u64,
+    made: u64,
+    level: u32,
+    digit: u64,
+) -> Result<Option<SupplyWalk<'a>>, NoMemory>
+    requires shape { shape.old ≡ shape_of model.now root seed shape.old.choices }
+    requires made { made ≡ length shape.old.choices + 1 }
+    requires inside { IsInside (tree_reading model.now root seed level shape.old.choices) }
+    requires digit { HasDigit (answer_of (tree_reading model.now root seed level shape.old.choices)) digit }
+    ensures ok { IfOk result (λ supply. Goes model.now root seed level shape.old.choices digit shape.new supply) }
+    ensures err { OnErr result (shape.new ≡ shape.old) }
+{
+    let _stands = shape.next();
+    shape.choose(digit)?;
+    match begin(alloc, model, shape, root, seed, made, level) {
+        Ok(supply) => Ok(supply),
+        Err(error) => {
+            shape.back();
+            Err(error)
+        }
+    }
+}
+
+/// A walk through the lists of choices that fill an activity and give its needs their sources. Contracts
+/// see its model, its root, its seed, its level and its choices.
+#[derive(Drop)]
+pub struct LinkWalk<'a> {
+    alloc: Global,
+    model: &'a Model,
+    root: u32,
+    seed: u64,
+    level: u32,
+    shape: Walk<'a>,
+    made: u64,
+    supply: Option<SupplyWalk<'a>>,
+    linked: u64,
+}
+
+impl<'a> std::marker::Model for LinkWalk<'a> {
+    ghost use Rattle.pst_link_walk.specs.Walks.{Kept};
+    ghost use Rattle.pst_link_walk.specs.Made.{kept_by, IsKept};
+    ghost use Rattle.std.specs.Coded.{codes};
+    ghost use Rattle.pst_model.specs.contracts.activity.Step as the_step;
+    ghost use Rattle.pst_model.specs.contracts.body.BodyStep as the_body_step;
+    ghost use Rattle.pst_model.specs.contracts.constraint.Slot as the_slot;
+    ghost use Rattle.pst_expr.specs.contracts.tree.Expr as the_expr;
+
+    ghost Value = { Kept };
+
+    ghost coded = { Prim.hlevel (codes, the_step.the_row.coded, the_body_step.the_row.coded, the_slot.the_row.coded, the_expr.the_row.coded) };
+
+    ghost view = { kept_by };
+
+    ghost invariant = { IsKept };
+}
+
+impl<'a> LinkWalk<'a> {
+    /// The walk without a choice. The root is the number of an action type.
+    pub fn new(
+        alloc: Global,
+        model: &'a Model,
+        root: u32,
+        seed: u64,
+        level: u32,
+    ) -> Result<LinkWalk<'a>, NoMemory>
+        ensures { IfOk result (λ w. w ≡ record { model = model.now; root = root; seed = seed; level = level; choices = [] }) }
+    {
+        let shape = Walk::new(alloc, model, root, seed)?;
+        let supply = begin(alloc, model, &shape, root, seed, 0, level)?;
+        Ok(LinkWalk {
+            alloc,
+            model,
+            root,
+            seed,
+            level,
+            shape,
+            made: 0,
+            supply,
+            linked: 0,
+        })
+    }
+
+    /// What is read is of the level and has no first objects. At the end no choice is left behind the last
+    /// place, whose number counts the choices.
+    pub fn ends(&self)
+        ensures { AtEnd self.now (reading self.now) }
+    {
+        let _ = &self.made;
+    }
+
+    /// What the walk stands at: a place with so many options, the end, or a dead end.
+    pub fn next(&self) -> Next
+        ensures { result ≡ next_of (answer self.now) }
+    {
+        match &self.supply {
+            None => self.shape.next(),
+            Some(supply) => supply.next(),
+        }
+    }
+
+    /// How many choices there are.
+    pub fn count(&self) -> Result<u64, NoMemory>
+        ensures { IfOk result (λ n. n ≡ length self.now.choices) }
+    {
+        let count = sum(self.made, self.linked)?;
+        Ok(count)
+    }
+
+    /// The nodes so far, in preorder.
+    pub fn nodes(&self) -> &[Node]
+        ensures { IfRead (answer self.now) (λ s. result.now ≡ s.nodes) }
+    {
+        self.shape.nodes()
+    }
+
+    /// The actions so far with their links, in a copy. What isn't read yet is empty.
+    pub fn acts(&self) -> Result<Vec<Act>, NoMemory>
+        ensures { IfOk result (λ acts. IfRead (answer self.now) (λ s. acts.items ≡ s.actions)) }
+    {
+        match &self.supply {
+            None => {
+                let acts = open_acts(self.alloc, self.model, self.shape.leaves())?;
+                Ok(acts)
+            }
+            Some(supply) => {
+                let acts = copy_acts(self.alloc, supply.actions())?;
+                Ok(acts)
+            }
+        }
+    }
+
+    /// Makes a choice at the place where the walk stands.
+    pub fn choose(&mut self, digit: u64) -> Result<(), NoMemory>
+        requires { HasDigit (answer self.old) digit }
+        ensures ok { OnOk result (self.new ≡ with_choice self.old digit) }
+        ensures err { OnErr result (self.new ≡ self.old) }
+    {
+        match &mut self.supply {
+            Some(supply) => {
+                let linked = sum(self.linked, 1)?;
+                supply.choose(digit)?;
+                self.linked = linked;
+                Ok(())
+            }
+            None => {
+                let made = sum(self.made, 1)?;
+                let supply = choose_shape(
+                    self.alloc,
+                    self.model,
+                    &mut self.shape,
+                    self.root,
+                    self.seed,
+                    made,
+                    self.level,
+                    digit,
+                )?;
+                self.supply = supply;
+                self.made = made;
+                Ok(())
+            }
+        }
+    }
+
+    /// Takes the last choice back.
+    pub fn back(&mut self)
+        requires { 0 < length self.old.choices }
+        ensures { (digit : ℕ) × (self.old ≡ with_choice self.new digit) }
+    {
+        if self.linked > 0 {
+            let Some(supply) = &mut self.supply else {
+                unreachable!();
+            };
+            supply.back();
+            self.linked -= 1;
+            return;
+        }
+        self.shape.back();
+        self.made -= 1;
+        self.supply = None;
+    }
+}

@@ -1,0 +1,61 @@
+-- What a walk answers, by the walk over the values if there is one.
+use Rattle.std.proofs.Common.{◌≡◌, ℕ, ◌+◌, List, [], ◌∷◌, ◌++◌, length, Option, Some, None, refl, sym, ap, ◌∙◌, subst, append_assoc, length-append, arith}
+use Rattle.pst_model.specs.declared.model.Model.{Model}
+use Rattle.pst_model.specs.ModelView.{view_model}
+use Rattle.pst_scen.specs.declared.scenario.Scenario.{Scenario}
+use Rattle.pst_legal.specs.ValueReading.{Answer, Options, Dead, Whole}
+use Rattle.pst_plan_so_far.specs.Laws.{ReadsSources}
+use Rattle.pst_shape.specs.Walks.{next_of, IfRead, HasDigit}
+use Rattle.pst_value_walk.specs.Walks.{Kept as Values, answer as value_answer}
+use Rattle.pst_value_walk.specs.Walks.{next_of as value_next_of, IfRead as ValueRead, HasDigit as ValueDigit}
+use Rattle.pst_link_walk.specs.Walks.{with_choice, reading}
+use Rattle.pst_link_walk.specs.Walks.{answer as link_answer}
+use Rattle.pst_link_walk.specs.Made.{IsInside}
+use Rattle.pst_link_walk.proofs.Ends.{link_on}
+use Rattle.pst_list_walk.specs.Walks.{answer}
+use Rattle.pst_list_walk.specs.Made.{choices_of, kept_at, IsBehind, Stands}
+use Rattle.pst_list_walk.proofs.Parts.{inside_answers, behind_answers}
+
+pub next_same : (a : Answer) → value_next_of a ≡ next_of a
+next_same (Options s n) = refl
+next_same Dead = refl
+next_same (Whole s) = refl
+
+pub read_same : (a : Answer) (P : Scenario → Type 0) → ValueRead a P → IfRead a P
+read_same (Options s n) P h = h
+read_same Dead P h = tt
+read_same (Whole s) P h = h
+
+pub digit_same : (a : Answer) (d : ℕ) → HasDigit a d → ValueDigit a d
+digit_same (Options s n) d h = h
+digit_same Dead d h = absurd h
+digit_same (Whole s) d h = absurd h
+
+module _ (m : Model) (root seed level : ℕ) where
+  pub none_stands : (xs : List ℕ) (values : Option Values) → values ≡ None → Stands m root seed level xs values → IsInside (reading (kept_at m root seed level xs))
+  none_stands xs values e stands = subst (Stands m root seed level xs) e stands
+
+  pub some_stands : (xs : List ℕ) (values : Option Values) (k : Values) → values ≡ Some k → Stands m root seed level xs values → IsBehind m root seed level xs k
+  some_stands xs values k e stands = subst (Stands m root seed level xs) e stands
+
+  pub none_answers : (xs : List ℕ) (values : Option Values) → values ≡ None → Stands m root seed level xs values → answer (kept_at m root seed level (xs ++ choices_of values)) ≡ link_answer (kept_at m root seed level xs)
+  none_answers xs values e stands = ap (λ o. answer (kept_at m root seed level (xs ++ choices_of o))) e ∙ inside_answers m root seed level xs (none_stands xs values e stands)
+
+  pub some_answers : (xs : List ℕ) (values : Option Values) (k : Values) → values ≡ Some k → Stands m root seed level xs values → answer (kept_at m root seed level (xs ++ choices_of values)) ≡ value_answer k
+  some_answers xs values k e stands = ap (λ o. answer (kept_at m root seed level (xs ++ choices_of o))) e ∙ sym (behind_answers m root seed level xs k (some_stands xs values k e stands))
+
+  pub many : (xs : List ℕ) (values : Option Values) (links valued n : ℕ) → links ≡ length xs → valued ≡ length (choices_of values) → n ≡ links + valued → n ≡ length (xs ++ choices_of values)
+  many xs values links valued n a b e = let sum : length (xs ++ choices_of values) ≡ length xs + length (choices_of values) = length-append xs (choices_of values) in omega (arith, a, b, e, sum)
+
+  pub more_values : (xs : List ℕ) (k l : Values) (d : ℕ) → l ≡ record k { choices = k.choices ++ d ∷ [] } → kept_at m root seed level (xs ++ l.choices) ≡ with_choice (kept_at m root seed level (xs ++ k.choices)) d
+  more_values xs k l d e = ap (λ (x : Values). kept_at m root seed level (xs ++ x.choices)) e ∙ ap (kept_at m root seed level) (sym (append_assoc xs k.choices (d ∷ [])))
+
+  pub one_valued : (k l : Values) (d n : ℕ) → n ≡ length k.choices → l ≡ record k { choices = k.choices ++ d ∷ [] } → n + 1 ≡ length l.choices
+  one_valued k l d n many e =
+      let sum : length (k.choices ++ d ∷ []) ≡ length k.choices + 1 = length-append k.choices (d ∷ []) in
+      let longer : length l.choices ≡ length (k.choices ++ d ∷ []) = ap (λ (x : Values). length x.choices) e in
+      omega (arith, many, sum, longer)
+
+  -- behind the sources, the list reads them
+  pub behind_sources : (xs : List ℕ) (k : Values) → IsBehind m root seed level xs k → ReadsSources (view_model m) root seed level (xs ++ k.choices)
+  behind_sources xs k behind = (behind.linked, behind.place, k.choices, link_on m root seed level xs behind.linked behind.place [] behind.reads k.choices)

@@ -1,0 +1,5 @@
+pub mod Parts
+pub mod Seen
+pub mod Answering
+pub mod Choosing
+pub mod Refusing

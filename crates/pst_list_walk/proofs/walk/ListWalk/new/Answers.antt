@@ -1,0 +1,16 @@
+use Rattle.std.proofs.Common.{ap, sym, length}
+use Rattle.pst_list_walk.proofs.Choosing.{first_self, first_value}
+use Rattle.pst_list_walk.proofs.walk.ListWalk.new.Goals as goal
+
+pub begin-requires : goal.begin-requires
+begin-requires c = first_self c.args.model.now c.args.root c.args.seed c.args.level c.in_ok-links.links c.in_ok-links.ensures
+
+pub invariant_of-result : goal.invariant_of-result
+invariant_of-result c = record {
+  links = first_self c.args.model.now c.args.root c.args.seed c.args.level c.in_ok-links.links c.in_ok-links.ensures;
+  valued = ap length (sym c.in_ok-values.ensures.fresh);
+  stands = c.in_ok-values.ensures.stands;
+}
+
+pub returns : goal.returns
+returns c = first_value c.args.model.now c.args.root c.args.seed c.args.level c.in_ok-links.links c.in_ok-values.values c.in_ok-links.ensures c.in_ok-values.ensures

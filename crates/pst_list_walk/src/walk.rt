@@ -1,0 +1,334 @@
+//! Walks through whole lists of choices.
+ghost use Rattle.std.specs.Prelude.{◌≡◌, ℕ, ◌+◌, ◌<◌, IfOk, IfSome, OnOk, OnErr, length, []};
+ghost use Rattle.pst_model.specs.ModelView.{view_model};
+ghost use Rattle.pst_model.specs.Sound.{IsSound};
+ghost use Rattle.pst_shape.specs.Walks.{next_of, IfRead, HasDigit};
+ghost use Rattle.pst_link_walk.specs.Walks.{Kept, with_choice};
+ghost use Rattle.pst_link_walk.specs.Walks.{answer as link_answer};
+ghost use Rattle.pst_plan_so_far.specs.Laws.{ReadsSources};
+ghost use Rattle.pst_refusals.specs.Answers.{StandEarlier, TellsRefusals};
+ghost use Rattle.pst_list_walk.specs.Walks.{answer, IsRead};
+ghost use Rattle.pst_list_walk.specs.Made.{kept_at, linked_of, Begins, Goes};
+
+use pst_base::{Items, NoMemory};
+use pst_blanks::Blank;
+use pst_copies::copy_nodes;
+use pst_known::Scene;
+use pst_link_walk::LinkWalk;
+use pst_model::Model;
+use pst_read_nodes::nodes_stand_for_pieces;
+use pst_refusals::some_refused;
+use pst_scen::{Act, First, Next, Node, Scenario};
+use pst_value_walk::ValueWalk;
+use std::alloc::Global;
+
+// What the sources came to, in a copy.
+fn copy_linked(alloc: Global, links: &LinkWalk<'_>, level: u32) -> Result<Scenario, NoMemory>
+    ensures { IfOk result (λ s. IfRead (link_answer links.now) (λ t. s ≡ linked_of level t)) }
+{
+    let acts = links.acts()?;
+    let nodes = copy_nodes(alloc, links.nodes())?;
+    Ok(Scenario {
+        level,
+        nodes: Items::from_vec(nodes),
+        actions: Items::from_vec(acts),
+        firsts: Items::empty(alloc),
+    })
+}
+
+// The walk over claims and values, where the sources are read through.
+fn begin<'a>(
+    alloc: Global,
+    model: &'a Model,
+    links: &LinkWalk<'a>,
+    root: u32,
+    seed: u64,
+    level: u32,
+) -> Result<Option<ValueWalk<'a>>, NoMemory>
+    requires { links.now ≡ kept_at model.now root seed level links.now.choices }
+    ensures { IfOk result (λ values. Begins model.now root seed level links.now.choices values) }
+{
+    links.ends();
+    match links.next() {
+        Next::Whole => {
+            let linked = copy_linked(alloc, links, level)?;
+            let place = links.count()?;
+            let values = ValueWalk::new(alloc, model, linked, seed, place)?;
+            Ok(Some(values))
+        }
+        _ => Ok(None),
+    }
+}
+
+// Whether a constraint of a scenario is refused at what is known of it.
+fn refused_in(
+    alloc: Global,
+    model: &Model,
+    level: u32,
+    nodes: &[Node],
+    actions: &[Act],
+    firsts: &[First],
+) -> Result<bool, NoMemory>
+    requires sound { IsSound (view_model model.now) }
+    requires earlier { StandEarlier nodes.now }
+    ensures { IfOk result (λ r. TellsRefusals (view_model model.now) (record { level = level; nodes = nodes.now; actions = actions.now; firsts = firsts.now }) r) }
+{
+    let scene = Scene {
+        model,
+        level,
+        nodes,
+        actions,
+        firsts,
+    };
+    some_refused(alloc, &scene)
+}
+
+// Whether a constraint of the scenario is refused.
+fn refused_of(alloc: Global, model: &Model, scenario: &Scenario) -> Result<bool, NoMemory>
+    requires sound { IsSound (view_model model.now) }
+    requires earlier { StandEarlier scenario.now.nodes }
+    ensures { IfOk result (λ r. TellsRefusals (view_model model.now) scenario.now r) }
+{
+    let nodes = scenario.nodes.as_slice();
+    let actions = scenario.actions.as_slice();
+    let firsts = scenario.firsts.as_slice();
+    let refused = refused_in(alloc, model, scenario.level, nodes, actions, firsts)?;
+    Ok(refused)
+}
+
+// So many, and so many more.
+fn sum(count: u64, more: u64) -> Result<u64, NoMemory>
+    ensures { IfOk result (λ n. n ≡ count + more) }
+{
+    match count.checked_add(more) {
+        None => Err(NoMemory),
+        Some(all) => Ok(all),
+    }
+}
+
+// So many, as a number of places in memory.
+fn in_memory(count: u64) -> Result<usize, NoMemory>
+    ensures { IfOk result (λ n. n ≡ count) }
+{
+    match usize::try_from(count) {
+        Ok(count) => Ok(count),
+        Err(_) => Err(NoMemory),
+    }
+}
+
+// Makes a choice of the activity or of a source, and goes on to the values behind the last source.
+fn choose_link<'a>(
+    alloc: Global,
+    model: &'a Model,
+    links: &mut LinkWalk<'a>,
+    root: u32,
+    seed: u64,
+    level: u32,
+    digit: u64,
+) -> Result<Option<ValueWalk<'a>>, NoMemory>
+    requires links { links.old ≡ kept_at model.now root seed level links.old.choices }
+    requires digit { HasDigit (link_answer links.old) digit }
+    ensures ok { IfOk result (λ values. Goes model.now root seed level links.old.choices digit links.new values) }
+    ensures err { OnErr result (links.new ≡ links.old) }
+{
+    links.choose(digit)?;
+    match begin(alloc, model, links, root, seed, level) {
+        Ok(values) => Ok(values),
+        Err(error) => {
+            links.back();
+            Err(error)
+        }
+    }
+}
+
+// Whether the blank is the instance of a claim.
+fn is_instance(blank: Option<Blank>) -> bool {
+    match blank {
+        Some(Blank::Instance { .. }) => true,
+        _ => false,
+    }
+}
+
+/// A walk through whole lists of choices. Contracts see its model, its root, its seed, its level and its
+/// choices.
+#[derive(Drop)]
+pub struct ListWalk<'a> {
+    alloc: Global,
+    model: &'a Model,
+    root: u32,
+    seed: u64,
+    level: u32,
+    links: LinkWalk<'a>,
+    values: Option<ValueWalk<'a>>,
+    valued: u64,
+}
+
+impl<'a> std::marker::Model for ListWalk<'a> {
+    ghost use Rattle.pst_link_walk.specs.Walks.{Kept};
+    ghost use Rattle.pst_list_walk.specs.Made.{kept_by, IsKept};
+    ghost use Rattle.std.specs.Coded.{codes};
+    ghost use Rattle.pst_model.specs.contracts.activity.Step as the_step;
+    ghost use Rattle.pst_model.specs.contracts.body.BodyStep as the_body_step;
+    ghost use Rattle.pst_model.specs.contracts.constraint.Slot as the_slot;
+    ghost use Rattle.pst_expr.specs.contracts.tree.Expr as the_expr;
+
+    ghost Value = { Kept };
+
+    ghost coded = { Prim.hlevel (codes, the_step.the_row.coded, the_body_step.the_row.coded, the_slot.the_row.coded, the_expr.the_row.coded) };
+
+    ghost view = { kept_by };
+
+    ghost invariant = { IsKept };
+}
+
+impl<'a> ListWalk<'a> {
+    /// The walk without a choice. The root is the number of an action type.
+    pub fn new(
+        alloc: Global,
+        model: &'a Model,
+        root: u32,
+        seed: u64,
+        level: u32,
+    ) -> Result<ListWalk<'a>, NoMemory>
+        ensures { IfOk result (λ w. w ≡ kept_at model.now root seed level []) }
+    {
+        let links = LinkWalk::new(alloc, model, root, seed, level)?;
+        let values = begin(alloc, model, &links, root, seed, level)?;
+        Ok(ListWalk {
+            alloc,
+            model,
+            root,
+            seed,
+            level,
+            links,
+            values,
+            valued: 0,
+        })
+    }
+
+    /// The model.
+    pub fn model(&self) -> &'a Model
+        ensures { result.now ≡ self.now.model }
+    {
+        self.model
+    }
+
+    /// Goes to the walk without a choice of another level.
+    pub fn restart(&mut self, level: u32) -> Result<(), NoMemory>
+        ensures ok { OnOk result (self.new ≡ kept_at self.old.model self.old.root self.old.seed level []) }
+        ensures err { OnErr result (self.new ≡ self.old) }
+    {
+        let walk = ListWalk::new(self.alloc, self.model, self.root, self.seed, level)?;
+        *self = walk;
+        Ok(())
+    }
+
+    /// What the walk stands at: a place with so many options, the end, or a dead end.
+    pub fn next(&self) -> Next
+        ensures { result ≡ next_of (answer self.now) }
+    {
+        match &self.values {
+            None => self.links.next(),
+            Some(values) => values.next(),
+        }
+    }
+
+    /// How many choices there are.
+    pub fn count(&self) -> Result<usize, NoMemory>
+        ensures { IfOk result (λ n. n ≡ length self.now.choices) }
+    {
+        let links = self.links.count()?;
+        let count = sum(links, self.valued)?;
+        let places = in_memory(count)?;
+        Ok(places)
+    }
+
+    /// Makes a choice at the place where the walk stands.
+    pub fn choose(&mut self, digit: u64) -> Result<(), NoMemory>
+        requires { HasDigit (answer self.old) digit }
+        ensures ok { OnOk result (self.new ≡ with_choice self.old digit) }
+        ensures err { OnErr result (self.new ≡ self.old) }
+    {
+        match &mut self.values {
+            Some(values) => {
+                let valued = sum(self.valued, 1)?;
+                values.choose(digit)?;
+                self.valued = valued;
+                Ok(())
+            }
+            None => {
+                let values = choose_link(
+                    self.alloc,
+                    self.model,
+                    &mut self.links,
+                    self.root,
+                    self.seed,
+                    self.level,
+                    digit,
+                )?;
+                self.values = values;
+                Ok(())
+            }
+        }
+    }
+
+    /// Takes the last choice back.
+    pub fn back(&mut self)
+        requires { 0 < length self.old.choices }
+        ensures { (digit : ℕ) × (self.old ≡ with_choice self.new digit) }
+    {
+        if self.valued > 0 {
+            let Some(values) = &mut self.values else {
+                unreachable!();
+            };
+            values.back();
+            self.valued -= 1;
+            return;
+        }
+        self.links.back();
+        self.values = None;
+    }
+
+    /// Whether the sources have just been read through, or the last claim has.
+    pub fn is_behind_links(&self) -> bool {
+        match &self.values {
+            None => false,
+            Some(values) => {
+                self.valued == 0 || is_instance(values.filled()) && !is_instance(values.blank())
+            }
+        }
+    }
+
+    /// The scenario so far, where the sources are read through.
+    pub fn scenario(&self) -> Option<&Scenario>
+        ensures read { IfSome result (λ t. IfRead (answer self.now) (λ s. t.now ≡ s)) }
+        ensures sources { IfSome result (λ t. ReadsSources (view_model self.now.model) self.now.root self.now.seed self.now.level self.now.choices) }
+    {
+        match &self.values {
+            None => None,
+            Some(values) => Some(values.scenario()),
+        }
+    }
+
+    /// Whether a constraint of what the list has read is refused at what is known.
+    pub fn some_refused(&self) -> Result<bool, NoMemory>
+        requires sound { IsSound (view_model self.now.model) }
+        requires read { IsRead (answer self.now) }
+        ensures { IfOk result (λ r. IfRead (answer self.now) (λ s. TellsRefusals (view_model self.now.model) s r)) }
+    {
+        nodes_stand_for_pieces();
+        match &self.values {
+            None => {
+                self.links.ends();
+                let acts = self.links.acts()?;
+                let nodes = self.links.nodes();
+                let refused = refused_in(self.alloc, self.model, self.level, nodes, &acts, &[])?;
+                Ok(refused)
+            }
+            Some(values) => {
+                let refused = refused_of(self.alloc, self.model, values.scenario())?;
+                Ok(refused)
+            }
+        }
+    }
+}

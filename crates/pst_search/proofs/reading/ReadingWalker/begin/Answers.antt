@@ -1,0 +1,11 @@
+use Rattle.std.proofs.Common.{sym, subst, ap, ◌∙◌}
+use Rattle.pst_search_loop.specs.Kept.{at_level}
+use Rattle.pst_search.specs.Made.{IsGround}
+use Rattle.pst_search.specs.Readings.{kept_of}
+use Rattle.pst_search.proofs.reading.ReadingWalker.begin.Goals as goal
+
+pub invariant_of-self-2 : goal.invariant_of-self-2
+invariant_of-self-2 c = subst IsGround (sym c.in_ok-restart.ensures.ok) (record { sound = c.self.invariant.sound; concrete = c.self.invariant.concrete })
+
+pub returns : goal.returns
+returns c = ap kept_of c.in_ok-restart.ensures.ok ∙ ap (λ k. at_level (kept_of k) c.args.level) c.self.view_is

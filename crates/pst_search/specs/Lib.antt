@@ -1,0 +1,4 @@
+pub mod Readings
+pub mod Judging
+pub mod Made
+pub mod Searches

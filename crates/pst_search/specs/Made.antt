@@ -1,0 +1,17 @@
+-- The invariant of the walker.
+use Rattle.pst_model.specs.ModelView.{view_model}
+use Rattle.pst_model.specs.Sound.{IsSound}
+use Rattle.pst_built.specs.Laws.{IsConcreteRoot}
+use Rattle.pst_link_walk.specs.Walks.{Kept}
+use Rattle.pst_search.specs.declared.reading.Reading.TheInside.{Inside}
+
+abbrev pub kept_by : Inside → Kept
+kept_by r = r.lists
+
+-- the model is sound, and the root isn't abstract
+pub record IsGround (k : Kept) : Type 0 where
+  pub sound : IsSound (view_model k.model)
+  pub concrete : IsConcreteRoot (view_model k.model) k.root
+
+abbrev pub IsReading : Inside → Type 0
+IsReading r = IsGround r.lists

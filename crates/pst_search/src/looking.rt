@@ -1,0 +1,160 @@
+//! What a list of choices comes to.
+ghost use Rattle.std.specs.Prelude.{◌≡◌, IfOk, length, true};
+ghost use Rattle.pst_model.specs.ModelView.{view_model};
+ghost use Rattle.pst_model.specs.Sound.{IsSound};
+ghost use Rattle.pst_scen.specs.declared.next.Next.TheVariants as next_to;
+ghost use Rattle.pst_built.specs.Laws.{IsConcreteRoot};
+ghost use Rattle.pst_shape.specs.Walks.{next_of};
+ghost use Rattle.pst_list_walk.specs.Walks.{answer, IsRead};
+ghost use Rattle.pst_search_loop.specs.Kept.{Shows, IsConflict, IsWhole, Judges, HasOptions, Rests};
+ghost use Rattle.pst_search_loop.specs.Conflicts.{IsEarlier};
+ghost use Rattle.pst_search.specs.Readings.{kept_of, barren_at, IsAnswer, IsFound};
+
+use crate::copies::copy_scenario;
+use crate::judging::{has_plan, judge};
+use pst_base::NoMemory;
+use pst_built::whole_readings_are_built;
+use pst_graph::plan_of;
+use pst_list_walk::ListWalk;
+use pst_longer::{dead_stays_dead, whole_lists_end};
+use pst_plan_so_far::{plans_refuse_lists, sources_are_built};
+use pst_read_legal::{legal_is_unrefused, planned_readings_are_legal};
+use pst_read_nodes::nodes_stand_for_pieces;
+use pst_refusals_stay::refused_lists_are_barren;
+use pst_scen::{Next, Plan, Scenario};
+use pst_search_loop::{Conflict, Judged, Look};
+use pst_search_plain::{earlier_places_are_a_conflict, places_rest_on_earlier_ones};
+use std::alloc::Global;
+
+// All places of the list.
+fn all_places(alloc: Global, lists: &ListWalk<'_>) -> Result<Conflict, NoMemory>
+    ensures { IfOk result (λ c. IsEarlier c (length lists.now.choices)) }
+{
+    let count = lists.count()?;
+    let all = Conflict::earlier(alloc, count);
+    Ok(all)
+}
+
+// Where no longer list reads a legal scenario, all places are a conflict.
+fn closed(alloc: Global, lists: &ListWalk<'_>) -> Result<Conflict, NoMemory>
+    requires { barren_at lists.now }
+    ensures { IfOk result (λ c. IsConflict (kept_of lists.now) c) }
+{
+    earlier_places_are_a_conflict();
+    let all = all_places(alloc, lists)?;
+    Ok(all)
+}
+
+// Whether the plan refuses what is read, where that may just have become known.
+fn plan_refuses(alloc: Global, lists: &ListWalk<'_>) -> Result<bool, NoMemory>
+    requires { IsRead (answer lists.now) }
+    ensures { IfOk result (λ r. r ≡ true → barren_at lists.now) }
+{
+    sources_are_built();
+    plans_refuse_lists();
+    if !lists.is_behind_links() {
+        return Ok(false);
+    }
+    let Some(scenario) = lists.scenario() else {
+        return Ok(false);
+    };
+    let planned = has_plan(alloc, scenario)?;
+    Ok(!planned)
+}
+
+// A place or a whole scenario, unless a constraint or the plan refuses what is read.
+fn unless_refused(alloc: Global, lists: &ListWalk<'_>, shown: Look) -> Result<Look, NoMemory>
+    requires sound { IsSound (view_model lists.now.model) }
+    requires read { IsRead (answer lists.now) }
+    requires shown { IsAnswer (answer lists.now) shown }
+    ensures { IfOk result (λ look. Shows (kept_of lists.now) look) }
+{
+    refused_lists_are_barren();
+    let refused = lists.some_refused()?;
+    if refused {
+        let conflict = closed(alloc, lists)?;
+        return Ok(Look::Closed(conflict));
+    }
+    let unplanned = plan_refuses(alloc, lists)?;
+    if unplanned {
+        let conflict = closed(alloc, lists)?;
+        return Ok(Look::Closed(conflict));
+    }
+    Ok(shown)
+}
+
+// A dead end.
+fn dead(alloc: Global, lists: &ListWalk<'_>) -> Result<Look, NoMemory>
+    requires { next_of (answer lists.now) ≡ next_to.Dead }
+    ensures { IfOk result (λ look. Shows (kept_of lists.now) look) }
+{
+    dead_stays_dead();
+    let conflict = closed(alloc, lists)?;
+    Ok(Look::Closed(conflict))
+}
+
+/// What the list comes to.
+pub(crate) fn look_at(alloc: Global, lists: &ListWalk<'_>) -> Result<Look, NoMemory>
+    requires { IsSound (view_model lists.now.model) }
+    ensures { IfOk result (λ look. Shows (kept_of lists.now) look) }
+{
+    match lists.next() {
+        Next::Options(count) => unless_refused(alloc, lists, Look::Options(count)),
+        Next::Whole => unless_refused(alloc, lists, Look::Whole),
+        Next::Dead => dead(alloc, lists),
+    }
+}
+
+/// What a place rests on: all places before it.
+pub(crate) fn rests_on(
+    alloc: Global,
+    lists: &ListWalk<'_>,
+    count: u64,
+) -> Result<Conflict, NoMemory>
+    requires { HasOptions (answer lists.now) count }
+    ensures { IfOk result (λ c. Rests (kept_of lists.now) count c) }
+{
+    let _ = count;
+    places_rest_on_earlier_ones();
+    let all = all_places(alloc, lists)?;
+    Ok(all)
+}
+
+/// Whether the whole scenario of the list is legal.
+pub(crate) fn judge_at(alloc: Global, lists: &ListWalk<'_>) -> Result<Judged, NoMemory>
+    requires sound { IsSound (view_model lists.now.model) }
+    requires concrete { IsConcreteRoot (view_model lists.now.model) lists.now.root }
+    requires whole { IsWhole (answer lists.now) }
+    ensures { IfOk result (λ judged. Judges (kept_of lists.now) judged) }
+{
+    nodes_stand_for_pieces();
+    whole_readings_are_built();
+    planned_readings_are_legal();
+    legal_is_unrefused();
+    whole_lists_end();
+    let Some(scenario) = lists.scenario() else {
+        return Err(NoMemory);
+    };
+    let legal = judge(alloc, lists.model(), scenario)?;
+    if legal {
+        return Ok(Judged::Legal);
+    }
+    let conflict = closed(alloc, lists)?;
+    Ok(Judged::Refused(conflict))
+}
+
+/// The whole scenario of the list, which has a plan, and that plan.
+pub(crate) fn found_at(alloc: Global, lists: &ListWalk<'_>) -> Result<(Scenario, Plan), NoMemory>
+    requires { IsWhole (answer lists.now) }
+    ensures { IfOk result (λ found. IsFound lists.now found) }
+{
+    whole_readings_are_built();
+    let Some(scenario) = lists.scenario() else {
+        return Err(NoMemory);
+    };
+    let copy = copy_scenario(alloc, scenario)?;
+    match plan_of(alloc, &copy) {
+        Ok(plan) => Ok((copy, plan)),
+        Err(_) => Err(NoMemory),
+    }
+}

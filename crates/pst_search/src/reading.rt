@@ -1,0 +1,100 @@
+//! The walker of whole lists of choices.
+ghost use Rattle.std.specs.Prelude.{◌≡◌, IfOk, []};
+ghost use Rattle.pst_model.specs.ModelView.{view_model};
+ghost use Rattle.pst_model.specs.Sound.{IsSound};
+ghost use Rattle.pst_built.specs.Laws.{IsConcreteRoot};
+ghost use Rattle.pst_list_walk.specs.Walks.{answer};
+ghost use Rattle.pst_list_walk.specs.Made.{kept_at};
+ghost use Rattle.pst_search_loop.specs.Kept.{IsWhole};
+ghost use Rattle.pst_search.specs.Readings.{IsFound};
+
+use crate::looking::{found_at, judge_at, look_at, rests_on};
+use pst_base::NoMemory;
+use pst_list_walk::ListWalk;
+use pst_model::Model;
+use pst_scen::{Plan, Scenario};
+use pst_search_loop::{Conflict, Judged, Look, Walker};
+use std::alloc::Global;
+
+/// A walker through whole lists of choices, in which each choice stands for the list that it ends.
+/// Contracts see its model, its root, its seed, its level and its choices.
+#[derive(Drop)]
+pub(crate) struct Reading<'a> {
+    alloc: Global,
+    lists: ListWalk<'a>,
+}
+
+impl<'a> std::marker::Model for Reading<'a> {
+    ghost use Rattle.pst_link_walk.specs.Walks.{Kept};
+    ghost use Rattle.pst_search.specs.Made.{kept_by, IsReading};
+    ghost use Rattle.std.specs.Coded.{codes};
+    ghost use Rattle.pst_model.specs.contracts.activity.Step as the_step;
+    ghost use Rattle.pst_model.specs.contracts.body.BodyStep as the_body_step;
+    ghost use Rattle.pst_model.specs.contracts.constraint.Slot as the_slot;
+    ghost use Rattle.pst_expr.specs.contracts.tree.Expr as the_expr;
+
+    ghost Value = { Kept };
+
+    ghost coded = { Prim.hlevel (codes, the_step.the_row.coded, the_body_step.the_row.coded, the_slot.the_row.coded, the_expr.the_row.coded) };
+
+    ghost view = { kept_by };
+
+    ghost invariant = { IsReading };
+}
+
+impl<'a> Reading<'a> {
+    /// The walker at the empty list of the level without inferred actions.
+    pub(crate) fn new(
+        alloc: Global,
+        model: &'a Model,
+        root: u32,
+        seed: u64,
+    ) -> Result<Reading<'a>, NoMemory>
+        requires sound { IsSound (view_model model.now) }
+        requires concrete { IsConcreteRoot (view_model model.now) root }
+        ensures { IfOk result (λ r. r ≡ kept_at model.now root seed 0 []) }
+    {
+        let lists = ListWalk::new(alloc, model, root, seed, 0)?;
+        Ok(Reading { alloc, lists })
+    }
+
+    /// The whole scenario of the list, which has a plan, and that plan.
+    pub(crate) fn found(&self) -> Result<(Scenario, Plan), NoMemory>
+        requires { IsWhole (answer self.now) }
+        ensures { IfOk result (λ found. IsFound self.now found) }
+    {
+        found_at(self.alloc, &self.lists)
+    }
+}
+
+impl Walker for Reading<'_> {
+    ghost use Rattle.pst_search.specs.Readings.{kept_of};
+
+    ghost kept = { kept_of };
+
+    fn look(&self) -> Result<Look, NoMemory> {
+        look_at(self.alloc, &self.lists)
+    }
+
+    fn rests(&self, count: u64) -> Result<Conflict, NoMemory> {
+        rests_on(self.alloc, &self.lists, count)
+    }
+
+    fn choose(&mut self, digit: u64) -> Result<(), NoMemory> {
+        self.lists.choose(digit)?;
+        Ok(())
+    }
+
+    fn back(&mut self) {
+        self.lists.back();
+    }
+
+    fn judge(&self) -> Result<Judged, NoMemory> {
+        judge_at(self.alloc, &self.lists)
+    }
+
+    fn begin(&mut self, level: u32) -> Result<(), NoMemory> {
+        self.lists.restart(level)?;
+        Ok(())
+    }
+}
