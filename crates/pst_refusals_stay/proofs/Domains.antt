@@ -13,6 +13,8 @@ use Rattle.pst_model.specs.declared.model.Pool.{Pool}
 use Rattle.pst_model.specs.ModelTree.{ModelTree, ActionTree, ObjectTree}
 use Rattle.pst_model.specs.Served.{objects_of}
 use Rattle.pst_model.specs.Sound.{IsSoundField, IsSoundObject, IsSoundAction, IsSound}
+use Rattle.pst_scen.specs.declared.tree.Node.{Node}
+use Rattle.pst_scen.specs.declared.tree.Fill.TheVariants as fill
 use Rattle.pst_scen.specs.declared.act.Act.{Act}
 use Rattle.pst_scen.specs.declared.act.Filled.{Filled}
 use Rattle.pst_scen.specs.declared.act.Claimed.{Claimed}
@@ -26,12 +28,11 @@ use Rattle.pst_legal.specs.Pieces.{IsValueOf}
 use Rattle.pst_legal.specs.Blanks.{pool_field, claim_field, instances_in}
 use Rattle.pst_legal.specs.Standing.{hull, field_span}
 use Rattle.pst_legal.specs.Slots.{pool_span, first_values}
-use Rattle.pst_legal.specs.Fits.{AreObjectValues, IsReferenceOf, IsActOf}
-use Rattle.pst_legal.specs.Legal.{Legal}
+use Rattle.pst_legal.specs.Fits.{AreObjectValues, IsReferenceOf, IsActOf, HasValues}
 use Rattle.pst_built.proofs.Parents.{get_more}
 use Rattle.pst_built.proofs.SoundActs.{all_get, served_pool}
 use Rattle.pst_reached.proofs.Lists.{get_below}
-use Rattle.pst_more_known.specs.Known.{Allows, claim_numbers}
+use Rattle.pst_more_known.specs.Known.{Allows, claim_numbers, InDomains}
 use Rattle.pst_refusals_stay.specs.Laws.{LegalScenariosAreInDomains}
 use Rattle.pst_refusals_stay.proofs.Hulls.{in_hull}
 use Rattle.pst_refusals_stay.proofs.Valued.{tree_valued}
@@ -90,9 +91,9 @@ module _ (m : ModelTree) (sound : IsSound m) where
       by true e = let none = eqb-true pool.size 0 e in absurd (omega (arith, none, within))
       by false e = (omega (arith, ints), let most : n < pool.size = within in omega (arith, ints, most))
 
-  module _ (root : ℕ) (s : Scenario) (legal : Legal m root s) where
+  module _ (s : Scenario) (has_values : HasValues m s) where
     of_act : (a : ℕ) (act : Act) → slice_get s.actions a ≡ Some act → IsActOf m act
-    of_act a act is = legal.fits.values.acts a act is
+    of_act a act is = has_values.acts a act is
 
     claim_at : (act : Act) (of : IsActOf m act) (c : ℕ) (x : Claimed) → slice_get act.claims c ≡ Some x → (claim : Claim) × (slice_get of.type.claims c ≡ Some claim)
     claim_at act of c x at = let l = slice_get_within act.claims c x at in let e = of.many_claims in get_below of.type.claims c (omega (arith, l, e))
@@ -146,24 +147,30 @@ module _ (m : ModelTree) (sound : IsSound m) where
         let reference = of.references r f at in
         ap field_span (pool_is act of r f reference field) ∙ sym (ap (λ o. field_span (option_and_then (λ (x : Reference). object_field m x.object field) o)) reference.is)
 
-    link_in : (a r b q : ℕ) (f g : Filled) → reference_at s.actions a r ≡ Some f → f.link ≡ link.Act b q → reference_at s.actions b q ≡ Some g → g.pool ≡ f.pool
-    link_in a r b q f g is to there =
-        let source = legal.supplied.sources a r b q f is to in
-        let same : source.source ≡ g = same_Some source.source g (sym source.is ∙ there) in
-        ap (λ (x : Filled). x.pool) (sym same) ∙ source.pool
+-- A scenario that has its values, and whose links and compound actions' values are known to be so, lies in its domains.
+pub values_in_domains : (m : ModelTree) → IsSound m → (s : Scenario) → HasValues m s
+    → ((a r b q : ℕ) (f g : Filled) → reference_at s.actions a r ≡ Some f → f.link ≡ link.Act b q → reference_at s.actions b q ≡ Some g → g.pool ≡ f.pool)
+    → ((n : ℕ) (node : Node) (action instance : ℕ) (values : List ℤ) (i : ℕ) (v : ℤ) → slice_get s.nodes n ≡ Some node → node.fill ≡ fill.Compound action instance values → slice_get values i ≡ Some v → Allows (field_span (action_field m action i)) v)
+    → InDomains m s
+values_in_domains m sound s has_values links compounds = record {
+  fields = λ a act i v is at. let of = of_act m sound s has_values a act is in action_value m sound act.action of.type act.fields i v of.is of.fields at;
+  instances = λ a act c x is at. instance_in m sound s has_values a act c x is at;
+  claims = λ a act c x i v is at has. claim_in m sound s has_values a act c x i v is at has;
+  outputs = λ a r f i v is at. output_in m sound s has_values a r f i v is at;
+  links = links;
+  firsts = λ pool i v at. first_of m sound s.firsts pool i v has_values.firsts at;
+  compounds = compounds;
+  served = λ a act r f field is at. served_as m sound s has_values a act r f field is at;
+}
 
 pub legal_in_domains : LegalScenariosAreInDomains
 legal_in_domains m root s sound legal =
     let valued = tree_valued m most_levels root s.level legal.fits.tree.tree legal.fits.tree.fills in
-    record {
-      fields = λ a act i v is at. let of = of_act m sound root s legal a act is in action_value m sound act.action of.type act.fields i v of.is of.fields at;
-      instances = λ a act c x is at. instance_in m sound root s legal a act c x is at;
-      claims = λ a act c x i v is at has. claim_in m sound root s legal a act c x i v is at has;
-      outputs = λ a r f i v is at. output_in m sound root s legal a r f i v is at;
-      links = λ a r b q f g is to there. link_in m sound root s legal a r b q f g is to there;
-      firsts = λ pool i v at. first_of m sound s.firsts pool i v legal.fits.values.firsts at;
-      compounds = λ n node action instance values i v is of at.
-          let x = valued n node (ap (λ ns. slice_get ns n) (sym legal.fits.tree.nodes) ∙ is) action instance values of in
-          action_value m sound action x.0 values i v x.1 x.2 at;
-      served = λ a act r f field is at. served_as m sound root s legal a act r f field is at;
-    }
+    values_in_domains m sound s legal.fits.values
+    (λ a r b q f g is to there.
+    let source = legal.supplied.sources a r b q f is to in
+    let same : source.source ≡ g = same_Some source.source g (sym source.is ∙ there) in
+    ap (λ (x : Filled). x.pool) (sym same) ∙ source.pool)
+    (λ n node action instance values i v is of at.
+    let x = valued n node (ap (λ ns. slice_get ns n) (sym legal.fits.tree.nodes) ∙ is) action instance values of in
+    action_value m sound action x.0 values i v x.1 x.2 at)

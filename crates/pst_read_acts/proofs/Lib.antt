@@ -1,0 +1,4 @@
+pub mod Comes
+pub mod Pooled
+pub mod Whole
+pub mod Joined

@@ -1,0 +1,6 @@
+use Rattle.pst_shape.specs.Walks.{answer}
+use Rattle.pst_tests_lists.proofs.Digits.{has_digit}
+use Rattle.pst_tests_lists.proofs.activity_walk.choose.Goals as goal
+
+pub choose-requires : goal.choose-requires
+choose-requires c = has_digit (answer c.args.walk.now 0) c.in-Options.n c.args.digit (c.in-Options.ensures 0) c.if-digit-n.true

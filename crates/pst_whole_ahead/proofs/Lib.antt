@@ -1,0 +1,4 @@
+pub mod Same
+pub mod Blanks
+pub mod Options
+pub mod Ahead
