@@ -1,0 +1,6 @@
+//! The fields of the types of a model.
+#![tactic(auto)]
+
+mod fields;
+
+pub use fields::model_fields;

@@ -1,0 +1,9 @@
+//! Judging sources by all rules, in their order: names, types, the number of instances, pools and
+//! the root.
+#![tactic(auto)]
+
+mod judged;
+mod last;
+mod root;
+
+pub use judged::{Judged, judge};
