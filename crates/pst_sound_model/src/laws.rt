@@ -1,9 +1,9 @@
 //! Laws of the definitions: each function here does nothing but call other laws, and its contract
 //! is a law.
-ghost use Rattle.pst_sound_model.specs.Laws.{ModelsAreSound};
+ghost use Rattle.pst_sound_model.specs.Laws.{ModelsAreSound, ModelsOfTextsAreSound};
 
-/// The model of sources that keep the rules and limits is sound, where the bodies of its atomic
-/// actions are.
+/// The model of sources that keep the rules and limits is sound, where the tokens of the sources
+/// stand at rising places.
 pub fn models_are_sound()
     ensures { ModelsAreSound }
 {
@@ -22,4 +22,15 @@ pub fn models_are_sound()
     pst_sound_steps::steps_are_sound();
     pst_sound_ties::ties_are_sound();
     pst_sound_served::serves_are_sound();
+    pst_sound_bodies::bodies_are_sound();
+    pst_sound_places::names_have_own_places();
+    pst_sound_places::names_stand_apart();
+}
+
+/// The model of sources that texts spell is sound, where the sources keep the rules and limits.
+pub fn models_of_texts_are_sound()
+    ensures { ModelsOfTextsAreSound }
+{
+    models_are_sound();
+    pst_sound_places::tokens_of_units_rise();
 }

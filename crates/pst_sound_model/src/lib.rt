@@ -3,4 +3,4 @@
 
 mod laws;
 
-pub use laws::models_are_sound;
+pub use laws::{models_are_sound, models_of_texts_are_sound};

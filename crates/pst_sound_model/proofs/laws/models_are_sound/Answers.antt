@@ -3,10 +3,13 @@ use Rattle.pst_sound_model.proofs.Whole.{content_sound, few_instances}
 use Rattle.pst_sound_model.proofs.laws.models_are_sound.Goals as goal
 
 pub returns : goal.returns
-returns c = λ units names component action model root own e bodies.
+returns c = λ units names component action model root rising e.
+    let own = c.names_have_own_places.ensures units rising in
+    let apart = c.names_stand_apart.ensures units rising in
     let right = e.typed.names_right in
     let kept = e.typed.types_right in
     let is = e.is_model in
+    let bodies = c.bodies_are_sound.ensures units names model own apart right kept is in
     let order = c.models_are_in_order.ensures units names model is in
     record {
       actions = λ k d within.
