@@ -1,0 +1,4 @@
+pub mod Laid
+pub mod Texts
+pub mod Places
+pub mod Units

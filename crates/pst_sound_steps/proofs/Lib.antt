@@ -1,0 +1,5 @@
+pub mod Rows
+pub mod Paths
+pub mod Conditions
+pub mod Inline
+pub mod Steps
