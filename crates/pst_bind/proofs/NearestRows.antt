@@ -1,7 +1,7 @@
 -- The candidates of a reference or claim are found by the rows of binds.
 use Rattle.std.proofs.Common.{◌≡◌, arith, refl, sym, ap, ◌∙◌}
-use Rattle.std.specs.Prelude.{ℕ, Bool, false, ◌&&◌, List, [], ◌∷◌, ◌++◌, map, length, Option, Some, None, if◌then◌else◌}
-use Rattle.std.specs.List.{filter_map, cons_option}
+use Rattle.std.specs.Prelude.{ℕ, Bool, true, false, option_to_list, ◌&&◌, List, [], ◌∷◌, ◌++◌, map, length, Option, Some, None, if◌then◌else◌}
+use Rattle.std.specs.List.{flat_map, filter_map, cons_option}
 use Rattle.std.specs.Option.{option_map, option_map_or, option_and_then}
 use Rattle.pst_ast.specs.declared.instance.Instance.{Instance}
 use Rattle.pst_ast.specs.DeclarationTree.{UnitTree}
@@ -10,14 +10,27 @@ use Rattle.pst_scope.specs.Declarations.{declarations}
 use Rattle.pst_scope.specs.Sorts.{is_pool, same_place}
 use Rattle.pst_scope.specs.Lookups.{type_of}
 use Rattle.pst_scope.specs.NameRules.{named_in}
-use Rattle.pst_bind.specs.declared.explicit_rows.ExplicitRows.{ExplicitRows}
-use Rattle.pst_bind.specs.declared.default_rows.DefaultRows.{DefaultRows}
+use Rattle.pst_bound_pools.specs.declared.explicit_rows.ExplicitRows.{ExplicitRows}
+use Rattle.pst_bound_pools.specs.declared.default_rows.DefaultRows.{DefaultRows}
 use Rattle.pst_pool_binds.specs.PoolBinds.{DefaultBind, explicit_binds, default_binds}
-use Rattle.pst_bind.specs.Serving.{first_filled, stands_in, pool_bound, is_same, explicit_in, default_in, with_those_above, candidates}
-use Rattle.pst_bind.specs.BindRows.{target_key, object_key, pool_given, pool_by_default}
-use Rattle.pst_bind.specs.KeptBinds.{AreExplicitRows, AreDefaultRows}
+use Rattle.pst_bound_pools.specs.Serving.{first_filled, stands_in, pool_bound, is_same, explicit_in, default_in, with_those_above, candidates}
+use Rattle.pst_bound_pools.specs.BindRows.{target_key, object_key, pool_given, pool_by_default}
+use Rattle.pst_bound_pools.specs.KeptBinds.{AreExplicitRows, AreDefaultRows}
 use Rattle.pst_bind.specs.Nearest.{explicit_row, default_row, default_row_of, candidates_by}
-use Rattle.pst_bind.proofs.Giving.{given_by, and_false}
+
+and_false : (b : Bool) → (b && false) ≡ false
+and_false true = refl
+and_false false = refl
+
+-- ---- lists of binds
+
+first_given : (o : Option ℕ) (rest others : List ℕ) → rest ≡ others → option_to_list o ++ rest ≡ cons_option o others
+first_given None rest others e = e
+first_given (Some y) rest others e = ap (λ (ys : List ℕ). y ∷ ys) e
+
+given_by : {A : Type 0} (f : A → Option ℕ) (xs : List A) → flat_map (λ x. option_to_list (f x)) xs ≡ filter_map f xs
+given_by f [] = refl
+given_by f (x ∷ xs) = first_given (f x) (flat_map (λ y. option_to_list (f y)) xs) (filter_map f xs) (given_by f xs)
 
 -- ---- the first that is filled
 

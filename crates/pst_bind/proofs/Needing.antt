@@ -1,5 +1,5 @@
 -- The references and claims that pools serve are added action by action, and instance by instance.
-use Rattle.std.proofs.Common.{◌≡◌, ◌<◌, refl, sym, subst, ap, ◌∙◌, append_assoc, cond}
+use Rattle.std.proofs.Common.{◌≡◌, ◌<◌, refl, sym, subst, ap, ◌∙◌, cond}
 use Rattle.std.specs.Prelude.{ℕ, ◌+◌, Bool, true, false, not, ◌&&◌, List, [], ◌∷◌, ◌++◌, map, length, drop, get_or, None}
 use Rattle.std.specs.List.{filter, flat_map, enumerate_from}
 use Rattle.std.proofs.lemmas.List.{drop_more}
@@ -54,28 +54,23 @@ module _ (sites : List ActionSite) (ds : List Declaration) (instances : List Ins
   numbered_step i n within =
       ap (λ (xs : List Declaration). all_from (enumerate_from n (those_that is_action xs))) (drop_more ds i blank within) ∙ by_sort (is_action (get_or ds i blank).sort) n (get_or ds i blank) (those_that is_action (drop (i + 1) ds))
 
-  pub numbered_more : (i n next : ℕ) (old new total : List Need) → i < length ds → next ≡ cond (is_action (get_or ds i blank).sort) (n + 1) n
-      → new ≡ old ++ cond (is_action (get_or ds i blank).sort) (cond (is_performed_by sites ds (get_or ds i blank)) (added_by ds instances n (get_or ds i blank)) []) []
-      → old ++ all_from (enumerate_from n (those_that is_action (drop i ds))) ≡ total → new ++ all_from (enumerate_from next (those_that is_action (drop (i + 1) ds))) ≡ total
-  numbered_more i n next old new total within is_next is before =
+  -- by a list of declarations, however it is told
+  abbrev Steps : List Declaration → Type 0
+  Steps xs =
+      (i n next : ℕ) → i < length xs → next ≡ cond (is_action (get_or xs i blank).sort) (n + 1) n
+      → all_from (enumerate_from n (those_that is_action (drop i ds)))
+      ≡ cond (is_action (get_or xs i blank).sort) (cond (is_performed_by sites ds (get_or xs i blank)) (added_by ds instances n (get_or xs i blank)) []) []
+      ++ all_from (enumerate_from next (those_that is_action (drop (i + 1) ds)))
+
+  steps_here : Steps ds
+  steps_here i n next within is_next =
       let d = get_or ds i blank in
       let rest = those_that is_action (drop (i + 1) ds) in
-      let added = cond (is_action d.sort) (cond (is_performed_by sites ds d) (added_by ds instances n d) []) [] in
-      ap (λ (xs : List Need). xs ++ all_from (enumerate_from next rest)) is
-      ∙ append_assoc old added (all_from (enumerate_from next rest))
-      ∙ ap (λ (m : ℕ). old ++ (added ++ all_from (enumerate_from m rest))) is_next
-      ∙ sym (ap (λ (xs : List Need). old ++ xs) (numbered_step i n within))
-      ∙ before
+      numbered_step i n within
+      ∙ ap (λ (m : ℕ). cond (is_action d.sort) (cond (is_performed_by sites ds d) (added_by ds instances n d) []) [] ++ all_from (enumerate_from m rest)) (sym is_next)
 
-  -- by a list of declarations, however it is told
-  abbrev FromItems : List Declaration → Type 0
-  FromItems xs =
-      (i n next : ℕ) (old new total : List Need) → i < length xs → next ≡ cond (is_action (get_or xs i blank).sort) (n + 1) n
-      → new ≡ old ++ cond (is_action (get_or xs i blank).sort) (cond (is_performed_by sites ds (get_or xs i blank)) (added_by ds instances n (get_or xs i blank)) []) []
-      → old ++ all_from (enumerate_from n (those_that is_action (drop i ds))) ≡ total → new ++ all_from (enumerate_from next (those_that is_action (drop (i + 1) ds))) ≡ total
-
-  pub numbered_in : (xs : List Declaration) → xs ≡ ds → FromItems xs
-  numbered_in xs e = subst FromItems (sym e) numbered_more
+  pub numbered_in : (xs : List Declaration) → xs ≡ ds → Steps xs
+  numbered_in xs e = subst Steps (sym e) steps_here
 
 -- ---- by the sources
 

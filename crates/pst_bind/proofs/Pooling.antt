@@ -1,11 +1,10 @@
 -- What references and claims break is the least breach of the rules of pools.
 use Rattle.std.proofs.Common.{◌≡◌, ◌⊎◌, inl, inr, ⊎_elim, arith, refl, sym, subst, ap, ◌∙◌}
-use Rattle.std.specs.Prelude.{ℕ, zero, suc, slice_get, nat_eq, Bool, true, false, not, ◌||◌, List, [], ◌∷◌, Option, Some, None, Contains, Vec, if◌then◌else◌}
+use Rattle.std.specs.Prelude.{ℕ, zero, suc, slice_get, nat_eq, Bool, true, false, not, ◌||◌, List, [], ◌∷◌, Option, Some, None, Contains, if◌then◌else◌}
 use Rattle.std.specs.List.{list_any, filter_map, cons_option}
 use Rattle.std.specs.Option.{option_map}
 use Rattle.std.proofs.lemmas.Bool.{eqb-true, eqb-false}
 use Rattle.std.proofs.lemmas.Option.{slice_get-get_or}
-use Rattle.std.specs.declared.alloc.Global.{Global}
 use Rattle.pst_base.specs.Laws.{BeforeGoesOn}
 use Rattle.pst_base.specs.declared.position.Place.{Place}
 use Rattle.pst_ast.specs.declared.instance.Instance.{Instance}
@@ -17,16 +16,17 @@ use Rattle.pst_scope.specs.Declarations.{declarations}
 use Rattle.pst_name_rules.specs.Earlier.{earlier}
 use Rattle.pst_name_rules.specs.Leasts.{IsLeastOf, IsIn, least_at}
 use Rattle.pst_name_rules.proofs.Leasts.{told, least_in, same_some, some_is_none}
-use Rattle.pst_bind.specs.declared.explicit_rows.ExplicitRows.{ExplicitRows}
-use Rattle.pst_bind.specs.declared.default_rows.DefaultRows.{DefaultRows}
-use Rattle.pst_bind.specs.declared.pool_map.Served.{Served}
+use Rattle.pst_bound_pools.specs.declared.explicit_rows.ExplicitRows.{ExplicitRows}
+use Rattle.pst_bound_pools.specs.declared.default_rows.DefaultRows.{DefaultRows}
+use Rattle.pst_bind.specs.declared.judging.Judged.{Judged}
 use Rattle.pst_pool_binds.specs.PoolBinds.{explicit_binds, default_binds}
-use Rattle.pst_bind.specs.Serving.{only_one}
 use Rattle.pst_bind.specs.Needs.{Need, needs, candidates_for, served_by, serving}
 use Rattle.pst_bind.specs.PoolRules.{PoolBreach, NoPool, TwoPools}
-use Rattle.pst_bind.specs.KeptBinds.{AreExplicitRows, AreDefaultRows}
-use Rattle.pst_bind.specs.Judging.{unserved, need_finding, candidates_of, found_by, served_with}
+use Rattle.pst_bound_pools.specs.KeptBinds.{AreExplicitRows, AreDefaultRows}
+use Rattle.pst_bind.specs.Choices.{choice_of, pool_of, finding_at}
+use Rattle.pst_bind.specs.Judging.{choice_for, found_with, served_with}
 use Rattle.pst_bind.specs.PooledSources.{IsBreach, AreJudged}
+use Rattle.pst_bind.proofs.Made.{unserved, need_finding, finding_made, pool_made}
 use Rattle.pst_bind.proofs.NearestRows.{candidates_are}
 use Rattle.pst_bind.proofs.Serves.{another, not_same, is_first, is_behind}
 
@@ -61,21 +61,21 @@ module _ (units : List UnitTree) (instances : List Instance) where
   ds = declarations units
 
   abbrev found_for : Need → Option Finding
-  found_for n = need_finding n (candidates_for units instances n)
+  found_for n = need_finding n.need.name.place (candidates_for units instances n)
 
   abbrev at : Place → ℕ → Finding
   at place rule = record { place = place; rule = rule }
 
   -- two that differ
   two_by : (n : Need) (g : Finding) (p : ℕ) (more : List ℕ) (b : Bool) → Contains (needs units instances) n → candidates_for units instances n ≡ p ∷ more → list_any (λ q. not (nat_eq q p)) more ≡ b
-      → unserved n (if b then None else Some p) ≡ Some g → IsBreach units instances g
+      → unserved n.need.name.place (if b then None else Some p) ≡ Some g → IsBreach units instances g
   two_by n g p more false among found any is = absurd (some_is_none (sym is))
   two_by n g p more true among found any is =
       let other = another p more any in
       subst (IsBreach units instances) (same_some is)
       (TwoPools n p other.0 among (subst (λ (ps : List ℕ). Contains ps p) (sym found) (is_first p more)) (subst (λ (ps : List ℕ). Contains ps other.0) (sym found) (is_behind p other.0 more other.1)) (not_same p other.0 other.2))
 
-  breaks_by : (n : Need) (g : Finding) (ps : List ℕ) → Contains (needs units instances) n → candidates_for units instances n ≡ ps → need_finding n ps ≡ Some g → IsBreach units instances g
+  breaks_by : (n : Need) (g : Finding) (ps : List ℕ) → Contains (needs units instances) n → candidates_for units instances n ≡ ps → need_finding n.need.name.place ps ≡ Some g → IsBreach units instances g
   breaks_by n g [] among found is = subst (IsBreach units instances) (same_some is) (NoPool n among found)
   breaks_by n g (p ∷ more) among found is = two_by n g p more (list_any (λ q. not (nat_eq q p)) more) among found refl is
 
@@ -101,16 +101,16 @@ module _ (units : List UnitTree) (instances : List Instance) where
   any_other r x more zero at other = absurd (other (sym (some_at at)))
   any_other r x more (suc k) at other = any_at r x more k at (differs x r (nat_eq x r) refl other)
 
-  two_found : (n : Need) (p q : ℕ) (ps : List ℕ) → Contains ps p → Contains ps q → (p ≡ q → ⊥) → need_finding n ps ≡ Some (at n.need.name.place 23)
+  two_found : (n : Need) (p q : ℕ) (ps : List ℕ) → Contains ps p → Contains ps q → (p ≡ q → ⊥) → need_finding n.need.name.place ps ≡ Some (at n.need.name.place 23)
   two_found n p q [] a b other = absurd (omega (arith, a.1))
-  two_found n p q (r ∷ more) a b other = ap (λ (c : Bool). unserved n (if c then None else Some r)) (by_first (nat_eq p r) refl)
+  two_found n p q (r ∷ more) a b other = ap (λ (c : Bool). unserved n.need.name.place (if c then None else Some r)) (by_first (nat_eq p r) refl)
     where
       by_first : (c : Bool) → nat_eq p r ≡ c → list_any (λ x. not (nat_eq x r)) more ≡ true
       by_first true is = any_other r q more b.0 (contained (r ∷ more) q b) (λ e. other (eqb-true p r is ∙ sym e))
       by_first false is = any_other r p more a.0 (contained (r ∷ more) p a) (eqb-false p r is)
 
   breach_found : {place : Place} {rule : ℕ} → PoolBreach units instances place rule → IsIn found_for (needs units instances) (at place rule)
-  breach_found (NoPool n among none) = found_at found_for (needs units instances) n (at n.need.name.place 22) among.0 (contained (needs units instances) n among) (ap (need_finding n) none)
+  breach_found (NoPool n among none) = found_at found_for (needs units instances) n (at n.need.name.place 22) among.0 (contained (needs units instances) n among) (ap (need_finding n.need.name.place) none)
   breach_found (TwoPools n p q among a b other) =
       found_at found_for (needs units instances) n (at n.need.name.place 23) among.0 (contained (needs units instances) n among) (two_found n p q (candidates_for units instances n) a b other)
 
@@ -126,31 +126,37 @@ module _ (units : List UnitTree) (instances : List Instance) where
       (least_in on found_for (needs units instances) (λ f. ⊥) None (λ f no. no))
 
   module _ (explicit : ExplicitRows) (defaults : DefaultRows) (are : AreExplicitRows ds instances (explicit_binds units) explicit) (are_defaults : AreDefaultRows ds instances (default_binds units) defaults) where
-    same_candidates : (n : Need) → candidates_of ds explicit defaults instances n ≡ candidates_for units instances n
-    same_candidates n = candidates_are units instances explicit defaults are are_defaults n.action n.need n.instance
+    same_choice : (n : Need) → choice_for ds explicit defaults instances n ≡ choice_of (candidates_for units instances n)
+    same_choice n = ap choice_of (candidates_are units instances explicit defaults are are_defaults n.action n.need n.instance)
 
-    same_least : (ns : List Need) (before : Option Finding) → least_at (found_by ds explicit defaults instances) ns before ≡ least_at found_for ns before
+    same_finding : (n : Need) → found_with (choice_for ds explicit defaults instances) n ≡ found_for n
+    same_finding n = ap (finding_at n.need.name.place) (same_choice n) ∙ finding_made n.need.name.place (candidates_for units instances n)
+
+    same_least : (ns : List Need) (before : Option Finding) → least_at (found_with (choice_for ds explicit defaults instances)) ns before ≡ least_at found_for ns before
     same_least [] before = refl
     same_least (n ∷ more) before =
-        same_least more (earlier before (found_by ds explicit defaults instances n)) ∙ ap (λ (ps : List ℕ). least_at found_for more (earlier before (need_finding n ps))) (same_candidates n)
+        same_least more (earlier before (found_with (choice_for ds explicit defaults instances) n)) ∙ ap (λ (f : Option Finding). least_at found_for more (earlier before f)) (same_finding n)
 
-    pub judged_least : BeforeGoesOn → (least : Option Finding) → least ≡ least_at (found_by ds explicit defaults instances) (needs units instances) None → IsLeastOf (IsBreach units instances) least
+    pub judged_least : BeforeGoesOn → (least : Option Finding) → least ≡ least_at (found_with (choice_for ds explicit defaults instances)) (needs units instances) None → IsLeastOf (IsBreach units instances) least
     judged_least on least is = subst (IsLeastOf (IsBreach units instances)) (sym (is ∙ same_least (needs units instances) None)) (least_found on)
 
-    pub judged_served : (ns : List Need) → filter_map (served_with ds explicit defaults instances) ns ≡ filter_map (serving units instances) ns
+    same_served : (n : Need) → served_with (choice_for ds explicit defaults instances) n ≡ serving units instances n
+    same_served n = ap (option_map (served_by n)) (ap pool_of (same_choice n) ∙ pool_made (candidates_for units instances n))
+
+    pub judged_served : (ns : List Need) → filter_map (served_with (choice_for ds explicit defaults instances)) ns ≡ filter_map (serving units instances) ns
     judged_served [] = refl
-    judged_served (n ∷ more) = λ i. cons_option (option_map (served_by n) (only_one (same_candidates n i))) (judged_served more i)
+    judged_served (n ∷ more) = λ i. cons_option (same_served n i) (judged_served more i)
 
   -- by a list of declarations, and of references and claims, however these are told
   abbrev Judges : List Declaration → List Need → Type 0
   Judges all ns =
       (explicit : ExplicitRows) (defaults : DefaultRows) → AreExplicitRows all instances (explicit_binds units) explicit → AreDefaultRows all instances (default_binds units) defaults → BeforeGoesOn
-      → (judged : Option Finding × Vec Served Global) → judged.0 ≡ least_at (found_by all explicit defaults instances) ns None → judged.1.items ≡ filter_map (served_with all explicit defaults instances) ns
+      → (judged : Judged) → judged.least ≡ least_at (found_with (choice_for all explicit defaults instances)) ns None → judged.served.items ≡ filter_map (served_with (choice_for all explicit defaults instances)) ns
       → AreJudged units instances judged
 
   judges_here : Judges ds (needs units instances)
   judges_here explicit defaults are are_defaults on judged least served =
-      (judged_least explicit defaults are are_defaults on judged.0 least, served ∙ judged_served explicit defaults are are_defaults (needs units instances))
+      (judged_least explicit defaults are are_defaults on judged.least least, served ∙ judged_served explicit defaults are are_defaults (needs units instances))
 
   pub judges : (all : List Declaration) (ns : List Need) → all ≡ ds → ns ≡ needs units instances → Judges all ns
   judges all ns e f = subst (λ (xs : List Declaration). Judges xs ns) (sym e) (subst (λ (ms : List Need). Judges ds ms) (sym f) judges_here)

@@ -9,7 +9,7 @@ use Rattle.pst_tree.specs.Instances.{AreInstances}
 use Rattle.pst_tree.specs.Tried.{on}
 use Rattle.pst_tree.proofs.Found.{instances_found}
 use Rattle.pst_bind.specs.Pools.{pool_places}
-use Rattle.pst_bind.specs.Serving.{candidates}
+use Rattle.pst_bound_pools.specs.Serving.{candidates}
 use Rattle.pst_bind.specs.Needs.{served}
 use Rattle.pst_bind.specs.PoolRules.{PoolBreach, NoPool, TwoPools}
 use Rattle.pst_bind.specs.Tried.{three, names, instances, place, serve, derived, its_output, with_pools, first_pool, second_pool, one}

@@ -1,32 +1,39 @@
 -- What references and claims break, and what serves them, by rows of binds.
-use Rattle.std.specs.Prelude.{ℕ, List, [], ◌∷◌, Option, Some, None}
+use Rattle.std.specs.Prelude.{◌≡◌, ℕ, List, ◌++◌, option_to_list, Option}
+use Rattle.std.specs.List.{filter_map}
 use Rattle.std.specs.Option.{option_map}
 use Rattle.pst_ast.specs.declared.instance.Instance.{Instance}
 use Rattle.pst_scope.specs.declared.declaration.Declaration.{Declaration}
 use Rattle.pst_scope.specs.declared.referent.Finding.{Finding}
-use Rattle.pst_scope.specs.NameRules.{finding}
-use Rattle.pst_bind.specs.declared.explicit_rows.ExplicitRows.{ExplicitRows}
-use Rattle.pst_bind.specs.declared.default_rows.DefaultRows.{DefaultRows}
+use Rattle.pst_name_rules.specs.Leasts.{least_at}
+use Rattle.pst_bind.specs.declared.choices.Choice.{Choice}
+use Rattle.pst_bound_pools.specs.declared.explicit_rows.ExplicitRows.{ExplicitRows}
+use Rattle.pst_bound_pools.specs.declared.default_rows.DefaultRows.{DefaultRows}
+use Rattle.pst_bind.specs.declared.judging.Judged.{Judged}
 use Rattle.pst_bind.specs.declared.pool_map.Served.{Served}
-use Rattle.pst_bind.specs.Serving.{only_one, with_those_above}
+use Rattle.pst_bound_pools.specs.Serving.{with_those_above}
 use Rattle.pst_bind.specs.Needs.{Need, served_by}
 use Rattle.pst_bind.specs.Nearest.{candidates_by}
+use Rattle.pst_bind.specs.Choices.{choice_of, finding_at, pool_of}
 
--- rule 23, where no single pool serves a reference or claim
-abbrev pub unserved : Need → Option ℕ → Option Finding
-unserved n None = finding n.need.name.place 23
-unserved n (Some pool) = None
+-- what the candidates of a reference or claim of an action type in an instance come to
+abbrev pub choice_by : List Declaration → ExplicitRows → DefaultRows → List Instance → Declaration → Declaration → ℕ → Choice
+choice_by ds explicit defaults instances action need n = choice_of (candidates_by ds explicit defaults (with_those_above instances n) n action need)
 
--- rule 22 or 23 at a reference or claim with these candidates
-abbrev pub need_finding : Need → List ℕ → Option Finding
-need_finding n [] = finding n.need.name.place 22
-need_finding n (p ∷ more) = unserved n (only_one (p ∷ more))
+abbrev pub choice_for : List Declaration → ExplicitRows → DefaultRows → List Instance → Need → Choice
+choice_for ds explicit defaults instances n = choice_by ds explicit defaults instances n.action n.need n.instance
 
-abbrev pub candidates_of : List Declaration → ExplicitRows → DefaultRows → List Instance → Need → List ℕ
-candidates_of ds explicit defaults instances n = candidates_by ds explicit defaults (with_those_above instances n.instance) n.instance n.action n.need
+-- what is broken, and what serves it, where that is how the choice is made
+abbrev pub found_with : (Need → Choice) → Need → Option Finding
+found_with choice n = finding_at n.need.name.place (choice n)
 
-abbrev pub found_by : List Declaration → ExplicitRows → DefaultRows → List Instance → Need → Option Finding
-found_by ds explicit defaults instances n = need_finding n (candidates_of ds explicit defaults instances n)
+abbrev pub served_with : (Need → Choice) → Need → Option Served
+served_with choice n = option_map (served_by n) (pool_of (choice n))
 
-abbrev pub served_with : List Declaration → ExplicitRows → DefaultRows → List Instance → Need → Option Served
-served_with ds explicit defaults instances n = option_map (served_by n) (only_one (candidates_of ds explicit defaults instances n))
+abbrev pub served_by_choice : Need → Choice → List Served
+served_by_choice n c = option_to_list (option_map (served_by n) (pool_of c))
+
+-- these references and claims were judged too
+pub record AreMore (choice : Need → Choice) (needs : List Need) (old new : Judged) : Type 0 where
+  pub least : new.least ≡ least_at (found_with choice) needs old.least
+  pub served : new.served.items ≡ old.served.items ++ filter_map (served_with choice) needs

@@ -7,7 +7,7 @@ use Rattle.pst_ast.specs.DeclarationTree.{UnitTree}
 use Rattle.pst_scope.specs.Breaches.{IsLeast, IsNone}
 use Rattle.pst_bind.specs.declared.pool_map.PoolPlace.{PoolPlace}
 use Rattle.pst_bind.specs.declared.pool_map.Served.{Served}
-use Rattle.pst_bind.specs.Serving.{serving_pool}
+use Rattle.pst_bound_pools.specs.Serving.{serving_pool}
 use Rattle.pst_bind.specs.Needs.{Need, needs}
 use Rattle.pst_bind.specs.PoolRules.{PoolBreach, IsPoolMap}
 

@@ -8,14 +8,7 @@ use Rattle.pst_type_rules.specs.Members.{those_that}
 use Rattle.pst_inherited.specs.declared.sites.ActionSite.{ActionSite}
 use Rattle.pst_inherited.specs.Bases.{with_bases, needs_of}
 use Rattle.pst_inherited.specs.Found.{is_concrete_by, compound_from}
-use Rattle.pst_bind.specs.declared.need_list.FoundNeed.{FoundNeed}
 use Rattle.pst_bind.specs.Needs.{Need, homes_of}
-
-abbrev pub view_need : FoundNeed → Need
-view_need n = record { number = n.number; action = n.action; instance = n.instance; reference = n.reference; need = n.need }
-
-abbrev pub view_needs : List FoundNeed → List Need
-view_needs needs = map view_need needs
 
 abbrev pub need_of : ℕ → Declaration → ℕ → ℕ × Declaration → Need
 need_of number action instance y = record { number = number; action = action; instance = instance; reference = y.0; need = y.1 }

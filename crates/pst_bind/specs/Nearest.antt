@@ -6,10 +6,10 @@ use Rattle.pst_base.specs.declared.position.Place.{Place}
 use Rattle.pst_base.specs.declared.table.NameId.{NameId}
 use Rattle.pst_scope.specs.declared.declaration.Declaration.{Declaration}
 use Rattle.pst_scope.specs.Lookups.{type_of}
-use Rattle.pst_bind.specs.declared.explicit_rows.ExplicitRows.{ExplicitRows}
-use Rattle.pst_bind.specs.declared.default_rows.DefaultRows.{DefaultRows}
-use Rattle.pst_bind.specs.BindRows.{numbers_in, same_target, same_object, target_key, object_key}
-use Rattle.pst_bind.specs.Serving.{first_filled}
+use Rattle.pst_bound_pools.specs.declared.explicit_rows.ExplicitRows.{ExplicitRows}
+use Rattle.pst_bound_pools.specs.declared.default_rows.DefaultRows.{DefaultRows}
+use Rattle.pst_bound_pools.specs.BindRows.{numbers_in, same_target, same_object, target_key, object_key}
+use Rattle.pst_bound_pools.specs.Serving.{first_filled}
 
 abbrev pub explicit_row : ExplicitRows → ℕ → NameId → NameId → ℕ → List ℕ
 explicit_row rows to action need from = numbers_in (get same_target rows.rows (target_key from to action need))

@@ -13,8 +13,8 @@ use Rattle.pst_type_rules.specs.Sites.{action_at}
 use Rattle.pst_inherited.specs.Bases.{needs_of}
 use Rattle.pst_inherited.specs.Contents.{is_compound}
 use Rattle.pst_bind.specs.declared.pool_map.Served.{Served}
-use Rattle.pst_bind.specs.Pools.{component_of}
-use Rattle.pst_bind.specs.Serving.{candidates, serving_pool}
+use Rattle.pst_bound_pools.specs.Pools.{component_of}
+use Rattle.pst_bound_pools.specs.Serving.{candidates, serving_pool}
 
 -- A reference or claim of an action type in an instance of its component, with the numbers of the type, the instance and the reference.
 pub record Need : Type 0 where

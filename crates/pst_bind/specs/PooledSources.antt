@@ -1,6 +1,5 @@
 -- What is found of the pools of sources.
-use Rattle.std.specs.Prelude.{◌≡◌, List, Option, Vec, Result, Ok, Err}
-use Rattle.std.specs.declared.alloc.Global.{Global}
+use Rattle.std.specs.Prelude.{◌≡◌, List, Result, Ok, Err}
 use Rattle.pst_ast.specs.declared.instance.Instance.{Instance}
 use Rattle.pst_ast.specs.DeclarationTree.{UnitTree}
 use Rattle.pst_scope.specs.Breaches.{IsLeast, IsNone}
@@ -9,7 +8,7 @@ use Rattle.pst_name_rules.specs.Leasts.{IsLeastOf}
 use Rattle.pst_names.specs.declared.end.RuleEnd.{RuleEnd}
 use Rattle.pst_names.specs.declared.end.RuleEnd.TheVariants as rule_end
 use Rattle.pst_bind.specs.declared.pool_map.PoolMap.{PoolMap}
-use Rattle.pst_bind.specs.declared.pool_map.Served.{Served}
+use Rattle.pst_bind.specs.declared.judging.Judged.{Judged}
 use Rattle.pst_bind.specs.Needs.{served}
 use Rattle.pst_bind.specs.PoolRules.{PoolBreach, IsPoolMap}
 
@@ -17,8 +16,8 @@ abbrev pub IsBreach : List UnitTree → List Instance → Finding → Type 0
 IsBreach units instances f = PoolBreach units instances f.place f.rule
 
 -- the least breach of the rules of pools, and what is served
-abbrev pub AreJudged : List UnitTree → List Instance → Option Finding × Vec Served Global → Type 0
-AreJudged units instances r = IsLeastOf (IsBreach units instances) r.0 × (r.1.items ≡ served units instances)
+abbrev pub AreJudged : List UnitTree → List Instance → Judged → Type 0
+AreJudged units instances judged = IsLeastOf (IsBreach units instances) judged.least × (judged.served.items ≡ served units instances)
 
 -- the pools and what they serve where no rule of pools is broken, or else the least breach
 abbrev pub ArePooled : List UnitTree → List Instance → Result PoolMap Finding → Type 0

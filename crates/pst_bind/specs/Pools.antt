@@ -1,36 +1,13 @@
--- The pools of the component instances.
-use Rattle.std.specs.Prelude.{ℕ, nat_eq, ◌&&◌, List, [], map, position, slice_get, Option}
-use Rattle.std.specs.List.{filter, flat_map, enumerate_from}
-use Rattle.std.specs.Option.{option_map_or, option_and_then}
+-- The pools of the component instances, each with its name.
+use Rattle.std.specs.Prelude.{ℕ, List, map}
 use Rattle.pst_ast.specs.declared.instance.Instance.{Instance}
 use Rattle.pst_scope.specs.declared.declaration.Declaration.{Declaration}
-use Rattle.pst_scope.specs.declared.declaration.Scope.TheVariants.{Files, Part}
-use Rattle.pst_scope.specs.Sorts.{is_pool, same_place, same_scope}
-use Rattle.pst_scope.specs.Lookups.{look_up}
 use Rattle.pst_bind.specs.declared.pool_map.PoolPlace.{PoolPlace}
+pub use Rattle.pst_bound_pools.specs.Pools.{component_of, component_at, pools_in, pools_at, pools, pool_number}
 
--- the component of an instance
-abbrev pub component_of : List Declaration → Instance → Option Declaration
-component_of ds i = look_up ds Files i.component
+abbrev pub place_of : ℕ × Declaration → PoolPlace
+place_of x = record { instance = x.0; name = x.1.name.id }
 
-abbrev pub component_at : List Declaration → List Instance → ℕ → Option Declaration
-component_at ds instances n = option_and_then (component_of ds) (slice_get instances n)
-
--- the pools that a component declares
-abbrev pub pools_in : List Declaration → Declaration → List Declaration
-pools_in ds component = filter (λ d. is_pool d.sort && same_scope d.scope (Part component.name.place)) ds
-
--- each pool of an instance, with the instance
-abbrev pub pools_at : List Declaration → ℕ × Instance → List (ℕ × Declaration)
-pools_at ds x = option_map_or (λ c. map (λ d. (x.0, d)) (pools_in ds c)) (component_of ds x.1) []
-
--- All pools, by instance and then in order of declaration. Each is named by its number in this list.
-abbrev pub pools : List Declaration → List Instance → List (ℕ × Declaration)
-pools ds instances = flat_map (pools_at ds) (enumerate_from 0 instances)
-
+-- the instance and the name of each pool
 abbrev pub pool_places : List Declaration → List Instance → List PoolPlace
-pool_places ds instances = map (λ (x : ℕ × Declaration). record { instance = x.0; name = x.1.name.id }) (pools ds instances)
-
--- the number of a declared pool in an instance
-abbrev pub pool_number : List Declaration → List Instance → ℕ → Declaration → Option ℕ
-pool_number ds instances n pool = position (λ (x : ℕ × Declaration). nat_eq x.0 n && same_place x.1.name.place pool.name.place) (pools ds instances)
+pool_places ds instances = map place_of (pools ds instances)

@@ -18,7 +18,7 @@ use Rattle.pst_inherited.specs.Tried.{an_action, base_named}
 use Rattle.pst_bind.specs.declared.pool_map.PoolPlace.{PoolPlace}
 use Rattle.pst_bind.specs.declared.pool_map.Served.{Served}
 use Rattle.pst_bind.specs.Pools.{pool_places}
-use Rattle.pst_bind.specs.Serving.{candidates}
+use Rattle.pst_bound_pools.specs.Serving.{candidates}
 use Rattle.pst_bind.specs.Needs.{served}
 use Rattle.pst_bind.specs.PoolRules.{PoolBreach}
 

@@ -1,5 +1,11 @@
 //! The pools of the component instances, and what they serve.
-use pst_base::{Items, NameId};
+ghost use Rattle.std.specs.Prelude.{◌≡◌, map, IfOk};
+ghost use Rattle.pst_bound_pools.specs.ListedPools.{view_pools};
+ghost use Rattle.pst_bind.specs.Pools.{place_of};
+
+use pst_base::{Items, NameId, NoMemory};
+use pst_bound_pools::ListedPool;
+use std::alloc::Global;
 
 /// A pool of a component instance.
 #[derive(Clone, Copy, Debug, PartialEq, Eq)]
@@ -33,4 +39,18 @@ pub struct PoolMap {
     /// The pool of each reference and claim of each atomic action that isn't abstract, in each
     /// instance of its component, by action, instance and reference.
     pub served: Items<Served>,
+}
+
+/// The instance and the name of each pool.
+pub fn places(alloc: Global, pools: &[ListedPool]) -> Result<Vec<PoolPlace>, NoMemory>
+    ensures { IfOk result (λ places. places.items ≡ map place_of (view_pools pools.now)) }
+{
+    let mut places = Vec::new(alloc);
+    for pool in pools {
+        places.push(PoolPlace {
+            instance: pool.instance,
+            name: pool.declaration.name.id,
+        })?;
+    }
+    Ok(places)
 }

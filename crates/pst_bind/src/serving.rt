@@ -1,14 +1,13 @@
 //! The pools that may serve a reference or claim.
-ghost use Rattle.std.specs.Prelude.{◌≡◌, map};
-ghost use Rattle.pst_bind.specs.Serving;
-ghost use Rattle.pst_bind.specs.Serving.{first_filled};
-ghost use Rattle.pst_bind.specs.Nearest.{candidates_by, explicit_row, default_row};
+ghost use Rattle.std.specs.Prelude.{◌≡◌, map, IfOk};
+ghost use Rattle.pst_bound_pools.specs.Serving;
+ghost use Rattle.pst_bound_pools.specs.Serving.{first_filled};
+ghost use Rattle.pst_bound_pools.specs.KeptBinds.{IsAimed};
+ghost use Rattle.pst_bind.specs.Nearest.{explicit_row, default_row};
 
-use crate::default_rows::DefaultRows;
-use crate::explicit_rows::ExplicitRows;
-use pst_base::{NameId, Place};
-use pst_index::Index;
-use pst_scope::Declaration;
+use pst_base::{NameId, NoMemory, Place};
+use pst_bound_pools::{DefaultRows, ExplicitRows, InstanceTable};
+use std::alloc::Global;
 
 // The pools of the explicit binds of the nearest instance that has one.
 fn nearest_explicit<'a>(
@@ -29,8 +28,8 @@ fn nearest_explicit<'a>(
     &[]
 }
 
-// The pools of the default binds of the nearest instance that has one of an object type.
-fn nearest_default<'a>(rows: &'a DefaultRows, above: &[u32], place: Place) -> &'a [u32]
+/// The pools of the default binds of the nearest instance that has one of an object type.
+pub fn nearest_default<'a>(rows: &'a DefaultRows, above: &[u32], place: Place) -> &'a [u32]
     ensures { result.now ≡ first_filled (map (default_row rows.now place) above.now) }
 {
     for from in above {
@@ -42,38 +41,22 @@ fn nearest_default<'a>(rows: &'a DefaultRows, above: &[u32], place: Place) -> &'
     &[]
 }
 
-/// The pools that may serve a reference or claim of an action type in an instance, given the
-/// instance with those above it, the nearest first.
-pub fn candidates<'a>(
-    index: &Index,
-    explicit: &'a ExplicitRows,
-    defaults: &'a DefaultRows,
-    above: &[u32],
-    instance: u32,
-    action: &Declaration,
-    need: &Declaration,
-) -> &'a [u32]
-    ensures { result.now ≡ candidates_by index.now explicit.now defaults.now above.now instance action.now need.now }
+/// The pools of the explicit binds of a reference or claim of an action type in an instance, of the
+/// nearest instance that has one.
+pub fn explicit_candidates<'a>(
+    alloc: Global,
+    rows: &'a ExplicitRows,
+    table: &InstanceTable,
+    to: u32,
+    action: NameId,
+    need: NameId,
+) -> Result<&'a [u32], NoMemory>
+    requires { IsAimed rows.now }
+    ensures { IfOk result (λ row. row.now ≡ first_filled (map (explicit_row rows.now to action need) (Serving.with_those_above table.now to))) }
 {
-    let row = nearest_explicit(explicit, above, instance, action.name.id, need.name.id);
-    if !row.is_empty() {
-        return row;
+    if !rows.is_aimed(to, action, need) {
+        return Ok(&[]);
     }
-    match index.type_of(need) {
-        None => &[],
-        Some(object) => nearest_default(defaults, above, object.name.place),
-    }
-}
-
-/// The pool of several candidates that are all the same.
-pub fn only_one(row: &[u32]) -> Option<u32>
-    ensures { result ≡ Serving.only_one row.now }
-{
-    let (first, more) = row.split_first()?;
-    for other in more {
-        if other != first {
-            return None;
-        }
-    }
-    Some(*first)
+    let above = table.with_those_above(alloc, to)?;
+    Ok(nearest_explicit(rows, above.as_slice(), to, action, need))
 }

@@ -7,22 +7,19 @@ ghost use Rattle.pst_scope.specs.NameRules.{NameBreach};
 ghost use Rattle.pst_scope.specs.Scopes.{AreScopes};
 ghost use Rattle.pst_tree.specs.Instances.{AreInstances};
 ghost use Rattle.pst_type_rules.specs.TypeRules.{TypeBreach};
-ghost use Rattle.pst_bind.specs.KeptBinds.{AreDefaultRows, AreExplicitRows};
-ghost use Rattle.pst_bind.specs.ListedNeeds.{view_needs};
-ghost use Rattle.pst_bind.specs.Needs;
+ghost use Rattle.pst_bound_pools.specs.Homes.{home_place};
+ghost use Rattle.pst_bound_pools.specs.KeptBinds.{AreDefaultRows, AreExplicitRows, IsAimed};
 ghost use Rattle.pst_pool_binds.specs.PoolBinds;
-ghost use Rattle.pst_bind.specs.Pools;
+ghost use Rattle.pst_bound_pools.specs.Pools;
 ghost use Rattle.pst_bind.specs.PooledSources.{AreJudged, ArePooled, IsPoolEnd};
 
-use crate::default_rows::DefaultRows;
-use crate::explicit_rows::ExplicitRows;
-use crate::instance_table::InstanceTable;
-use crate::judge::judge;
-use crate::need_list::{FoundNeed, list_needs};
-use crate::pool_map::{PoolMap, Served};
-use crate::pool_table::PoolTable;
+use crate::actions::judge;
+use crate::default_choices::are_behind;
+use crate::judging::{Binds, Judged};
+use crate::pool_map::{PoolMap, places};
 use pst_ast::{Instance, Unit};
-use pst_base::{Items, Names, NoMemory};
+use pst_base::{Items, Names, NoMemory, Place};
+use pst_bound_pools::{DefaultRows, ExplicitRows, InstanceTable, PoolTable, components_of};
 use pst_collect::declarations;
 use pst_index::Index;
 use pst_inherited::Sites;
@@ -36,45 +33,35 @@ use std::alloc::Global;
 fn explicit_rows(
     alloc: Global,
     units: &[Unit],
+    components: &[Option<Place>],
     index: &Index,
     table: &InstanceTable,
     pools: &PoolTable,
 ) -> Result<ExplicitRows, NoMemory>
-    requires { pools.now ≡ Pools.pools index.now table.now }
-    ensures { IfOk result (AreExplicitRows index.now table.now (PoolBinds.explicit_binds (map view_unit units.now))) }
+    requires components { components.now ≡ map (home_place index.now) table.now }
+    requires pools { pools.now ≡ Pools.pools index.now table.now }
+    ensures rows { IfOk result (AreExplicitRows index.now table.now (PoolBinds.explicit_binds (map view_unit units.now))) }
+    ensures aimed { IfOk result IsAimed }
 {
     let binds = explicit_binds(alloc, units)?;
-    ExplicitRows::new(alloc, index, table, pools, binds.as_slice())
+    ExplicitRows::new(alloc, components, index, table, pools, binds.as_slice())
 }
 
 // The pools of default binds.
 fn default_rows(
     alloc: Global,
     units: &[Unit],
+    components: &[Option<Place>],
     index: &Index,
     table: &InstanceTable,
     pools: &PoolTable,
 ) -> Result<DefaultRows, NoMemory>
-    requires { pools.now ≡ Pools.pools index.now table.now }
+    requires components { components.now ≡ map (home_place index.now) table.now }
+    requires pools { pools.now ≡ Pools.pools index.now table.now }
     ensures { IfOk result (AreDefaultRows index.now table.now (PoolBinds.default_binds (map view_unit units.now))) }
 {
     let binds = default_binds(alloc, units)?;
-    DefaultRows::new(alloc, index, table, pools, binds.as_slice())
-}
-
-// The references and claims that pools serve.
-fn needs_in(
-    alloc: Global,
-    units: &[Unit],
-    index: &Index,
-    instances: &[Instance],
-) -> Result<Vec<FoundNeed>, NoMemory>
-    requires { index.now ≡ the_declarations (map view_unit units.now) }
-    ensures { IfOk result (λ needs. view_needs needs.items ≡ Needs.needs (map view_unit units.now) instances.now) }
-{
-    let rows = Rows::new(alloc, Member::Need, index.as_slice())?;
-    let sites = Sites::new(alloc, units)?;
-    list_needs(alloc, index, &rows, &sites, instances)
+    DefaultRows::new(alloc, components, index, table, pools, binds.as_slice())
 }
 
 // The least of what references and claims break, and what serves them.
@@ -84,16 +71,28 @@ fn judged_needs(
     index: &Index,
     table: &InstanceTable,
     pools: &PoolTable,
-) -> Result<(Option<Finding>, Vec<Served>), NoMemory>
+) -> Result<Judged, NoMemory>
     requires declared { index.now ≡ the_declarations (map view_unit units.now) }
     requires pools { pools.now ≡ Pools.pools index.now table.now }
     ensures { IfOk result (AreJudged (map view_unit units.now) table.now) }
 {
-    let explicit = explicit_rows(alloc, units, index, table, pools)?;
-    let defaults = default_rows(alloc, units, index, table, pools)?;
-    let needs = needs_in(alloc, units, index, table.as_slice())?;
+    let places = components_of(alloc, index, table)?;
+    let components = places.as_slice();
+    let explicit = explicit_rows(alloc, units, components, index, table, pools)?;
+    let defaults = default_rows(alloc, units, components, index, table, pools)?;
+    let members = Rows::new(alloc, Member::Need, index.as_slice())?;
+    let sites = Sites::new(alloc, units)?;
     pst_base::places_are_ordered();
-    let judged = judge(alloc, index, &explicit, &defaults, table, needs.as_slice())?;
+    let binds = Binds {
+        alloc,
+        index,
+        table,
+        components,
+        explicit: &explicit,
+        defaults: &defaults,
+        behind: are_behind(table),
+    };
+    let judged = judge(&binds, &members, &sites)?;
     Ok(judged)
 }
 
@@ -110,14 +109,14 @@ fn pooled(
     let rows = Rows::new(alloc, Member::Pool, index.as_slice())?;
     let table = InstanceTable::new(alloc, instances)?;
     let pools = PoolTable::new(alloc, index, &rows, table.as_slice())?;
-    let (least, served) = judged_needs(alloc, units, index, &table, &pools)?;
-    match least {
+    let judged = judged_needs(alloc, units, index, &table, &pools)?;
+    match judged.least {
         Some(finding) => Ok(Err(finding)),
         None => {
-            let places = pools.places(alloc)?;
+            let named = places(alloc, pools.as_slice())?;
             Ok(Ok(PoolMap {
-                pools: Items::from_vec(places),
-                served: Items::from_vec(served),
+                pools: Items::from_vec(named),
+                served: Items::from_vec(judged.served),
             }))
         }
     }

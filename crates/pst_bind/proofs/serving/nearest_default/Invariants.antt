@@ -1,5 +1,5 @@
 use Rattle.std.proofs.Common.{◌≡◌, drop, map}
-use Rattle.pst_bind.specs.Serving.{first_filled}
+use Rattle.pst_bound_pools.specs.Serving.{first_filled}
 use Rattle.pst_bind.specs.Nearest.{default_row}
 use Rattle.pst_bind.proofs.serving.nearest_default.Given as goal
 

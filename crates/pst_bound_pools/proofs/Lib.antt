@@ -1,0 +1,4 @@
+mod Above
+mod Giving
+mod GivingDefaults
+mod Aimed
