@@ -79,8 +79,9 @@ fn raise_word(counts: &mut [u32], rows: &Rows, a: u32, first: u32, end: u32)
     raise_part(counts, word, first, end);
 }
 
-/// Raises the number of each action with which the square pairs the given one.
-pub(crate) fn raise(counts: &mut [u32], rows: &Rows, a: u32)
+/// Raises the number of each action with which the square pairs the given one, in a table of
+/// numbers by actions.
+pub fn raise(counts: &mut [u32], rows: &Rows, a: u32)
     requires square { IsSquare rows.now }
     requires a_in { a < rows.now.size }
     requires many { length counts.old ≡ rows.now.size }
@@ -135,8 +136,9 @@ fn lower_word(counts: &mut [u32], rows: &Rows, a: u32, first: u32, end: u32)
     lower_part(counts, word, first, end);
 }
 
-/// Lowers the number of each action with which the square pairs the given one.
-pub(crate) fn lower(counts: &mut [u32], rows: &Rows, a: u32)
+/// Lowers the number of each action with which the square pairs the given one, in a table of
+/// numbers by actions.
+pub fn lower(counts: &mut [u32], rows: &Rows, a: u32)
     requires square { IsSquare rows.now }
     requires a_in { a < rows.now.size }
     requires many { length counts.old ≡ rows.now.size }
