@@ -1,11 +1,11 @@
 -- The starts of a group, one after another.
-use Rattle.std.proofs.Common.{◌≡◌, ◌≢◌, ◌⊎◌, ℕ, ◌+◌, ◌<◌, ◌≤◌, Bool, List, [], ◌∷◌, ◌++◌, drop, length, get_or, refl, sym, ap, ◌∙◌, subst, ⊎_elim, arith, append_assoc, append-nil, length-append}
+use Rattle.std.proofs.Common.{◌≡◌, ℕ, ◌+◌, ◌<◌, ◌≤◌, Bool, List, [], ◌∷◌, ◌++◌, drop, length, get_or, refl, sym, ap, ◌∙◌, subst, ⊎_elim, arith, append_assoc, append-nil, length-append}
 use Rattle.std.specs.Prelude.{Contains}
 use Rattle.std.proofs.lemmas.Bool.{cases_lt}
 use Rattle.std.proofs.lemmas.List.Elements.{Contains-append_left, Contains-get_or, Contains-push, Contains-push_cases}
 use Rattle.pst_scen.specs.declared.event.Event.{Event}
 use Rattle.pst_scen.specs.declared.event.Event.TheVariants.{Start}
-use Rattle.pst_scen.specs.Trace.{StartsOn, Started, Ended, Runs, IsHeld}
+use Rattle.pst_scen.specs.Trace.{StartsOn, Ended, IsHeld}
 use Rattle.pst_scen.specs.Plan.{Entries, AreGroupsNumbered, places_from, members}
 use Rattle.pst_book.specs.Books.{MayJoin}
 use Rattle.pst_book.specs.Tables.{IsNext}

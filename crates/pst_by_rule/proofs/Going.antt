@@ -2,7 +2,7 @@
 use Rattle.std.proofs.Common.{◌≡◌, ◌≤◌, ◌<◌, ◌+◌, ◌-◌, ℕ, List, [], ◌∷◌, ◌++◌, length, take, drop, refl, sym, ap, ◌∙◌, subst, arith, length-drop, drop-drop, length-take-le}
 use Rattle.pst_scen.specs.declared.scenario.Scenario.{Scenario}
 use Rattle.pst_scen.specs.declared.event.Event.{Event}
-use Rattle.pst_scen.specs.Trace.{events_of, events}
+use Rattle.pst_scen.specs.Trace.{events_of}
 use Rattle.pst_scen.specs.Judging.{AreWholeBlocks}
 use Rattle.pst_order.specs.Rule.{FollowsRule}
 use Rattle.pst_by_rule.specs.Blocks.{block_of, AreOnward, IsOneBlock, IsFirstBlock}

@@ -1,16 +1,16 @@
 -- What one event makes of the tables.
-use Rattle.std.proofs.Common.{◌≡◌, ◌↔◌, ℕ, ◌+◌, ◌-◌, ◌<◌, ◌≤◌, List, [], ◌∷◌, ◌++◌, length, get_or, slice_set, replicate, Bool, true, false, Option, Some, None, refl, sym, ap, ◌∙◌, subst, ⊎_elim, arith}
+use Rattle.std.proofs.Common.{◌≡◌, ℕ, ◌+◌, ◌-◌, ◌<◌, ◌≤◌, List, [], ◌∷◌, ◌++◌, length, get_or, slice_set, replicate, Bool, true, false, Option, Some, None, refl, sym, ap, ◌∙◌, subst, ⊎_elim, arith}
 use Rattle.std.specs.Prelude.{MatchOption}
 use Rattle.pst_scen.specs.declared.event.Event.{Event}
-use Rattle.pst_scen.specs.declared.event.Event.TheVariants.{Start, End}
-use Rattle.pst_scen.specs.Trace.{StartsOn, Started, Ended, Runs, IsHeld}
+use Rattle.pst_scen.specs.declared.event.Event.TheVariants.{End}
+use Rattle.pst_scen.specs.Trace.{Started, Ended, Runs, IsHeld}
 use Rattle.pst_scen.specs.Rows.{Has}
 use Rattle.pst_scen.specs.Plan.{Entries}
 use Rattle.pst_book.specs.Books.{MayJoin}
 use Rattle.pst_book.specs.Tables.{AreTied, HoldsAlone, AreRaised, AreLowered, AreFreed, AreAllAwaited, AreNext}
 use Rattle.pst_book.proofs.Events.{ended_or}
 use Rattle.pst_book.proofs.Numbers.{none_has}
-use Rattle.pst_book.proofs.Ties.{start_tied, start_room, end_tied, awaited_some, in_the_way_some, it_is_below, new_tied}
+use Rattle.pst_book.proofs.Ties.{start_tied, start_room, end_tied, awaited_some, in_the_way_some, new_tied}
 use Rattle.pst_by_rule.specs.Counted.{AreCounted, StartsFreely, DidStart}
 
 module _ (p : Entries) (t : List Event) (started ended : List Bool) (awaited in_the_way next : List ℕ) (holders : List (Option ℕ)) (counted : AreCounted p t started ended awaited in_the_way next holders) where

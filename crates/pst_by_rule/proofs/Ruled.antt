@@ -1,12 +1,12 @@
 -- A block that the tables allow follows the core's rule.
-use Rattle.std.proofs.Common.{◌≡◌, ℕ, suc, ◌+◌, ◌<◌, ◌≤◌, List, [], ◌∷◌, ◌++◌, length, get_or, map, take, refl, sym, ap, ap₂, ◌∙◌, subst, arith, append_assoc, take-suc}
-use Rattle.std.specs.Prelude.{Contains, Bool, true, false, Option}
+use Rattle.std.proofs.Common.{◌≡◌, ℕ, suc, ◌+◌, ◌<◌, ◌≤◌, List, [], ◌∷◌, ◌++◌, length, get_or, map, take, sym, ap, ◌∙◌, subst, arith, append_assoc, take-suc}
+use Rattle.std.specs.Prelude.{Bool, true, false, Option}
 use Rattle.std.specs.Bool.{OnTrue}
 use Rattle.std.proofs.lemmas.List.{map-append}
 use Rattle.pst_scen.specs.declared.scenario.Scenario.{Scenario}
 use Rattle.pst_scen.specs.declared.event.Event.{Event}
 use Rattle.pst_scen.specs.declared.event.Event.TheVariants.{Start, End}
-use Rattle.pst_scen.specs.Trace.{Runs, IsWholeGroup, Block, Starts, Ends, events_of}
+use Rattle.pst_scen.specs.Trace.{IsWholeGroup, Ends, events_of}
 use Rattle.pst_scen.specs.Plan.{Entries, members}
 use Rattle.pst_scen.specs.Plans.{IsPlanOf}
 use Rattle.pst_scen.specs.Core.{IsReady}

@@ -1,9 +1,9 @@
 -- Judging block after block.
-use Rattle.std.proofs.Common.{◌≡◌, ◌≤◌, ◌<◌, ◌+◌, ◌-◌, ◌^◌, ℕ, zero, suc, List, [], ◌∷◌, ◌++◌, Bool, length, take, drop, refl, sym, ap, ◌∙◌, subst, arith, append_assoc, append-nil, length-append}
+use Rattle.std.proofs.Common.{◌≡◌, ◌≤◌, ◌<◌, ◌+◌, ◌-◌, ◌^◌, ℕ, zero, suc, List, [], ◌∷◌, ◌++◌, Bool, length, take, drop, refl, sym, ap, ◌∙◌, subst, arith, append_assoc, length-append}
 use Rattle.std.proofs.lemmas.List.{drop-drop, length-drop}
 use Rattle.pst_scen.specs.declared.scenario.Scenario.{Scenario}
 use Rattle.pst_scen.specs.declared.event.Event.{Event}
-use Rattle.pst_scen.specs.Trace.{Block, Starts, Ends, Ended, events_of, events, AreLegal, IsWhole}
+use Rattle.pst_scen.specs.Trace.{Block, Starts, Ends, Ended, events_of, events}
 use Rattle.pst_scen.specs.Judging.{BreaksLeast}
 use Rattle.pst_scen.specs.Laws.{PrefixesAreLegal}
 use Rattle.pst_scen.specs.Plan.{Entries, widest}

@@ -1,4 +1,4 @@
-use Rattle.std.proofs.Common.{◌≡◌, ◌+◌, ◌<◌, ◌∙◌, ℕ, length, get_or, subst, sym, arith}
+use Rattle.std.proofs.Common.{◌<◌, ◌∙◌, length, get_or, subst, sym, arith}
 use Rattle.pst_scen.specs.declared.rows.Rows.{Rows}
 use Rattle.pst_scen.specs.Rows.{Has}
 use Rattle.pst_book.specs.Tables.{AreSoManyOf, AreRaised}

@@ -1,4 +1,4 @@
-use Rattle.std.proofs.Common.{◌≡◌, ◌≤◌, ◌∙◌, ℕ, length, replicate, take, false, ap, ap₂, arith}
+use Rattle.std.proofs.Common.{◌≡◌, ◌≤◌, ◌∙◌, ℕ, replicate, take, false, ap, ap₂, arith}
 use Rattle.std.proofs.lemmas.List.{take-replicate}
 use Rattle.pst_by_rule.proofs.Going.{followed_none}
 use Rattle.pst_by_rule.proofs.following.follow.Goals as goal

@@ -1,4 +1,4 @@
-use Rattle.std.proofs.Common.{◌++◌, List, ◌<◌, ◌≤◌, length, sym, subst, take, arith}
+use Rattle.std.proofs.Common.{List, subst, take, arith}
 use Rattle.std.proofs.lemmas.Bool.{OnTrue_at}
 use Rattle.pst_scen.specs.declared.event.Event.{Event}
 use Rattle.pst_by_rule.specs.Counted.{AreCounted}

@@ -1,4 +1,3 @@
-use Rattle.std.proofs.Common.{◌≡◌, ◌<◌, length, sym, subst, arith}
 use Rattle.pst_by_rule.proofs.Noted.{room_at, did_start}
 use Rattle.pst_by_rule.proofs.starts.follow_start.Goals as goal
 

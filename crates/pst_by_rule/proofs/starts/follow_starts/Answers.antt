@@ -1,4 +1,4 @@
-use Rattle.std.proofs.Common.{◌≡◌, ◌++◌, ◌∷◌, [], ◌<◌, ◌≤◌, ◌∙◌, List, Bool, length, get_or, map, take, sym, ap, subst, arith, append-nil, take_all}
+use Rattle.std.proofs.Common.{◌≡◌, ◌++◌, [], ◌<◌, ◌≤◌, ◌∙◌, List, length, map, take, sym, subst, arith, append-nil, take_all}
 use Rattle.std.proofs.lemmas.Bool.{OnTrue_at}
 use Rattle.pst_scen.specs.declared.event.Event.{Event}
 use Rattle.pst_by_rule.specs.Blocks.{act_of, lane_of}
