@@ -1,15 +1,15 @@
-mod Elements
-mod Events
-mod Lists
-mod Loops
-mod Idle
-mod Starting
-mod Openings
-mod Steps
-mod Numbers
-mod Changing
-mod Ties
-mod Pushes
-mod Going
-mod Founding
-mod Parting
+pub mod Elements
+pub mod Events
+pub mod Lists
+pub mod Loops
+pub mod Idle
+pub mod Starting
+pub mod Openings
+pub mod Steps
+pub mod Numbers
+pub mod Changing
+pub mod Ties
+pub mod Pushes
+pub mod Going
+pub mod Founding
+pub mod Parting

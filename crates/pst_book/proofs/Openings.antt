@@ -61,7 +61,7 @@ take_least t lanes k idle are enough =
     }
 
 -- what conflicts is an action of the scenario
-conflict_in : {s : Scenario} {a b : ℕ} → Conflict s a b → (a < length s.actions) × (b < length s.actions)
+pub conflict_in : {s : Scenario} {a b : ℕ} → Conflict s a b → (a < length s.actions) × (b < length s.actions)
 conflict_in {s = s} {a = a} {b = b} c = clash_in c.1
   where
     refers_in : {x pool : ℕ} {flow : Flow} {to : Link} → Refers s x flow pool to → x < length s.actions

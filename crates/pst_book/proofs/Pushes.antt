@@ -18,7 +18,7 @@ module _ (t : List Event) (a l : ℕ) (more : Bool) where
   pub started_push : (b : ℕ) → Started new b → Started t b ⊎ (b ≡ a)
   started_push b h = ⊎_elim (λ k. inl (h.0, (h.1.0, k))) (λ e. inr (same_act b h.0 h.1.0 e)) (Contains-push_cases t (Start a l more) (Start b h.0 h.1.0) h.1.1)
 
-  ended_push : (b : ℕ) → Ended new b → Ended t b
+  pub ended_push : (b : ℕ) → Ended new b → Ended t b
   ended_push b h = ⊎_elim (λ k. k) (λ e. cc) (Contains-push_cases t (Start a l more) (End b) h)
 
   pub held_push : (x : ℕ) → x ≢ l → IsHeld new x ↔ IsHeld t x

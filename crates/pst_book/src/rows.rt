@@ -1,32 +1,30 @@
 //! Numbers of the actions that a square of bits pairs with one action.
 //!
 //! A row is looked at word by word, and a word without pairs is passed at once.
-ghost use Rattle.std.specs.Prelude.{◌≡◌, ◌≢◌, ◌↔◌, ◌+◌, ◌^◌, ◌%◌, ◌<◌, ◌≤◌, ℕ, length, get_or, IsTrue};
-ghost use Rattle.pst_scen.specs.Rows.{IsSquare, Has};
+ghost use Rattle.std.specs.Prelude.{◌≡◌, ◌≢◌, ◌↔◌, ◌+◌, ◌*◌, ◌/◌, ◌^◌, ◌%◌, ◌<◌, ◌≤◌, ℕ, length, get_or, IsBitSet, IsTrue};
+ghost use Rattle.pst_scen.specs.Rows.{IsSquare, Has, row_words};
 ghost use Rattle.pst_book.specs.Tables.{AreRaised, AreLowered};
-ghost use Rattle.pst_book.specs.Parts.{IsRaised, IsLowered, IsMarked, AreChanged};
+ghost use Rattle.pst_book.specs.Parts.{IsRaised, IsLowered, IsMarked, AreChanged, AreWordChanged};
 
 use pst_scen::Rows;
 
-/// The word of the row that begins with the given action.
-fn word_at(rows: &Rows, a: u32, first: u32) -> u64
+/// The word of that place in the row of an action.
+fn word_at(rows: &Rows, a: u32, place: usize) -> u64
     requires square { IsSquare rows.now }
     requires a_in { a < rows.now.size }
-    requires first_in { first < rows.now.size }
-    requires begins { first % 64 ≡ 0 }
-    ensures { (m : ℕ) → first ≤ m → m < first + 64 → IsMarked result first m ↔ Has rows.now a m }
+    requires place_in { place < row_words rows.now.size }
+    ensures { (m : ℕ) → m / 64 ≡ place → IsBitSet result (m % 64) ↔ Has rows.now a m }
 {
     let row = (rows.size as usize + 63) / 64;
-    rows.words.as_slice()[a as usize * row + first as usize / 64]
+    rows.words.as_slice()[a as usize * row + place]
 }
 
 /// The first action behind the word that begins with the given one.
 fn word_end(first: u32, size: u32) -> u32
-    requires first_in { first < size }
-    requires begins { first % 64 ≡ 0 }
+    requires { first < size }
     ensures inside { (first < result) × (result ≤ size) }
     ensures short { result ≤ first + 64 }
-    ensures begins { result < size → result % 64 ≡ 0 }
+    ensures all { (m : ℕ) → m < size → m < first + 64 → m < result }
 {
     if size - first > 64 { first + 64 } else { size }
 }
@@ -62,36 +60,40 @@ fn raise_part(counts: &mut [u32], word: u64, first: u32, end: u32)
     }
 }
 
-fn raise_word(counts: &mut [u32], rows: &Rows, a: u32, first: u32, end: u32)
-    requires square { IsSquare rows.now }
-    requires a_in { a < rows.now.size }
-    requires inside { (first < end) × (end ≤ rows.now.size) }
-    requires short { end ≤ first + 64 }
-    requires begins { first % 64 ≡ 0 }
-    requires many { length counts.old ≡ rows.now.size }
-    requires room { (m : ℕ) → first ≤ m → m < end → Has rows.now a m → get_or counts.old m 0 + 1 < 2 ^ 32 }
-    ensures { AreChanged (IsRaised (Has rows.now a)) counts.old counts.new first end }
+fn raise_bits(counts: &mut [u32], word: u64, place: usize, size: u32)
+    requires place_in { place * 64 < size }
+    requires many { length counts.old ≡ size }
+    requires room { (m : ℕ) → m < length counts.old → m / 64 ≡ place → IsBitSet word (m % 64) → get_or counts.old m 0 + 1 < 2 ^ 32 }
+    ensures { AreWordChanged (IsRaised (λ m. IsBitSet word (m % 64))) counts.old counts.new place }
 {
-    let word = word_at(rows, a, first);
+    let first = place as u32 * 64;
+    raise_part(counts, word, first, word_end(first, size));
+}
+
+fn raise_word(counts: &mut [u32], word: u64, place: usize, size: u32)
+    requires place_in { place * 64 < size }
+    requires many { length counts.old ≡ size }
+    requires room { (m : ℕ) → m < length counts.old → m / 64 ≡ place → IsBitSet word (m % 64) → get_or counts.old m 0 + 1 < 2 ^ 32 }
+    ensures { AreWordChanged (IsRaised (λ m. IsBitSet word (m % 64))) counts.old counts.new place }
+{
     if word == 0 {
         return;
     }
-    raise_part(counts, word, first, end);
+    raise_bits(counts, word, place, size);
 }
 
-/// Raises the number of each action with which the square pairs the given one.
-pub(crate) fn raise(counts: &mut [u32], rows: &Rows, a: u32)
+/// Raises the number of each action with which the square pairs the given one, in a table of
+/// numbers by actions.
+pub fn raise(counts: &mut [u32], rows: &Rows, a: u32)
     requires square { IsSquare rows.now }
     requires a_in { a < rows.now.size }
     requires many { length counts.old ≡ rows.now.size }
     requires room { (m : ℕ) → m < rows.now.size → Has rows.now a m → get_or counts.old m 0 + 1 < 2 ^ 32 }
     ensures { AreRaised rows.now a counts.old counts.new }
 {
-    let mut first = 0;
-    'words: while first < rows.size {
-        let end = word_end(first, rows.size);
-        raise_word(counts, rows, a, first, end);
-        first = end;
+    let words = (rows.size as usize + 63) / 64;
+    for place in 0..words {
+        raise_word(counts, word_at(rows, a, place), place, rows.size);
     }
 }
 
@@ -118,35 +120,39 @@ fn lower_part(counts: &mut [u32], word: u64, first: u32, end: u32)
     }
 }
 
-fn lower_word(counts: &mut [u32], rows: &Rows, a: u32, first: u32, end: u32)
-    requires square { IsSquare rows.now }
-    requires a_in { a < rows.now.size }
-    requires inside { (first < end) × (end ≤ rows.now.size) }
-    requires short { end ≤ first + 64 }
-    requires begins { first % 64 ≡ 0 }
-    requires many { length counts.old ≡ rows.now.size }
-    requires some { (m : ℕ) → first ≤ m → m < end → Has rows.now a m → 0 < get_or counts.old m 0 }
-    ensures { AreChanged (IsLowered (Has rows.now a)) counts.old counts.new first end }
+fn lower_bits(counts: &mut [u32], word: u64, place: usize, size: u32)
+    requires place_in { place * 64 < size }
+    requires many { length counts.old ≡ size }
+    requires some { (m : ℕ) → m < length counts.old → m / 64 ≡ place → IsBitSet word (m % 64) → 0 < get_or counts.old m 0 }
+    ensures { AreWordChanged (IsLowered (λ m. IsBitSet word (m % 64))) counts.old counts.new place }
 {
-    let word = word_at(rows, a, first);
+    let first = place as u32 * 64;
+    lower_part(counts, word, first, word_end(first, size));
+}
+
+fn lower_word(counts: &mut [u32], word: u64, place: usize, size: u32)
+    requires place_in { place * 64 < size }
+    requires many { length counts.old ≡ size }
+    requires some { (m : ℕ) → m < length counts.old → m / 64 ≡ place → IsBitSet word (m % 64) → 0 < get_or counts.old m 0 }
+    ensures { AreWordChanged (IsLowered (λ m. IsBitSet word (m % 64))) counts.old counts.new place }
+{
     if word == 0 {
         return;
     }
-    lower_part(counts, word, first, end);
+    lower_bits(counts, word, place, size);
 }
 
-/// Lowers the number of each action with which the square pairs the given one.
-pub(crate) fn lower(counts: &mut [u32], rows: &Rows, a: u32)
+/// Lowers the number of each action with which the square pairs the given one, in a table of
+/// numbers by actions.
+pub fn lower(counts: &mut [u32], rows: &Rows, a: u32)
     requires square { IsSquare rows.now }
     requires a_in { a < rows.now.size }
     requires many { length counts.old ≡ rows.now.size }
     requires some { (m : ℕ) → m < rows.now.size → Has rows.now a m → 0 < get_or counts.old m 0 }
     ensures { AreLowered rows.now a counts.old counts.new }
 {
-    let mut first = 0;
-    'words: while first < rows.size {
-        let end = word_end(first, rows.size);
-        lower_word(counts, rows, a, first, end);
-        first = end;
+    let words = (rows.size as usize + 63) / 64;
+    for place in 0..words {
+        lower_word(counts, word_at(rows, a, place), place, rows.size);
     }
 }

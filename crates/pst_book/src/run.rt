@@ -1,10 +1,11 @@
 //! A run: its trace, with tables that spare the reading of it.
-ghost use Rattle.std.specs.Prelude.{◌≡◌, ◌≢◌, ◌↔◌, ◌+◌, ◌*◌, ◌<◌, ◌≤◌, ◌++◌, ◌∷◌, [], ℕ, length, get_or, IsTrue, IfOk, MatchOption, vec_capacity, replicate, true, false};
+ghost use Rattle.std.specs.Prelude.{◌≡◌, ◌↔◌, ◌+◌, ◌*◌, ◌<◌, ◌≤◌, ◌++◌, ◌∷◌, [], ℕ, length, get_or, IsTrue, IfOk, MatchOption, vec_capacity, replicate, true, false};
 ghost use Rattle.pst_scen.specs.Trace.{StartsOn, Started, Ended, Runs, IsHeld};
 ghost use Rattle.pst_book.specs.Books.{MayJoin};
-ghost use Rattle.pst_book.specs.Tables.{IsNext, AreNext, AreAllAwaited, AreFreed};
+ghost use Rattle.pst_book.specs.Tables.{IsNext, AreNext, AreAllAwaited};
 
 use crate::rows::{lower, raise};
+use crate::tables::{count_awaited, fill_next, free};
 use pst_base::NoMemory;
 use pst_scen::{Event, Plan};
 use std::alloc::Global;
@@ -75,13 +76,7 @@ fn next_members(alloc: Global, plan: &Plan) -> Result<Vec<u32>, NoMemory>
     let count = plan.len();
     let mut next = numbers(alloc, count, count as usize)?;
     let mut seen = numbers(alloc, count, count as usize)?;
-    let mut left = count;
-    'acts: while left > 0 {
-        left -= 1;
-        let group = plan.group(left) as usize;
-        next[left as usize] = seen[group];
-        seen[group] = left;
-    }
+    fill_next(plan, &mut next, &mut seen);
     Ok(next)
 }
 
@@ -90,11 +85,8 @@ fn all_awaited(alloc: Global, plan: &Plan) -> Result<Vec<u32>, NoMemory>
     ensures { IfOk result (λ v. AreAllAwaited plan.now v.items) }
 {
     let count = plan.len();
-    let must = plan.must_rows();
     let mut awaited = numbers(alloc, 0, count as usize)?;
-    for act in 0..count {
-        raise(&mut awaited, must, act);
-    }
+    count_awaited(plan, &mut awaited);
     Ok(awaited)
 }
 
@@ -120,26 +112,6 @@ fn note(trace: &mut Vec<Event>, event: Event)
     ensures capacity { vec_capacity trace.old ≤ vec_capacity trace.new }
 {
     let _pushed = trace.push(event);
-}
-
-fn free_one(holders: &mut [Option<u32>], act: u32, lane: usize)
-    requires { lane < length holders.old }
-    ensures freed { get_or holders.old lane None ≡ Some act → get_or holders.new lane None ≡ None }
-    ensures same { get_or holders.old lane None ≢ Some act → get_or holders.new lane None ≡ get_or holders.old lane None }
-    ensures others { (l : ℕ) → l ≢ lane → get_or holders.new l None ≡ get_or holders.old l None }
-{
-    if holders[lane] == Some(act) {
-        holders[lane] = None;
-    }
-}
-
-/// Frees the lanes that the action holds.
-fn free(holders: &mut [Option<u32>], act: u32)
-    ensures { AreFreed act holders.old holders.new }
-{
-    for lane in 0..holders.len() {
-        free_one(holders, act, lane);
-    }
 }
 
 impl<'a> Run<'a> {

@@ -5,7 +5,7 @@ use Rattle.pst_scen.specs.declared.event.Event.{Event}
 use Rattle.pst_scen.specs.declared.event.Event.TheVariants.{Start, End}
 use Rattle.pst_scen.specs.Trace.{Block, Starts, Ends, starts_of, events, AreLegal}
 use Rattle.pst_order.specs.Rule.{AreByRule}
-use Rattle.pst_check.specs.Blocks.{AreBlocks}
+use Rattle.pst_by_rule.specs.Blocks.{AreBlocks}
 
 -- the blocks of events behind some blocks, where a block has begun with some members on some lanes
 abbrev cut : List Block → List ℕ → List ℕ → List Event → List Block

@@ -1,22 +1,25 @@
 -- Judging block after block.
-use Rattle.std.proofs.Common.{◌≡◌, ◌≤◌, ◌<◌, ◌+◌, ◌-◌, ◌^◌, ℕ, zero, suc, List, [], ◌∷◌, ◌++◌, Bool, length, take, drop, refl, sym, ap, ◌∙◌, subst, arith, append_assoc, append-nil, length-append}
+use Rattle.std.proofs.Common.{◌≡◌, ◌≤◌, ◌<◌, ◌+◌, ◌-◌, ◌^◌, ℕ, zero, suc, List, [], ◌∷◌, ◌++◌, Bool, length, take, drop, refl, sym, ap, ◌∙◌, subst, arith, append_assoc, length-append}
 use Rattle.std.proofs.lemmas.List.{drop-drop, length-drop}
 use Rattle.pst_scen.specs.declared.scenario.Scenario.{Scenario}
 use Rattle.pst_scen.specs.declared.event.Event.{Event}
-use Rattle.pst_scen.specs.Trace.{Block, Ended, events_of, events, AreLegal, IsWhole}
-use Rattle.pst_scen.specs.Judging.{BreaksLeast, AreWholeBlocks}
+use Rattle.pst_scen.specs.Trace.{Block, Starts, Ends, Ended, events_of, events}
+use Rattle.pst_scen.specs.Judging.{BreaksLeast}
 use Rattle.pst_scen.specs.Laws.{PrefixesAreLegal}
-use Rattle.pst_scen.specs.Plan.{Entries}
+use Rattle.pst_scen.specs.Plan.{Entries, widest}
 use Rattle.pst_scen.specs.Plans.{IsPlanOf}
 use Rattle.pst_order.specs.Facts.{LinksStates}
-use Rattle.pst_order.specs.Laws.{PrefixIsByRule, RuleFits}
-use Rattle.pst_check.specs.Blocks.{block_of, onward, AreBlocks, AreOnward, IsFirstBlock}
+use Rattle.pst_order.specs.Rule.{AreByRule}
+use Rattle.pst_order.specs.Laws.{PrefixIsByRule, RuleIsPrefix, RuleFits}
+use Rattle.pst_by_rule.specs.Followed.{AreFollowed}
+use Rattle.pst_by_rule.specs.Blocks.{block_of, onward, AreBlocks, AreOnward, IsFirstBlock}
 use Rattle.pst_check.specs.Marks.{AreMarks}
 use Rattle.pst_check.specs.declared.verdict.Verdict.{Verdict}
 use Rattle.pst_check.specs.declared.verdict.Verdict.TheVariants as verdict
 use Rattle.pst_check.specs.Verdicts.{IsBegun, IsLegal, IsFirstIllegal, IsUnbroken, IsVerdict, IsCompleted}
 use Rattle.pst_check.specs.Laws.{UnbrokenIsBegun}
-use Rattle.pst_check.proofs.Onward.{take_on, some_events, whole_onward}
+use Rattle.pst_by_rule.proofs.Onward.{take_on, some_events}
+use Rattle.pst_check.proofs.Cutting.{rule_blocks}
 
 -- the first so many events are so many blocks that begin a whole legal trace, and the others are blocks
 pub record IsJudged (s : Scenario) (es : List Event) (first block : ℕ) : Type 0 where
@@ -39,32 +42,31 @@ take_past zero (x ∷ xs) l = absurd (omega (arith, l))
 take_past (suc n) [] l = refl
 take_past (suc n) (x ∷ xs) l = ap (λ ys. x ∷ ys) (take_past n xs (omega (arith, l)))
 
--- the empty trace begins a whole legal one
-pub begun_empty : (s : Scenario) (p : Entries) → IsPlanOf s p → IsBegun s []
-begun_empty s p plan =
-    let c = plan.runs in
-    let nil = append-nil c.legal.blocks in
-    record {
-      lanes = c.lanes;
-      prefix = record {
-        blocks = [];
-        more = c.legal.blocks;
-        are = refl;
-        legal = subst (λ h. AreLegal s c.lanes h) (sym nil) c.legal.legal;
-        whole = subst (λ h. IsWhole s (events h)) (sym nil) (subst (λ t. IsWhole s t) (sym c.legal.are) c.whole);
-      };
-    }
+-- what keeps the core's rule on some lanes keeps it on more
+wider : (s : Scenario) (lanes more : ℕ) (h : List Block) → lanes ≤ more → AreByRule s lanes h → AreByRule s more h
+wider s lanes more [] l k = tt
+wider s lanes more (Starts ms us ∷ h) l k = (
+  wider s lanes more h l k.0,
+  (k.1.0, record { many = k.1.1.many; different = k.1.1.different; below = λ x c. let b = k.1.1.below x c in omega (arith, b, l); idle = k.1.1.idle }),
+)
+wider s lanes more (Ends a ∷ h) l k = (wider s lanes more h l k.0, k.1)
 
-pub judged_first : (s : Scenario) (p : Entries) (es : List Event) → IsPlanOf s p → AreWholeBlocks es → IsJudged s es 0 0
-judged_first s p es plan whole = record {
-  older = [];
-  are = refl;
-  blocks = tt;
-  many = refl;
-  begun = begun_empty s p plan;
-  inside = omega arith;
-  rest = whole_onward es whole;
-}
+-- the blocks that were followed are judged
+pub judged_first : (s : Scenario) (p : Entries) (es : List Event) (first block : ℕ) → RuleIsPrefix → LinksStates s → IsPlanOf s p → AreFollowed s es first block → IsJudged s es first block
+judged_first s p es first block prefix links plan f =
+    let lanes : ℕ = 16 + widest p.groups in
+    record {
+      older = f.older;
+      are = f.are;
+      blocks = rule_blocks s 16 f.older f.rule;
+      many = f.many;
+      begun = record {
+        lanes = lanes;
+        prefix = prefix s p lanes (events f.older) links plan (omega arith) (record { blocks = f.older; are = refl; rule = wider s 16 lanes f.older (omega arith) f.rule });
+      };
+      inside = f.inside;
+      rest = f.rest;
+    }
 
 module _ (s : Scenario) (es : List Event) (first block count : ℕ) (j : IsJudged s es first block) (f : IsFirstBlock (drop first es) count) where
   abbrev part : List Event

@@ -8,7 +8,7 @@ use Rattle.pst_scen.specs.Plan.{Entries, members}
 use Rattle.pst_scen.specs.Plans.{IsPlanOf}
 use Rattle.pst_order.specs.Laws.{MembersAreThose, PlanGroupsAreWhole, WholeGroupsAreOne}
 use Rattle.pst_scen.specs.declared.event.Event.{Event}
-use Rattle.pst_check.specs.Blocks.{act_of}
+use Rattle.pst_by_rule.specs.Blocks.{act_of}
 use Rattle.pst_check.specs.Tests.{AreGroup}
 use Rattle.pst_check.proofs.Elements.{cons_first, same_or}
 

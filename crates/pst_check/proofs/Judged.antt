@@ -10,7 +10,7 @@ use Rattle.pst_scen.specs.Plans.{IsPlanOf}
 use Rattle.pst_order.specs.Facts.{LinksStates}
 use Rattle.pst_order.specs.Rule.{KeepsReaders, AllKeepReaders}
 use Rattle.pst_order.specs.Laws.{MembersAreThose, PlanGroupsAreWhole, WholeGroupsAreOne, PrefixIsByRule, RuleKeepsReaders, KeptIsPrefix}
-use Rattle.pst_check.specs.Blocks.{AreBlocks}
+use Rattle.pst_by_rule.specs.Blocks.{AreBlocks}
 use Rattle.pst_check.specs.Verdicts.{IsBegun}
 use Rattle.pst_check.proofs.Elements.{above, below_above}
 use Rattle.pst_check.proofs.Decided.{ended_or, runs_or, names_or, unrefused}

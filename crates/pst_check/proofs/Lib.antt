@@ -3,7 +3,6 @@ pub mod Decided
 pub mod Cutting
 pub mod Grouped
 pub mod Judged
-pub mod Onward
 pub mod Places
 pub mod Meanings
 pub mod Going

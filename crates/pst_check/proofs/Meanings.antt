@@ -18,7 +18,7 @@ use Rattle.pst_scen.specs.Plan.{Entries}
 use Rattle.pst_scen.specs.Plans.{AreEntriesOf, IsPlanOf}
 use Rattle.pst_scen.specs.Laws.{IsPreorder, HasOneLeafEach, BeforeIsNeverItself}
 use Rattle.pst_order.specs.Laws.{MustIsInside}
-use Rattle.pst_check.specs.Blocks.{act_of, lane_of, starts_in}
+use Rattle.pst_by_rule.specs.Blocks.{act_of, lane_of, starts_in}
 use Rattle.pst_check.specs.Tests.{AtSome, NamesTwice, AreInside, HasStatementOpen, HasProducerOpen, HasOtherWriter, HasInTheWay, HasReference, HasReaderOpen}
 use Rattle.pst_check.specs.Verdicts.{IsFreeBelow, IsUnbroken}
 use Rattle.pst_check.proofs.Places.{mapped, unmapped, mapped_at, at_mapped}

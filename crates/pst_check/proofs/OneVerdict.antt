@@ -5,7 +5,7 @@ use Rattle.pst_scen.specs.declared.event.Event.{Event}
 use Rattle.pst_scen.specs.Trace.{Block, events_of, events, AreLegal, IsWhole}
 use Rattle.pst_scen.specs.Judging.{BreaksLeast}
 use Rattle.pst_scen.specs.Laws.{WholeTracesArePrefixes}
-use Rattle.pst_check.specs.Blocks.{onward, AreBlocks}
+use Rattle.pst_by_rule.specs.Blocks.{onward, AreBlocks}
 use Rattle.pst_check.specs.declared.verdict.Verdict.{Verdict}
 use Rattle.pst_check.specs.declared.verdict.Verdict.TheVariants as verdict
 use Rattle.pst_check.specs.Verdicts.{IsBegun, IsLegal, IsFirstIllegal, IsVerdict}

@@ -4,7 +4,7 @@ use Rattle.std.specs.Prelude.{Contains}
 use Rattle.std.proofs.lemmas.Bool.{cases_lt}
 use Rattle.std.proofs.lemmas.Option.{same_Some, slice_get-get_or}
 use Rattle.pst_scen.specs.declared.event.Event.{Event}
-use Rattle.pst_check.specs.Blocks.{act_of}
+use Rattle.pst_by_rule.specs.Blocks.{act_of}
 use Rattle.pst_check.specs.Tests.{AtSome}
 use Rattle.pst_check.proofs.Elements.{none_in, cons_cases, cons_first, cons_rest}
 

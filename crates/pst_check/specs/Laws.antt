@@ -7,7 +7,7 @@ use Rattle.pst_scen.specs.Judging.{Breaks, IsBlock}
 use Rattle.pst_scen.specs.Plan.{Entries}
 use Rattle.pst_scen.specs.Plans.{IsPlanOf}
 use Rattle.pst_order.specs.Facts.{LinksStates}
-use Rattle.pst_check.specs.Blocks.{AreBlocks}
+use Rattle.pst_by_rule.specs.Blocks.{AreBlocks}
 use Rattle.pst_check.specs.declared.verdict.Verdict.{Verdict}
 use Rattle.pst_check.specs.Verdicts.{IsBegun, IsVerdict}
 

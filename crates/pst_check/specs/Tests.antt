@@ -12,7 +12,7 @@ use Rattle.pst_scen.specs.Order.{Before}
 use Rattle.pst_scen.specs.Trace.{Ended, Runs, Names, last_writer}
 use Rattle.pst_scen.specs.Rows.{Has}
 use Rattle.pst_scen.specs.Plan.{Entries, members}
-use Rattle.pst_check.specs.Blocks.{act_of, lane_of}
+use Rattle.pst_by_rule.specs.Blocks.{act_of, lane_of}
 
 -- an element of the list has the property
 pub record AtSome {X : Type 0} (xs : List X) (P : X → Type 0) : Type 0 where

@@ -4,7 +4,7 @@ use Rattle.pst_scen.specs.declared.scenario.Scenario.{Scenario}
 use Rattle.pst_scen.specs.declared.event.Event.{Event}
 use Rattle.pst_scen.specs.Trace.{Block, Ended, events, IsLegalTrace, IsWhole, Prefix}
 use Rattle.pst_scen.specs.Judging.{Breaks, BreaksLeast}
-use Rattle.pst_check.specs.Blocks.{onward, AreBlocks}
+use Rattle.pst_by_rule.specs.Blocks.{onward, AreBlocks}
 use Rattle.pst_check.specs.declared.verdict.Verdict.{Verdict}
 use Rattle.pst_check.specs.declared.verdict.Verdict.TheVariants as verdict
 

@@ -1,20 +1,21 @@
 //! Judges traces.
-ghost use Rattle.std.specs.Prelude.{◌≡◌, ◌<◌, ◌^◌, ◌↔◌, [], length, ℕ, IsTrue};
+ghost use Rattle.std.specs.Prelude.{◌≡◌, ◌<◌, ◌^◌, ◌↔◌, length, take, ℕ, IsTrue};
 ghost use Rattle.pst_scen.specs.Laws.{IsPreorder, HasOneLeafEach};
 ghost use Rattle.pst_scen.specs.Plans.{IsPlanOf};
 ghost use Rattle.pst_scen.specs.Trace.{IsWhole, Ended};
 ghost use Rattle.pst_scen.specs.Judging.{AreWholeBlocks};
 ghost use Rattle.pst_order.specs.Facts.{LinksStates};
+ghost use Rattle.pst_by_rule.specs.Followed.{AreFollowed};
 ghost use Rattle.pst_check.specs.Marks.{AreMarks};
 ghost use Rattle.pst_check.specs.Verdicts.{IsVerdict, IsCompleted};
 
-use crate::blocks::{behind, first_block, front};
 use crate::judge::broken;
 use crate::laws::unbroken_is_begun;
 use crate::marks::{note, unmarked};
 use crate::past::{Past, has_ended};
 use crate::verdict::Verdict;
-use pst_order::{prefix_is_by_rule, rule_fits};
+use pst_by_rule::{Followed, behind, first_block, follow, front};
+use pst_order::{prefix_is_by_rule, rule_fits, rule_is_prefix};
 use pst_scen::{Event, Plan, Scenario, prefixes_are_legal};
 
 /// Whether each of so many actions has ended.
@@ -40,11 +41,12 @@ fn completed(plan: &Plan, past: &Past<'_>) -> Verdict
     }
 }
 
-/// Judges a trace with the help of marks, none of which is set.
+/// Judges the blocks of a trace behind those that were followed, of which the marks tell.
 fn check_marked(
     scenario: &Scenario,
     plan: &Plan,
     events: &[Event],
+    followed: Followed,
     started: &mut [bool],
     ended: &mut [bool],
 ) -> Verdict
@@ -53,16 +55,17 @@ fn check_marked(
     requires preorder { IsPreorder scenario.now.nodes }
     requires one_leaf { HasOneLeafEach scenario.now.nodes }
     requires small { length scenario.now.actions < 2 ^ 31 }
-    requires blocks { AreWholeBlocks events.now }
-    requires marks { AreMarks [] started.old ended.old }
+    requires followed { AreFollowed scenario.now events.now followed.events followed.blocks }
+    requires marks { AreMarks (take followed.events events.now) started.old ended.old }
     ensures { IsVerdict scenario.now events.now result }
 {
     unbroken_is_begun();
     prefixes_are_legal();
     prefix_is_by_rule();
     rule_fits();
-    let mut first = 0;
-    let mut block = 0;
+    rule_is_prefix();
+    let mut first = followed.events;
+    let mut block = followed.blocks as u32;
     'judged: while first < events.len() {
         let rest = behind(events, first);
         let count = first_block(rest);
@@ -81,7 +84,8 @@ fn check_marked(
 }
 
 /// Judges a trace, on any number of lanes. The events are whole blocks, and the plan is the
-/// scenario's. It takes no memory.
+/// scenario's. It takes no memory. The first blocks that keep the core's rule are followed with counts;
+/// those behind them are judged one by one.
 pub fn check(scenario: &Scenario, plan: &Plan, events: &[Event]) -> Verdict
     requires links { LinksStates scenario.now }
     requires planned { IsPlanOf scenario.now plan.now }
@@ -93,5 +97,7 @@ pub fn check(scenario: &Scenario, plan: &Plan, events: &[Event]) -> Verdict
 {
     let mut started = unmarked();
     let mut ended = unmarked();
-    check_marked(scenario, plan, events, &mut started, &mut ended)
+    let followed = follow(plan, events);
+    note(&mut started, &mut ended, front(events, followed.events));
+    check_marked(scenario, plan, events, followed, &mut started, &mut ended)
 }

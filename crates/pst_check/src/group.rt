@@ -1,10 +1,10 @@
 //! Whether the starts of a block are those of one whole group.
 ghost use Rattle.std.specs.Prelude.{◌≡◌, ◌<◌, ◌↔◌, length, get_or, map, IsTrue};
 ghost use Rattle.pst_scen.specs.Plan.{members};
-ghost use Rattle.pst_check.specs.Blocks.{act_of};
+ghost use Rattle.pst_by_rule.specs.Blocks.{act_of};
 ghost use Rattle.pst_check.specs.Tests.{AreGroup, IsActAt};
 
-use crate::blocks::act_of;
+use pst_by_rule::act_of;
 use pst_scen::{Event, Plan};
 
 /// Whether the event of that place is there, and is of the action.

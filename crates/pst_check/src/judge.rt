@@ -4,7 +4,7 @@ ghost use Rattle.pst_scen.specs.Laws.{IsPreorder, HasOneLeafEach};
 ghost use Rattle.pst_scen.specs.Plans.{IsPlanOf};
 ghost use Rattle.pst_scen.specs.Trace.{Ends};
 ghost use Rattle.pst_scen.specs.Judging.{Breaks, BreaksLeast};
-ghost use Rattle.pst_check.specs.Blocks.{starts_in, block_of};
+ghost use Rattle.pst_by_rule.specs.Blocks.{starts_in, block_of};
 ghost use Rattle.pst_check.specs.Tests.{AreInside};
 ghost use Rattle.pst_check.specs.Verdicts.{IsFreeBelow, IsUnbroken};
 

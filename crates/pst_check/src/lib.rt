@@ -1,7 +1,6 @@
 //! Judges a foreign trace of a scenario: whether it is legal, and else which block breaks which rule.
 #![tactic(auto)]
 
-mod blocks;
 mod checking;
 mod group;
 mod judge;

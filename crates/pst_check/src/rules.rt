@@ -4,14 +4,14 @@ ghost use Rattle.pst_scen.specs.Laws.{IsPreorder, HasOneLeafEach};
 ghost use Rattle.pst_scen.specs.Plans.{IsPlanOf};
 ghost use Rattle.pst_scen.specs.Trace.{Started, IsHeld};
 ghost use Rattle.pst_scen.specs.Rows.{Has};
-ghost use Rattle.pst_check.specs.Blocks.{act_of, lane_of};
+ghost use Rattle.pst_by_rule.specs.Blocks.{act_of, lane_of};
 ghost use Rattle.pst_check.specs.Tests.{AtSome, AreInside, NamesBefore, NamesTwice, HasStatementOpen, HasProducerOpen, HasOtherWriter, HasInTheWay, HasReference, HasReaderOpen};
 
-use crate::blocks::{act_of, lane_of};
 use crate::past::{Past, has_started, is_held};
 use crate::starts::{
     has_in_the_way, has_other_writer, has_producer_open, has_reader_open, has_statement_open,
 };
+use pst_by_rule::{act_of, lane_of};
 use pst_scen::{Event, Plan, Scenario};
 
 /// Whether an action of the block has started before.

@@ -1,14 +1,7 @@
-use Rattle.std.proofs.Common.{◌≡◌, ◌-◌, ◌%◌, ◌<◌, ◌≤◌}
 use Rattle.pst_scen.specs.Rows.{Has}
-use Rattle.pst_book.specs.Parts.{IsLowered, AreChanged}
+use Rattle.pst_book.specs.Parts.{IsLowered}
+use Rattle.pst_book.proofs.Parting.{AreWordsChanged}
 use Rattle.pst_book.proofs.rows.lower.Given as goal
 
-abbrev pub decreases-words : goal.decreases-words
-decreases-words l = l.rows.size - l.first
-
-abbrev pub invariant-words : goal.invariant-words
-invariant-words l = record {
-  inside : l.first ≤ l.rows.size;
-  begins : l.first < l.rows.size → l.first % 64 ≡ 0;
-  changed : AreChanged (IsLowered (Has l.rows l.a)) l.fn.counts l.counts 0 l.first;
-}
+abbrev pub invariant-loop-place : goal.invariant-loop-place
+invariant-loop-place l = AreWordsChanged (IsLowered (Has l.rows l.a)) l.fn.counts l.counts l.place

@@ -1,51 +1,23 @@
-use Rattle.std.proofs.Common.{◌≡◌, ◌+◌, ◌<◌, ◌∙◌, ℕ, List, length, get_or, replicate, subst, sym, ap, arith}
+use Rattle.std.proofs.Common.{◌≡◌, ◌∙◌, ℕ, List, length, get_or, subst, sym, ap, arith}
 use Rattle.std.proofs.lemmas.List.{get_or-replicate, length-replicate}
-use Rattle.pst_scen.specs.declared.rows.Rows.{Rows}
-use Rattle.pst_scen.specs.Rows.{Has}
-use Rattle.pst_book.specs.Tables.{AreSoManyOf, AreRaised}
-use Rattle.pst_book.proofs.Numbers.{the_same}
+use Rattle.pst_book.specs.Tables.{AreAllAwaited}
 use Rattle.pst_book.proofs.Ties.{put_back}
-use Rattle.pst_book.proofs.Founding.{none_raised, raised_more, raised_room}
 use Rattle.pst_book.proofs.run.all_awaited.Goals as goal
 
-pub loop-act-init : goal.loop-act-init
-loop-act-init c =
+pub count_awaited-requires-clause-many : goal.count_awaited-requires-clause-many
+count_awaited-requires-clause-many c =
     let n = c.len-count.ensures.is in
-    let items : c.in_ok-awaited.awaited.items ≡ replicate c.len-count.result 0 = c.in_ok-awaited.ensures in
-    record {
-      many = ap (λ (xs : List ℕ). length xs) items ∙ length-replicate c.len-count.result 0 ∙ n;
-      each = λ m l. subst (λ k. AreSoManyOf (λ b. (b < 0) × Has c.args.plan.now.must b m) k)
-          (sym (ap (λ (xs : List ℕ). get_or xs m 0) items ∙ get_or-replicate c.len-count.result m 0 0 (omega (arith, l, n)))) (none_raised c.args.plan.now.must m);
-    }
+    ap (λ (xs : List ℕ). length xs) (c.deref_mut.ensures.value ∙ c.in_ok-awaited.ensures) ∙ length-replicate c.len-count.result 0 ∙ n
 
-pub raise-requires-clause-room : goal.raise-requires-clause-room
-raise-requires-clause-room c =
-    let size = c.must_rows-must.ensures.size in
-    let t = c.loop-act-test.true in
-    let fits = c.len-count.type_inv in
-    subst (λ (xs : List ℕ). (m : ℕ) → m < c.must_rows-must.result.now.size → Has c.must_rows-must.result.now c.loop-act.act m → get_or xs m 0 + 1 < 4294967296) (sym c.deref_mut.ensures.value)
-    (λ m l h. let k = raised_room c.args.plan.now.must c.loop-act.act m (get_or c.loop-act.awaited.items m 0) (c.loop-act.invariant.each m (omega (arith, l, size))) in omega (arith, k, t, fits))
-
-pub loop-act-preserved : goal.loop-act-preserved
-loop-act-preserved c =
-    let old = c.loop-act.awaited.items in
-    let i = c.loop-act.invariant in
-    let raised : AreRaised c.args.plan.now.must c.loop-act.act old c.raise.new.counts =
-    subst (λ (rows : Rows). AreRaised rows c.loop-act.act old c.raise.new.counts) c.must_rows-must.ensures.is
-    (subst (λ (xs : List ℕ). AreRaised c.must_rows-must.result.now c.loop-act.act xs c.raise.new.counts) c.deref_mut.ensures.value c.raise.ensures) in
-    let back = put_back c.loop-act.awaited.len c.raise.new.counts old raised.many c.loop-act.awaited.ok.0 in
-    record {
-      many = ap (λ (xs : List ℕ). length xs) back ∙ raised.many ∙ i.many;
-      each = λ m l. subst (λ (xs : List ℕ). AreSoManyOf (λ b. (b < c.loop-act.act + 1) × Has c.args.plan.now.must b m) (get_or xs m 0)) (sym back)
-          (raised_more c.args.plan.now.must (length c.args.plan.now.groups) c.loop-act.act old c.raise.new.counts i.many raised i.each m l);
-    }
+pub count_awaited-requires-clause-none : goal.count_awaited-requires-clause-none
+count_awaited-requires-clause-none c =
+    λ a l. let n = c.len-count.ensures.is in
+    ap (λ (xs : List ℕ). get_or xs a 0) (c.deref_mut.ensures.value ∙ c.in_ok-awaited.ensures) ∙ get_or-replicate c.len-count.result a 0 0 (omega (arith, l, n))
 
 pub returns : goal.returns
 returns c =
-    let p = c.loop-act-test.false in
-    let a = c.loop-act.auto.act-end in
     let n = c.len-count.ensures.is in
-    record {
-      many = c.loop-act.invariant.many;
-      each = λ m l. the_same (λ b q. let x = q.0 in (omega (arith, x, a, n), q.1)) (λ b q. let x = q.0 in (omega (arith, x, p, n), q.1)) (c.loop-act.invariant.each m l);
-    }
+    let old : length c.in_ok-awaited.awaited.items ≡ length c.args.plan.now.groups = ap (λ (xs : List ℕ). length xs) c.in_ok-awaited.ensures ∙ length-replicate c.len-count.result 0 ∙ n in
+    subst (λ (xs : List ℕ). AreAllAwaited c.args.plan.now xs)
+    (sym (put_back c.in_ok-awaited.awaited.len c.count_awaited.new.awaited c.in_ok-awaited.awaited.items (c.count_awaited.ensures.many ∙ sym old) c.in_ok-awaited.awaited.ok.0))
+    c.count_awaited.ensures

@@ -1,58 +1,28 @@
-use Rattle.std.proofs.Common.{◌≡◌, ◌+◌, ◌-◌, ◌<◌, ◌∙◌, ℕ, List, length, get_or, replicate, slice_set, subst, sym, ap, ⊎_elim, arith}
-use Rattle.std.proofs.lemmas.Bool.{cases_eq}
-use Rattle.std.proofs.lemmas.List.{get_or-replicate, length-replicate, length-set, get_or-set_same, get_or-set_other}
-use Rattle.pst_book.specs.Tables.{IsNext}
-use Rattle.pst_book.proofs.Founding.{IsSeen, seen_next, seen_here, seen_other}
-use Rattle.pst_book.proofs.Ties.{read}
+use Rattle.std.proofs.Common.{◌≡◌, ◌∙◌, ℕ, List, length, get_or, subst, sym, ap, arith}
+use Rattle.std.proofs.lemmas.List.{get_or-replicate, length-replicate}
+use Rattle.pst_book.specs.Tables.{AreNext}
+use Rattle.pst_book.proofs.Ties.{put_back}
 use Rattle.pst_book.proofs.run.next_members.Goals as goal
 
-pub acts-init : goal.acts-init
-acts-init c =
+pub fill_next-requires-clause-many_next : goal.fill_next-requires-clause-many_next
+fill_next-requires-clause-many_next c =
     let n = c.len-count.ensures.is in
-    let next : c.in_ok-next.next.items ≡ replicate c.len-count.result c.len-count.result = c.in_ok-next.ensures in
-    let seen : c.in_ok-seen.seen.items ≡ replicate c.len-count.result c.len-count.result = c.in_ok-seen.ensures in
-    record {
-      below = omega (arith, n);
-      many_next = ap (λ (xs : List ℕ). length xs) next ∙ length-replicate c.len-count.result c.len-count.result ∙ n;
-      many_seen = ap (λ (xs : List ℕ). length xs) seen ∙ length-replicate c.len-count.result c.len-count.result ∙ n;
-      next_is = λ a l m. absurd (omega (arith, l, m, n));
-      seen_is = λ g l. subst (λ v. IsSeen c.args.plan.now.groups c.len-count.result g v)
-          (sym (ap (λ (xs : List ℕ). get_or xs g 0) seen ∙ get_or-replicate c.len-count.result g c.len-count.result 0 (omega (arith, l, n))))
-          (record { behind = omega arith; inside = omega (arith, n); none_before = λ b x y e. omega (arith, x, y); same = λ m. absurd (omega (arith, m, n)) });
-    }
+    ap (λ (xs : List ℕ). length xs) (c.deref_mut.ensures.value ∙ c.in_ok-next.ensures) ∙ length-replicate c.len-count.result c.len-count.result ∙ n
 
-pub acts-preserved : goal.acts-preserved
-acts-preserved c =
-    let groups = c.args.plan.now.groups in
-    let v = c.acts.invariant in
-    let i = c.acts.left - 1 in
-    let x = c.index.result.now in
-    let some = c.acts-test.true in
-    let e : c.acts.left ≡ i + 1 = omega (arith, some) in
-    let l : i < length groups = let b = v.below in omega (arith, b, some) in
-    let g : c.group-group.result ≡ get_or groups i 0 = c.group-group.ensures.is in
-    let g_in : c.group-group.result < length groups = let k = c.group-group.ensures.least in omega (arith, k, l) in
-    let at : get_or c.acts.seen.items c.group-group.result 0 ≡ x = read c.acts.seen.items c.group-group.result x 0 (omega (arith, g_in, v.many_seen)) c.index.ensures in
-    let before : IsSeen groups (i + 1) (get_or groups i 0) x =
-    subst (λ (k : ℕ). IsSeen groups k (get_or groups i 0) x) e
-    (subst (λ (h : ℕ). IsSeen groups c.acts.left h x) g (subst (λ (y : ℕ). IsSeen groups c.acts.left c.group-group.result y) at (v.seen_is c.group-group.result g_in))) in
-    record {
-      below = omega (arith, l);
-      many_next = length-set c.acts.next.items i x ∙ v.many_next;
-      many_seen = length-set c.acts.seen.items c.group-group.result i ∙ v.many_seen;
-      next_is = λ a lo m. ⊎_elim
-          (λ q. subst (λ (k : ℕ). IsNext groups k (get_or (slice_set c.acts.next.items i x) k 0)) (sym q)
-          (subst (λ (y : ℕ). IsNext groups i y) (sym (get_or-set_same c.acts.next.items i x 0 (omega (arith, l, v.many_next)))) (seen_next groups i l x before)))
-          (λ q. subst (λ (y : ℕ). IsNext groups a y) (sym (get_or-set_other c.acts.next.items i a x 0 q)) (v.next_is a (omega (arith, lo, q, e)) m))
-          (cases_eq a i);
-      seen_is = λ h m. ⊎_elim
-          (λ q. subst (λ (k : ℕ). IsSeen groups i k (get_or (slice_set c.acts.seen.items c.group-group.result i) k 0)) (sym q)
-          (subst (λ (y : ℕ). IsSeen groups i c.group-group.result y) (sym (get_or-set_same c.acts.seen.items c.group-group.result i 0 (omega (arith, g_in, v.many_seen))))
-          (subst (λ (k : ℕ). IsSeen groups i k i) (sym g) (seen_here groups i l))))
-          (λ q. subst (λ (y : ℕ). IsSeen groups i h y) (sym (get_or-set_other c.acts.seen.items c.group-group.result h i 0 q))
-          (seen_other groups i l h (get_or c.acts.seen.items h 0) (λ r. q (r ∙ sym g)) (subst (λ (k : ℕ). IsSeen groups k h (get_or c.acts.seen.items h 0)) e (v.seen_is h m))))
-          (cases_eq h c.group-group.result);
-    }
+pub fill_next-requires-clause-many_seen : goal.fill_next-requires-clause-many_seen
+fill_next-requires-clause-many_seen c =
+    let n = c.len-count.ensures.is in
+    ap (λ (xs : List ℕ). length xs) (c.deref_mut-2.ensures.value ∙ c.in_ok-seen.ensures) ∙ length-replicate c.len-count.result c.len-count.result ∙ n
+
+pub fill_next-requires-clause-none_seen : goal.fill_next-requires-clause-none_seen
+fill_next-requires-clause-none_seen c =
+    λ g l. let n = c.len-count.ensures.is in
+    ap (λ (xs : List ℕ). get_or xs g 0) (c.deref_mut-2.ensures.value ∙ c.in_ok-seen.ensures) ∙ get_or-replicate c.len-count.result g c.len-count.result 0 (omega (arith, l, n)) ∙ n
 
 pub returns : goal.returns
-returns c = record { many = c.acts.invariant.many_next; each = λ a l. c.acts.invariant.next_is a (let z = c.acts-test.false in omega (arith, z)) l }
+returns c =
+    let n = c.len-count.ensures.is in
+    let old : length c.in_ok-next.next.items ≡ length c.args.plan.now.groups = ap (λ (xs : List ℕ). length xs) c.in_ok-next.ensures ∙ length-replicate c.len-count.result c.len-count.result ∙ n in
+    subst (λ (xs : List ℕ). AreNext c.args.plan.now.groups xs)
+    (sym (put_back c.in_ok-next.next.len c.fill_next.new.next c.in_ok-next.next.items (c.fill_next.ensures.many ∙ sym old) c.in_ok-next.next.ok.0))
+    c.fill_next.ensures

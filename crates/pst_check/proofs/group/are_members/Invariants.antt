@@ -1,7 +1,7 @@
 use Rattle.std.proofs.Common.{◌≡◌, ◌≤◌, length, map, drop}
 use Rattle.std.specs.Prelude.{◌↔◌}
 use Rattle.pst_scen.specs.Plan.{members, places_from}
-use Rattle.pst_check.specs.Blocks.{act_of}
+use Rattle.pst_by_rule.specs.Blocks.{act_of}
 use Rattle.pst_check.proofs.group.are_members.Given as goal
 
 abbrev pub invariant-loop-a : goal.invariant-loop-a

@@ -1,6 +1,6 @@
 use Rattle.std.proofs.Common.{map}
 use Rattle.pst_scen.specs.Judging.{Breaks, NoGroup}
-use Rattle.pst_check.specs.Blocks.{act_of, lane_of, starts_in}
+use Rattle.pst_by_rule.specs.Blocks.{act_of, lane_of, starts_in}
 use Rattle.pst_check.specs.Tests.{AreGroup}
 use Rattle.pst_check.proofs.Places.{not_test}
 use Rattle.pst_check.proofs.Grouped.{grouped}

@@ -3,7 +3,7 @@ use Rattle.std.specs.Prelude.{MatchOption}
 use Rattle.pst_scen.specs.Trace.{Block}
 use Rattle.pst_scen.specs.Judging.{BreaksLeast}
 use Rattle.pst_check.specs.Verdicts.{IsUnbroken}
-use Rattle.pst_check.proofs.Onward.{block_starts}
+use Rattle.pst_by_rule.proofs.Onward.{block_starts}
 use Rattle.pst_check.proofs.judge.broken.Goals as goal
 
 pub returns-in-Start : goal.returns-in-Start

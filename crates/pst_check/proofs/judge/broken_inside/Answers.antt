@@ -1,5 +1,5 @@
 use Rattle.std.proofs.Common.{refl}
-use Rattle.pst_check.specs.Blocks.{starts_in}
+use Rattle.pst_by_rule.specs.Blocks.{starts_in}
 use Rattle.pst_check.proofs.Places.{no_true}
 use Rattle.pst_check.proofs.Meanings.{free_more, free_all, least, starts_not_nine, starts_not_ten}
 use Rattle.pst_check.proofs.judge.broken_inside.Goals as goal

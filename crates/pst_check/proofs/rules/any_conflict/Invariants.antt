@@ -1,6 +1,6 @@
 use Rattle.std.proofs.Common.{◌≡◌, ◌<◌, ℕ, slice_get, Some}
 use Rattle.pst_scen.specs.declared.event.Event.{Event}
-use Rattle.pst_check.specs.Blocks.{act_of}
+use Rattle.pst_by_rule.specs.Blocks.{act_of}
 use Rattle.pst_scen.specs.Rows.{Has}
 use Rattle.pst_check.specs.Tests.{AtSome}
 use Rattle.pst_check.proofs.rules.any_conflict.Given as goal

@@ -1,7 +1,7 @@
 use Rattle.std.proofs.Common.{◌≡◌, ◌<◌, ℕ, slice_get, Some}
 use Rattle.pst_scen.specs.declared.event.Event.{Event}
 use Rattle.pst_scen.specs.Trace.{IsHeld}
-use Rattle.pst_check.specs.Blocks.{lane_of}
+use Rattle.pst_by_rule.specs.Blocks.{lane_of}
 use Rattle.pst_check.proofs.rules.any_held.Given as goal
 
 abbrev pub invariant-loop-i : goal.invariant-loop-i

@@ -5,8 +5,8 @@ use Rattle.pst_scen.specs.declared.event.Event.{Event}
 use Rattle.pst_scen.specs.declared.event.Event.TheVariants.{Start, End}
 use Rattle.pst_scen.specs.Trace.{Block, Starts, Ends, starts_of, events_of, events}
 use Rattle.pst_scen.specs.Judging.{IsBlock, AreWholeBlocks}
-use Rattle.pst_check.specs.Blocks.{act_of, lane_of, block_of, starts_in, block_length, onward, AreBlocks, IsOneBlock, AreOnward, IsFirstBlock}
-use Rattle.pst_check.proofs.Elements.{cons_first, cons_rest}
+use Rattle.pst_by_rule.specs.Blocks.{act_of, lane_of, block_of, starts_in, block_length, onward, AreBlocks, IsOneBlock, AreOnward, IsFirstBlock}
+use Rattle.pst_book.proofs.Elements.{cons_first, cons_rest}
 
 pub take_all : {X : Type 0} (xs ys : List X) → take (length xs) (xs ++ ys) ≡ xs
 take_all [] ys = refl

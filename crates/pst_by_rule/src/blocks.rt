@@ -1,11 +1,11 @@
 //! The blocks of a trace.
 ghost use Rattle.std.specs.Prelude.{◌≡◌, ◌<◌, ◌≤◌, length, take, drop};
-ghost use Rattle.pst_check.specs.Blocks.{act_of, lane_of, goes_on, block_length, AreOnward, IsFirstBlock};
+ghost use Rattle.pst_by_rule.specs.Blocks.{act_of, lane_of, goes_on, block_length, AreOnward, IsFirstBlock};
 
 use pst_scen::Event;
 
 /// The action of an event.
-pub(crate) fn act_of(event: Event) -> u32
+pub fn act_of(event: Event) -> u32
     ensures { result ≡ act_of event }
 {
     match event {
@@ -15,7 +15,7 @@ pub(crate) fn act_of(event: Event) -> u32
 }
 
 /// The lane of a start.
-pub(crate) fn lane_of(event: Event) -> u32
+pub fn lane_of(event: Event) -> u32
     ensures { result ≡ lane_of event }
 {
     match event {
@@ -47,7 +47,7 @@ fn count_first(events: &[Event]) -> usize
 }
 
 /// The number of events of the first block.
-pub(crate) fn first_block(events: &[Event]) -> usize
+pub fn first_block(events: &[Event]) -> usize
     requires blocks { AreOnward events.now }
     requires some { 0 < length events.now }
     ensures { IsFirstBlock events.now result }
@@ -56,7 +56,7 @@ pub(crate) fn first_block(events: &[Event]) -> usize
 }
 
 /// The first so many events.
-pub(crate) fn front(events: &[Event], count: usize) -> &[Event]
+pub fn front(events: &[Event], count: usize) -> &[Event]
     requires { count ≤ length events.now }
     ensures { result.now ≡ take count events.now }
 {
@@ -64,7 +64,7 @@ pub(crate) fn front(events: &[Event], count: usize) -> &[Event]
 }
 
 /// The events behind the first so many.
-pub(crate) fn behind(events: &[Event], count: usize) -> &[Event]
+pub fn behind(events: &[Event], count: usize) -> &[Event]
     requires { count ≤ length events.now }
     ensures { result.now ≡ drop count events.now }
 {

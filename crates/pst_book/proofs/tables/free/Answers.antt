@@ -1,6 +1,6 @@
 use Rattle.std.proofs.Common.{◌≡◌, ◌≢◌, None, Some, arith}
 use Rattle.pst_book.proofs.Changing.{change_more}
-use Rattle.pst_book.proofs.run.free.Goals as goal
+use Rattle.pst_book.proofs.tables.free.Goals as goal
 
 pub loop-lane-preserved : goal.loop-lane-preserved
 loop-lane-preserved c =

@@ -1,0 +1,5 @@
+pub mod Onward
+mod Begun
+mod Noted
+mod Ruled
+mod Going
