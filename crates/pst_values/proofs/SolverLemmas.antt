@@ -7,11 +7,11 @@ use Rattle.pst_expr.specs.declared.ranges.Span.{Span}
 use Rattle.pst_expr.specs.declared.tree.Expr.{Expr}
 use Rattle.pst_expr.specs.Tree.{view}
 use Rattle.pst_expr.specs.Value.{variable_value}
-use Rattle.pst_domain.specs.Bounds.{bound_of, AreUpright, AreWithin, Holds}
+use Rattle.pst_domain.specs.Bounds.{bound_of, AreUpright, AreWithin, Holds, IsInside}
 use Rattle.pst_narrow.specs.declared.trail.Former.{Former}
 use Rattle.pst_narrow.specs.Trail.{put_back, AreBelow, Extends}
 use Rattle.pst_narrow.specs.Solutions.{AreMet}
-use Rattle.pst_narrow.specs.Narrowing.{IsStep, HaveVariablesBelow, IsIn}
+use Rattle.pst_narrow.specs.Narrowing.{IsStep, HaveVariablesBelow, IsIn, AreOpen}
 use Rattle.pst_values.specs.Solver.{bounds_at, IsReady, IsBase, IsTried}
 
 put_back-append : (xs ys : List Former) (b : List (Option Span)) → put_back (xs ++ ys) b ≡ put_back xs (put_back ys b)
@@ -111,8 +111,8 @@ within_set a i s values below within lies j small =
     ]
 
 -- the trial: back at the mark, a span, and narrowing
-pub tried : (cs : List Expr) (n i : ℕ) (s : Span) (t u v : List Former) (a b c d : List (Option Span)) (result : Result Bool NoMemory) → IsReady cs n t a → i < length a → s.low ≤ℤ s.high → b ≡ put_back (drop n t) a → u ≡ take n t ++ record { variable = i; bound = bound_of b i } ∷ [] → c ≡ set b i (Some s) → IsStep (AreMet (map view cs)) c d u v result → IsTried cs n i s t v a d result
-tried cs n i s t u v a b c d result h below order back taken cut step =
+pub tried : (cs : List Expr) (n i : ℕ) (s : Span) (t u v : List Former) (a b c d : List (Option Span)) (result : Result Bool NoMemory) → IsReady cs n t a → i < length a → s.low ≤ℤ s.high → b ≡ put_back (drop n t) a → u ≡ take n t ++ record { variable = i; bound = bound_of b i } ∷ [] → c ≡ set b i (Some s) → IsStep (AreMet (map view cs)) c d u v result → (result ≡ Ok true → AreOpen (map view cs) d) → IsTried cs n i s t v a d result
+tried cs n i s t u v a b c d result h below order back taken cut step unrefused =
     let size : length b ≡ length a = ap length back ∙ length-put_back (drop n t) a in
     let small : i < length b = omega (arith, size, below) in
     let first : IsBase cs n t u a c = subst (IsBase cs n t u a) (sym cut) (one_past cs n i s t u a b h small order back taken) in
@@ -121,6 +121,9 @@ tried cs n i s t u v a b c d result h below order back taken cut step =
       refutes = λ e values within holds. step.refutes e values (start values small within holds.1) holds.0;
       keeps = λ e values within holds. step.narrows.keeps values (start values small within holds.1) holds.0;
       upright = step.narrows.upright;
+      here = λ e. subst (IsInside (bound_of d i)) (ap (λ x. bound_of x i) cut ∙ get_or-set_same b i (Some s) None small) (step.narrows.inside i);
+      others = λ e j n. subst (IsInside (bound_of d j)) (ap (λ x. bound_of x j) cut ∙ (get_or-set_other b i j (Some s) None n ∙ ap (λ x. bound_of x j) back)) (step.narrows.inside j);
+      unrefused = unrefused;
     }
   where
     start : (values : List (Option ℤ)) → i < length b → AreWithin (bounds_at n t a) values → IsIn s (variable_value values i) → AreWithin c values
@@ -136,4 +139,7 @@ not_tried cs n i s t u a b result h back taken not_false not_true =
       refutes = λ e. absurd (not_false e);
       keeps = λ e. absurd (not_true e);
       upright = subst AreUpright (sym back) h.upright;
+      here = λ e. absurd (not_true e);
+      others = λ e. absurd (not_true e);
+      unrefused = λ e. absurd (not_true e);
     }

@@ -3,7 +3,7 @@ use Rattle.std.proofs.lemmas.List.{length-set}
 use Rattle.pst_expr.specs.Tree.{view}
 use Rattle.pst_domain.specs.Bounds.{bound_of}
 use Rattle.pst_narrow.specs.Solutions.{AreMet}
-use Rattle.pst_narrow.specs.Narrowing.{IsStep, HaveVariablesBelow}
+use Rattle.pst_narrow.specs.Narrowing.{IsStep, HaveVariablesBelow, AreOpen}
 use Rattle.pst_values.proofs.SolverLemmas.{tried, not_tried, length-put_back}
 use Rattle.pst_values.proofs.solver.Solver.admits.Goals as goal
 
@@ -26,3 +26,4 @@ returns-clause-tried c =
     tried c.args.self.now.constraints.items c.args.mark c.args.variable c.args.span c.args.self.now.trail c.set.new.self c.narrow.new.trail c.args.self.now.bounds c.undo.new.bounds c.set.new.bounds c.narrow.new.bounds c.narrow.result c.requires.ready c.requires.variable c.requires.upright c.undo.ensures.bounds
     (c.in_ok-set.ensures.trail ∙ ap (λ x. x ++ record { variable = c.args.variable; bound = bound_of c.undo.new.bounds c.args.variable } ∷ []) c.undo.ensures.trail) c.in_ok-set.ensures.bounds
     (subst (λ xs. IsStep (AreMet (map view xs)) c.set.new.bounds c.narrow.new.bounds c.set.new.self c.narrow.new.trail c.narrow.result) c.deref.ensures.value c.narrow.ensures.step)
+    (λ e. subst (λ xs. AreOpen (map view xs) c.narrow.new.bounds) c.deref.ensures.value (c.narrow.ensures.«open» e))

@@ -1,5 +1,7 @@
-use Rattle.std.proofs.Common.{rules, ◌≡◌, Bool, not, true, false, Ok, refl, subst, ap, ◌∙◌, arith}
+use Rattle.std.proofs.Common.{rules, ◌≡◌, ◌+◌, ◌-◌, Bool, not, true, false, Ok, refl, sym, subst, ap, ◌∙◌, arith}
+use Rattle.std.specs.Prelude.{slice_get}
 use Rattle.pst_expr.specs.Spans.{size_of}
+use Rattle.pst_expr.specs.Spans as domain
 use Rattle.pst_values.specs.Options.{IsRun}
 use Rattle.pst_values.specs.Solver.{IsTried}
 use Rattle.pst_values.proofs.SearchLemmas.{after_refused, found_first}
@@ -42,5 +44,6 @@ returns-then-count-eq1-clause-searched c =
     let k : IsTried cs c.args.mark c.args.variable span c.loop-place.self.trail c.admits.new.self.trail c.loop-place.self.bounds c.admits.new.self.bounds c.admits.result = subst (λ x. IsTried x.items c.args.mark c.args.variable span c.loop-place.self.trail c.admits.new.self.trail c.loop-place.self.bounds c.admits.new.self.bounds c.admits.result) c.loop-place.invariant.same c.admits.ensures.tried in
     let b : c.in_ok-admits.field-0 ≡ true = first_of (cc (c.if-not-branch.false), search (rules, not_is_false, c.if-not-branch.false)) in
     let one = c.if-count-eq1.true in
+    let index : run.index + (c.min-count.result - 1) ≡ run.index = omega (arith, one) in
     found_first cs c.args.mark c.args.variable spans c.args.start c.args.from c.loop-place.place c.loop-place.width c.min-count.result run span c.args.self.now.trail c.loop-place.self.trail c.admits.new.self.trail c.args.self.now.bounds c.loop-place.self.bounds c.admits.new.self.bounds c.admits.result
-    (c.in_ok-admits.was ∙ ap (λ x. Ok x) b) (omega (arith, c.loop-place-test.true, c.size-size.ensures)) (omega (arith, one)) is c.span_of_run-span.ensures.holds h k
+    (c.in_ok-admits.was ∙ ap (λ x. Ok x) b) (omega (arith, c.loop-place-test.true, c.size-size.ensures)) (omega (arith, one)) is c.span_of_run-span.ensures.holds c.span_of_run-span.ensures.low (ap (slice_get (domain.values spans)) (sym index) ∙ c.span_of_run-span.ensures.high) h k
