@@ -27,7 +27,7 @@ use Rattle.pst_values.specs.Searched.{AreBarren, IsSearched}
 use Rattle.pst_values.specs.declared.options.Run.{Run}
 use Rattle.pst_values.specs.Options.{option_at, IsRun, HoldsRun}
 use Rattle.pst_values.specs.Search.{Search, IsOneOf, Agree, AllBarren, Gives, Ends, domain_of, IsPossible, HoldsPossible, HoldAllPossible, IsOpen}
-use Rattle.pst_values.specs.Kept.{tried_of, HoldSolutions, IsLayer, AreLayers, IsHull, AreHulls, AreTight, AreKnown}
+use Rattle.pst_values.specs.Kept.{tried_of, HoldSolutions, IsLayer, AreLayers, IsHull, AreHulls, AreTight, IsKnownAt, AreKnown}
 use Rattle.pst_rng.specs.Words.{start_of}
 use Rattle.pst_base.specs.declared.memory.NoMemory.{NoMemory}
 use Rattle.pst_expr.specs.Spans as domain
@@ -276,40 +276,40 @@ hull_tight d None outer h k = tt
 hull_tight d (Some s) None h k = absurd (k s.low h.2)
 hull_tight d (Some s) (Some t) h k = ((k s.low h.2).0, (k s.high h.3).1)
 
-pub first_known : (ds : List (List Span)) (x : Level) (bs : List (Option Span)) → x.mark ≡ 0 → AreHulls ds (length ds) bs → AreKnown ds [] x [] bs
-first_known ds x bs start h =
+pub first_known : (ds : List (List Span)) (cs : List Expr) (x : Level) (bs : List (Option Span)) → x.mark ≡ 0 → AreHulls ds (length ds) bs → AreKnown ds cs [] x [] bs
+first_known ds cs x bs start h =
     record {
-      now = λ k. subst (λ m. AreTight ds [] (bounds_at m [] bs)) (sym start) (λ i small outer holds. hull_tight (domain_of ds i) (bound_of bs i) outer (h.each i [] None small) (λ v in'. holds v (record { one = in'; given = λ d less. absurd (omega arith) })));
+      now = λ k. subst (λ m. IsKnownAt ds cs [] (bounds_at m [] bs)) (sym start) (record { tight = λ i small outer holds. hull_tight (domain_of ds i) (bound_of bs i) outer (h.each i [] None small) (λ v in'. holds v (record { one = in'; given = λ d less. absurd (omega arith) })); unrefused = λ some. absurd (omega arith) });
       before = λ i d small. absurd (omega arith);
     }
 
-pub known_stays : (ds : List (List Span)) (cs : List Expr) (xs : List Level) (x y : Level) (t u : List Former) (a b : List (Option Span)) → y.mark ≡ x.mark → y.known ≡ x.known → IsBase cs x.mark t u a b → AreLayers ds cs xs x t a → AreKnown ds xs x t a → AreKnown ds xs y u b
+pub known_stays : (ds : List (List Span)) (cs : List Expr) (xs : List Level) (x y : Level) (t u : List Former) (a b : List (Option Span)) → y.mark ≡ x.mark → y.known ≡ x.known → IsBase cs x.mark t u a b → AreLayers ds cs xs x t a → AreKnown ds cs xs x t a → AreKnown ds cs xs y u b
 known_stays ds cs xs x y t u a b same known base layers h =
     let long = layers.now.ready.room in
     record {
-      now = λ k. subst (AreTight ds (map tried_of xs)) (sym (ap (λ m. bounds_at m u b) same ∙ base.bounds)) (h.now (sym known ∙ k));
-      before = λ i d small k. subst (AreTight ds (map tried_of (take i xs))) (sym (lower_bounds (get_or xs i d).mark x.mark t u a b (layers.rising i d small) long base.ready.room base.trail base.bounds)) (h.before i d small k);
+      now = λ k. subst (IsKnownAt ds cs (map tried_of xs)) (sym (ap (λ m. bounds_at m u b) same ∙ base.bounds)) (h.now (sym known ∙ k));
+      before = λ i d small k. subst (IsKnownAt ds cs (map tried_of (take i xs))) (sym (lower_bounds (get_or xs i d).mark x.mark t u a b (layers.rising i d small) long base.ready.room base.trail base.bounds)) (h.before i d small k);
     }
 
-pub known_on : (ds : List (List Span)) (xs : List Level) (x y : Level) (t : List Former) (a : List (Option Span)) → y.mark ≡ length t → (y.known ≡ true → AreTight ds (map tried_of xs ++ x.tried ∷ []) a) → AreKnown ds xs x t a → AreKnown ds (xs ++ x ∷ []) y t a
-known_on ds xs x y t a end tight h =
+pub known_on : (ds : List (List Span)) (cs : List Expr) (xs : List Level) (x y : Level) (t : List Former) (a : List (Option Span)) → y.mark ≡ length t → (y.known ≡ true → IsKnownAt ds cs (map tried_of xs ++ x.tried ∷ []) a) → AreKnown ds cs xs x t a → AreKnown ds cs (xs ++ x ∷ []) y t a
+known_on ds cs xs x y t a end tight h =
     let long = length-append xs (x ∷ []) in
     let none : drop (length t) t ≡ [] = drop_all (length t) t (omega arith) in
     record {
-      now = λ k. subst (λ m. AreTight ds (map tried_of (xs ++ x ∷ [])) (bounds_at m t a)) (sym end) (subst (λ f. AreTight ds (map tried_of (xs ++ x ∷ [])) (put_back f a)) (sym none) (subst (λ r. AreTight ds r a) (sym (tried_last xs x)) (tight k)));
+      now = λ k. subst (λ m. IsKnownAt ds cs (map tried_of (xs ++ x ∷ [])) (bounds_at m t a)) (sym end) (subst (λ f. IsKnownAt ds cs (map tried_of (xs ++ x ∷ [])) (put_back f a)) (sym none) (subst (λ r. IsKnownAt ds cs r a) (sym (tried_last xs x)) (tight k)));
       before = λ i d small k. ⊎_elim
           (λ less.
           let same = get_or_append_left xs (x ∷ []) d i less in
-          subst (λ l. AreTight ds (map tried_of (take i (xs ++ x ∷ []))) (bounds_at l.mark t a)) (sym same)
-          (subst (λ l. AreTight ds (map tried_of l) (bounds_at (get_or xs i d).mark t a)) (sym (take-append-le i xs (x ∷ []) (omega arith))) (h.before i d less (ap (λ l. l.known) (sym same) ∙ k))))
+          subst (λ l. IsKnownAt ds cs (map tried_of (take i (xs ++ x ∷ []))) (bounds_at l.mark t a)) (sym same)
+          (subst (λ l. IsKnownAt ds cs (map tried_of l) (bounds_at (get_or xs i d).mark t a)) (sym (take-append-le i xs (x ∷ []) (omega arith))) (h.before i d less (ap (λ l. l.known) (sym same) ∙ k))))
           (λ last.
           let same = get_or_at xs x [] d i (sym last) in
-          subst (λ l. AreTight ds (map tried_of (take i (xs ++ x ∷ []))) (bounds_at l.mark t a)) (sym same)
-          (subst (λ l. AreTight ds (map tried_of l) (bounds_at x.mark t a)) (sym (take_at xs (x ∷ []) i (sym last))) (h.now (ap (λ l. l.known) (sym same) ∙ k))))
+          subst (λ l. IsKnownAt ds cs (map tried_of (take i (xs ++ x ∷ []))) (bounds_at l.mark t a)) (sym same)
+          (subst (λ l. IsKnownAt ds cs (map tried_of l) (bounds_at x.mark t a)) (sym (take_at xs (x ∷ []) i (sym last))) (h.now (ap (λ l. l.known) (sym same) ∙ k))))
           (cases_last i (length xs) (omega (arith, long)));
     }
 
-pub known_back : (ds : List (List Span)) (cs : List Expr) (xs : List Level) (x last : Level) (t u : List Former) (a b : List (Option Span)) → IsBase cs x.mark t u a b → AreLayers ds cs (xs ++ last ∷ []) x t a → AreKnown ds (xs ++ last ∷ []) x t a → AreKnown ds xs last u b
+pub known_back : (ds : List (List Span)) (cs : List Expr) (xs : List Level) (x last : Level) (t u : List Former) (a b : List (Option Span)) → IsBase cs x.mark t u a b → AreLayers ds cs (xs ++ last ∷ []) x t a → AreKnown ds cs (xs ++ last ∷ []) x t a → AreKnown ds cs xs last u b
 known_back ds cs xs x last t u a b base layers h =
     let room = layers.now.ready.room in
     let long = length-append xs (last ∷ []) in
@@ -317,13 +317,13 @@ known_back ds cs xs x last t u a b base layers h =
     let here : length xs < length (xs ++ last ∷ []) = omega (arith, long) in
     let low : last.mark ≤ x.mark = subst (λ l. l.mark ≤ x.mark) at (layers.rising (length xs) last here) in
     record {
-      now = λ k. subst (AreTight ds (map tried_of xs)) (sym (lower_bounds last.mark x.mark t u a b low room base.ready.room base.trail base.bounds))
-          (subst (λ l. AreTight ds (map tried_of l) (bounds_at last.mark t a)) (take_at xs (last ∷ []) (length xs) refl) (subst (λ l. AreTight ds (map tried_of (take (length xs) (xs ++ last ∷ []))) (bounds_at l.mark t a)) at (h.before (length xs) last here (ap (λ l. l.known) at ∙ k))));
+      now = λ k. subst (IsKnownAt ds cs (map tried_of xs)) (sym (lower_bounds last.mark x.mark t u a b low room base.ready.room base.trail base.bounds))
+          (subst (λ l. IsKnownAt ds cs (map tried_of l) (bounds_at last.mark t a)) (take_at xs (last ∷ []) (length xs) refl) (subst (λ l. IsKnownAt ds cs (map tried_of (take (length xs) (xs ++ last ∷ []))) (bounds_at l.mark t a)) at (h.before (length xs) last here (ap (λ l. l.known) at ∙ k))));
       before = λ i d small k.
           let wide : i < length (xs ++ last ∷ []) = omega (arith, long) in
           let same = get_or_append_left xs (last ∷ []) d i small in
-          subst (AreTight ds (map tried_of (take i xs))) (sym (lower_bounds (get_or xs i d).mark x.mark t u a b (subst (λ l. l.mark ≤ x.mark) same (layers.rising i d wide)) room base.ready.room base.trail base.bounds))
-          (subst (λ l. AreTight ds (map tried_of l) (bounds_at (get_or xs i d).mark t a)) (take-append-le i xs (last ∷ []) (omega arith)) (subst (λ l. AreTight ds (map tried_of (take i (xs ++ last ∷ []))) (bounds_at l.mark t a)) same (h.before i d wide (ap (λ l. l.known) same ∙ k))));
+          subst (IsKnownAt ds cs (map tried_of (take i xs))) (sym (lower_bounds (get_or xs i d).mark x.mark t u a b (subst (λ l. l.mark ≤ x.mark) same (layers.rising i d wide)) room base.ready.room base.trail base.bounds))
+          (subst (λ l. IsKnownAt ds cs (map tried_of l) (bounds_at (get_or xs i d).mark t a)) (take-append-le i xs (last ∷ []) (omega arith)) (subst (λ l. IsKnownAt ds cs (map tried_of (take i (xs ++ last ∷ []))) (bounds_at l.mark t a)) same (h.before i d wide (ap (λ l. l.known) same ∙ k))));
     }
 
 possible_more : (ds : List (List Span)) (xs : List Tried) (x : Tried) (j : ℕ) (v : ℤ) → (j ≡ length xs → ⊥) → IsPossible ds xs j v → IsPossible ds (xs ++ x ∷ []) j v

@@ -11,6 +11,10 @@ use Rattle.pst_domain.specs.Bounds.{bound_of, AreUpright, AreWithin, Holds, IsIn
 use Rattle.pst_narrow.specs.declared.trail.Former.{Former}
 use Rattle.pst_narrow.specs.Trail.{put_back, AreBelow, Extends}
 use Rattle.pst_narrow.specs.Solutions.{AreMet}
+use Rattle.pst_narrow.specs.Mentions.{Mentions, SameBounds, OthersDontMatter}
+use Rattle.pst_narrow.specs.Settled.{IsQuiet, IsUnrefused, QuietAreOpen}
+use Rattle.pst_domain.specs.Interval.{is_refused}
+use Rattle.std.proofs.lemmas.Option.{slice_get_within, get_or_from_slice_get}
 use Rattle.pst_narrow.specs.Narrowing.{IsStep, HaveVariablesBelow, IsIn, AreOpen}
 use Rattle.pst_values.specs.Solver.{bounds_at, IsReady, IsBase, IsTried}
 
@@ -93,6 +97,28 @@ further cs n t u v a b c h same e =
       bounds = here ∙ h.bounds;
       trail = ap (take n) e.appended ∙ (take-append-le n u e.more room ∙ h.trail);
     }
+
+pub behind_mark : (n i : ℕ) (t u : List Former) (b : List (Option Span)) → n ≤ length t → u ≡ take n t ++ record { variable = i; bound = bound_of b i } ∷ [] → drop n u ≡ record { variable = i; bound = bound_of b i } ∷ []
+behind_mark n i t u b room taken = ap (drop n) taken ∙ drop_at (take n t) (record { variable = i; bound = bound_of b i } ∷ []) n (length-take-le n t room)
+
+-- one variable is changed behind the mark: constraints without it aren't refused
+pub quiet_after_set : OthersDontMatter → (cs : List Expr) (n i : ℕ) (s : Span) (t u : List Former) (a b c : List (Option Span)) → n ≤ length t → b ≡ put_back (drop n t) a → u ≡ take n t ++ record { variable = i; bound = bound_of b i } ∷ [] → c ≡ set b i (Some s) → AreOpen (map view cs) (bounds_at n t a) → QuietAreOpen (map view cs) (drop n u) c
+quiet_after_set law cs n i s t u a b c room back taken cut unrefused k e num q =
+    let f : Former = record { variable = i; bound = bound_of b i } in
+    let quiet : Mentions e i → ⊥ = subst (IsQuiet e) (behind_mark n i t u b room taken) q 0 f (omega arith) in
+    let same : SameBounds e b c = record {
+      count = sym (ap length cut ∙ length-set b i (Some s));
+      each = λ v m. sym (ap (λ x. bound_of x v) cut ∙ get_or-set_other b i v (Some s) None (λ e'. quiet (subst (Mentions e) e' m)));
+    } in
+    let small : k < length (map view cs) = slice_get_within (map view cs) k e num in
+    let here : IsUnrefused e b = subst (IsUnrefused e) (sym back) (subst (λ d. IsUnrefused d (bounds_at n t a)) (get_or_from_slice_get (map view cs) k e e num) (unrefused k e small)) in
+    subst (λ r. is_refused r ≡ false) (law.spans e b c same) here
+
+pub changed_after_set : (n i : ℕ) (t u : List Former) (b c : List (Option Span)) → n ≤ length t → i < length c → u ≡ take n t ++ record { variable = i; bound = bound_of b i } ∷ [] → AreBelow (length c) (drop n u)
+changed_after_set n i t u b c room small taken = subst (AreBelow (length c)) (sym (behind_mark n i t u b room taken)) (All-cons (λ former. former.variable < length c) (record { variable = i; bound = bound_of b i }) [] small (All-nil (λ former. former.variable < length c)))
+
+pub room_after_set : (n i : ℕ) (t u : List Former) (b : List (Option Span)) → n ≤ length t → u ≡ take n t ++ record { variable = i; bound = bound_of b i } ∷ [] → n ≤ length u
+room_after_set n i t u b room taken = let long = length-take-le n t room in omega (arith, ap length taken, length-append (take n t) (record { variable = i; bound = bound_of b i } ∷ []), long)
 
 -- ---- values with one variable in a span
 

@@ -9,6 +9,8 @@ use Rattle.pst_narrow.specs.declared.trail.Former.{Former}
 use Rattle.pst_values.specs.declared.tried.Tried.{Tried}
 use Rattle.pst_values.specs.declared.tried.Level.{Level}
 use Rattle.pst_values.specs.declared.search.ValueSearch.TheInside.{Inside}
+use Rattle.pst_narrow.specs.Narrowing.{AreOpen}
+use Rattle.pst_narrow.specs.Watch.{IsWatch}
 use Rattle.pst_values.specs.Solver.{bounds_at, IsReady}
 use Rattle.pst_values.specs.Search.{Search, IsSolution, Agree, HoldsPossible}
 
@@ -46,10 +48,15 @@ pub record AreLayers (domains : List (List Span)) (constraints : List Expr) (ear
 abbrev pub AreTight : List (List Span) → List Tried → List (Option Span) → Type 0
 AreTight domains tried bounds = (i : ℕ) → i < length domains → (outer : Option Span) → HoldsPossible domains tried i outer → IsInside (bound_of bounds i) outer
 
+-- so it is, and where there are values no constraint is refused
+pub record IsKnownAt (domains : List (List Span)) (constraints : List Expr) (tried : List Tried) (bounds : List (Option Span)) : Type 0 where
+  pub tight : AreTight domains tried bounds
+  pub unrefused : 0 < length tried → AreOpen (map view constraints) bounds
+
 -- so it is at the mark of each variable whose bounds know the values before it
-pub record AreKnown (domains : List (List Span)) (earlier : List Level) (current : Level) (trail : List Former) (bounds : List (Option Span)) : Type 0 where
-  pub now : current.known ≡ true → AreTight domains (map tried_of earlier) (bounds_at current.mark trail bounds)
-  pub before : (i : ℕ) (d : Level) → i < length earlier → (slice_index_or earlier i d).known ≡ true → AreTight domains (map tried_of (take i earlier)) (bounds_at (slice_index_or earlier i d).mark trail bounds)
+pub record AreKnown (domains : List (List Span)) (constraints : List Expr) (earlier : List Level) (current : Level) (trail : List Former) (bounds : List (Option Span)) : Type 0 where
+  pub now : current.known ≡ true → IsKnownAt domains constraints (map tried_of earlier) (bounds_at current.mark trail bounds)
+  pub before : (i : ℕ) (d : Level) → i < length earlier → (slice_index_or earlier i d).known ≡ true → IsKnownAt domains constraints (map tried_of (take i earlier)) (bounds_at (slice_index_or earlier i d).mark trail bounds)
 
 pub record IsKept (s : Inside) : Type 0 where
   pub number : length s.earlier.items < length s.domains.items
@@ -59,8 +66,9 @@ pub record IsKept (s : Inside) : Type 0 where
   pub room : length s.domains.items ≤ vec_capacity s.earlier
   pub upright : AreUpright s.solver.bounds
   pub layers : AreLayers s.domains.items s.solver.constraints.items s.earlier.items s.current s.solver.trail s.solver.bounds
-  pub known : AreKnown s.domains.items s.earlier.items s.current s.solver.trail s.solver.bounds
-  pub tight : s.is_known ≡ true → AreTight s.domains.items (map tried_of s.earlier.items ++ s.current.tried ∷ []) s.solver.bounds
+  pub watch : IsWatch (map view s.solver.constraints.items) (length s.domains.items) s.solver.watch
+  pub known : AreKnown s.domains.items s.solver.constraints.items s.earlier.items s.current s.solver.trail s.solver.bounds
+  pub tight : s.is_known ≡ true → IsKnownAt s.domains.items s.solver.constraints.items (map tried_of s.earlier.items ++ s.current.tried ∷ []) s.solver.bounds
   pub holds : s.current.tried.value ≢ None → HoldSolutions s.domains.items s.solver.constraints.items (map tried_of s.earlier.items ++ s.current.tried ∷ []) s.solver.bounds
 
 -- a span holds all values of a domain, of which its ends are two, and isn't reversed

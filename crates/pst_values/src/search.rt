@@ -11,7 +11,7 @@ use crate::tried::{Level, Tried};
 use pst_base::NoMemory;
 use pst_domain::{Bounds, narrower_bounds_give_inner_spans, spans_are_sane};
 use pst_expr::{Domain, Expr, Span, domains_list_values};
-use pst_narrow::Trail;
+use pst_narrow::{Trail, Watch};
 use pst_rng::start;
 use std::alloc::Global;
 use std::marker::Model;
@@ -78,8 +78,10 @@ impl ValueSearch {
         }
         let spans = hulls(alloc, &domains)?;
         let earlier = Vec::with_capacity(alloc, domains.len())?;
+        let watch = Watch::new(alloc, &constraints, domains.len())?;
         let solver = Solver {
             constraints,
+            watch,
             bounds: Bounds::new(spans),
             trail: Trail::new(alloc),
         };
@@ -168,7 +170,7 @@ impl ValueSearch {
         let passed = self.current.tried.passed;
         match self
             .solver
-            .first_admitted(mark, variable as u32, domain, from, passed)
+            .first_admitted(mark, variable > 0, variable as u32, domain, from, passed)
         {
             Err(error) => {
                 self.solver.trail.undo(mark, &mut self.solver.bounds);

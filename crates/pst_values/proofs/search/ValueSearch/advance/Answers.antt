@@ -27,7 +27,8 @@ invariant_of-self c =
       room = let r = h.room in omega (arith, r, c.push_reserved.ensures.capacity);
       upright = h.upright;
       layers = subst (λ l. AreLayers ds cs l y t a) (sym items) (layers_on ds cs xs x y t a c.mark.ensures h.upright (h.holds some) h.layers);
-      known = subst (λ l. AreKnown ds l y t a) (sym items) (known_on ds xs x y t a c.mark.ensures h.tight h.known);
+      watch = h.watch;
+      known = subst (λ l. AreKnown ds cs l y t a) (sym items) (known_on ds cs xs x y t a c.mark.ensures h.tight h.known);
       tight = λ e. absurd cc;
       holds = λ there. absurd (there refl);
     }
