@@ -3,3 +3,7 @@ mod NarrowLemmas
 mod PartLemmas
 mod ListLemmas
 mod OperandLemmas
+mod MentionLemmas
+mod NotedLemmas
+mod SettleLemmas
+mod LocalLemmas

@@ -148,7 +148,7 @@ all_revised xs i a b t u end h = All-map (λ e. CutIsMade e a b) view xs (λ k d
 
 -- ---- refused ones
 
-never_met : (v : Option ℤ) → IfSome v (λ z. z ≡ pos 0) → IsTruth v → ⊥
+pub never_met : (v : Option ℤ) → IfSome v (λ z. z ≡ pos 0) → IsTruth v → ⊥
 never_met None h k = k
 never_met (Some z) h k = k h
 

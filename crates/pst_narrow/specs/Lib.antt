@@ -4,3 +4,7 @@ pub mod Narrowing
 pub mod Cuts
 pub mod Parts
 pub mod Operands
+pub mod Mentions
+pub mod Watch
+pub mod Settled
+pub mod Local

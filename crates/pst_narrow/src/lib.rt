@@ -6,11 +6,17 @@
 mod compare;
 mod demand;
 mod meet;
+mod mentions;
 mod narrowing;
 mod operands;
 mod parts;
 mod require;
+mod revise;
+mod settle;
 mod trail;
+mod watch;
 
+pub use mentions::{narrowing_is_local, others_dont_matter};
 pub use narrowing::narrow;
 pub use trail::{Former, Trail};
+pub use watch::Watch;

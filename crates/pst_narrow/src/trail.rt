@@ -43,6 +43,11 @@ impl Trail {
         }
     }
 
+    /// Where the trail takes its memory.
+    pub fn alloc(&self) -> Global {
+        *self.formers.allocator()
+    }
+
     /// How many changes there are: where [`Trail::undo`] comes back to.
     pub fn mark(&self) -> usize
         ensures { result ≡ length self.now }

@@ -1,6 +1,7 @@
 -- Searching the values of a domain in the order of a seed.
-use Rattle.std.proofs.Common.{◌≡◌, ⊎_elim, ℕ, ◌+◌, ◌-◌, ◌<◌, ◌≤◌, ℤ, List, Bool, true, false, Option, Some, None, Result, Ok, Err, refl, sym, subst, ap, ◌∙◌, arith}
+use Rattle.std.proofs.Common.{◌≡◌, ⊎_elim, ℕ, ◌+◌, ◌-◌, ◌<◌, ◌≤◌, ℤ, ◌≤ℤ◌, List, Bool, true, false, Option, Some, None, Result, Ok, Err, refl, sym, subst, ap, ◌∙◌, arith}
 use Rattle.std.proofs.lemmas.Bool.{cases_lt}
+use Rattle.std.proofs.lemmas.Int.{ints}
 use Rattle.std.specs.Prelude.{slice_get}
 use Rattle.pst_base.specs.declared.memory.NoMemory.{NoMemory}
 use Rattle.pst_expr.specs.declared.ranges.Span.{Span}
@@ -8,7 +9,7 @@ use Rattle.pst_expr.specs.declared.tree.Expr.{Expr}
 use Rattle.pst_expr.specs.Spans.{IsInSpan, size_of}
 use Rattle.pst_expr.specs.Spans as domain
 use Rattle.pst_expr.specs.Value.{variable_value}
-use Rattle.pst_domain.specs.Bounds.{AreUpright}
+use Rattle.pst_domain.specs.Bounds.{bound_of, AreUpright, IsInside}
 use Rattle.pst_narrow.specs.declared.trail.Former.{Former}
 use Rattle.pst_narrow.specs.Narrowing.{HaveNone, IsIn}
 use Rattle.pst_values.specs.declared.options.Run.{Run}
@@ -48,6 +49,21 @@ run_kept cs i spans start place count run span base new is some holds keeps v at
     let found : slice_get (domain.values spans) (run.index + 0) ≡ Some v = sym (run_value spans start place 0 run is is.some) ∙ (ap (option_at spans start) first ∙ at) in
     keeps values within (met.0, lies_in span (variable_value values i) v met.1 (holds 0 some v found))
 
+some_is : (x y : ℤ) → Some x ≡ Some y → x ≡ y
+some_is x y e = cc
+
+-- a bound inside a span of one number
+inside_point : (b : Option Span) (s : Span) (v : ℤ) → s.low ≡ v → s.high ≡ v → IsInside b (Some s) → IsInside b (Some (record { low = v; high = v }))
+inside_point None s v e f h = tt
+inside_point (Some r) s v e f h = (omega (arith, ints, e, h.0), omega (arith, ints, f, h.1))
+
+run_point : (spans : List Span) (start place : ℕ) (run : Run) (span : Span) (b : Option Span) → IsRun start (size_of spans) place run → slice_get (domain.values spans) run.index ≡ Some span.low → slice_get (domain.values spans) run.index ≡ Some span.high → IsInside b (Some span) → (v : ℤ) → option_at spans start place ≡ Some v → IsInside b (Some (record { low = v; high = v }))
+run_point spans start place run span b is low high inside v at =
+    let first : place + 0 ≡ place = omega arith in
+    let index : run.index + 0 ≡ run.index = omega arith in
+    let found : slice_get (domain.values spans) run.index ≡ Some v = ap (slice_get (domain.values spans)) (sym index) ∙ (sym (run_value spans start place 0 run is is.some) ∙ (ap (option_at spans start) first ∙ at)) in
+    inside_point b span v (some_is span.low v (sym low ∙ found)) (some_is span.high v (sym high ∙ found)) inside
+
 -- what the loop keeps
 pub record IsSearching (cs : List Expr) (mark i : ℕ) (spans : List Span) (start from place width : ℕ) (t u : List Former) (a b : List (Option Span)) : Type 0 where
   pub base : IsBase cs mark t u a b
@@ -77,8 +93,8 @@ pub after_wide : (cs : List Expr) (mark i : ℕ) (spans : List Span) (start from
 after_wide cs mark i spans start from place width narrower span t u v a b c result some h k =
     record { base = base_then cs mark t u v a b c h.base k.base; upright = k.upright; wide = some; after = h.after; barren = h.barren }
 
-pub found_first : (cs : List Expr) (mark i : ℕ) (spans : List Span) (start from place width count : ℕ) (run : Run) (span : Span) (t u v : List Former) (a b c : List (Option Span)) (result : Result Bool NoMemory) → result ≡ Ok true → place < size_of spans → 0 < count → IsRun start (size_of spans) place run → HoldsRun spans run.index count span → IsSearching cs mark i spans start from place width t u a b → IsTried cs mark i span u v b c result → IsSearched cs mark i spans start from t v a c (Ok (Some place))
-found_first cs mark i spans start from place width count run span t u v a b c result admitted below some is holds h k =
+pub found_first : (cs : List Expr) (mark i : ℕ) (spans : List Span) (start from place width count : ℕ) (run : Run) (span : Span) (t u v : List Former) (a b c : List (Option Span)) (result : Result Bool NoMemory) → result ≡ Ok true → place < size_of spans → 0 < count → IsRun start (size_of spans) place run → HoldsRun spans run.index count span → slice_get (domain.values spans) run.index ≡ Some span.low → slice_get (domain.values spans) run.index ≡ Some span.high → IsSearching cs mark i spans start from place width t u a b → IsTried cs mark i span u v b c result → IsSearched cs mark i spans start from t v a c (Ok (Some place))
+found_first cs mark i spans start from place width count run span t u v a b c result admitted below some is holds low high h k =
     record {
       base = base_then cs mark t u v a b c h.base k.base;
       upright = k.upright;
@@ -87,6 +103,9 @@ found_first cs mark i spans start from place width count run span t u v a b c re
         below = below;
         barren = h.barren;
         keeps = run_kept cs i spans start place count run span (bounds_at mark t a) c is some holds (subst (λ x. Keeps (AreMetIn cs i span) x c) h.base.bounds (k.keeps admitted));
+        here = run_point spans start place run span (bound_of c i) is low high (k.here admitted);
+        others = λ j n. subst (λ x. IsInside (bound_of c j) (bound_of x j)) h.base.bounds (k.others admitted j n);
+        unrefused = k.unrefused admitted;
       };
     }
 

@@ -7,11 +7,15 @@ use Rattle.pst_expr.specs.declared.ranges.Span.{Span}
 use Rattle.pst_expr.specs.declared.tree.Expr.{Expr}
 use Rattle.pst_expr.specs.Tree.{view}
 use Rattle.pst_expr.specs.Value.{variable_value}
-use Rattle.pst_domain.specs.Bounds.{bound_of, AreUpright, AreWithin, Holds}
+use Rattle.pst_domain.specs.Bounds.{bound_of, AreUpright, AreWithin, Holds, IsInside}
 use Rattle.pst_narrow.specs.declared.trail.Former.{Former}
 use Rattle.pst_narrow.specs.Trail.{put_back, AreBelow, Extends}
 use Rattle.pst_narrow.specs.Solutions.{AreMet}
-use Rattle.pst_narrow.specs.Narrowing.{IsStep, HaveVariablesBelow, IsIn}
+use Rattle.pst_narrow.specs.Mentions.{Mentions, SameBounds, OthersDontMatter}
+use Rattle.pst_narrow.specs.Settled.{IsQuiet, IsUnrefused, QuietAreOpen}
+use Rattle.pst_domain.specs.Interval.{is_refused}
+use Rattle.std.proofs.lemmas.Option.{slice_get_within, get_or_from_slice_get}
+use Rattle.pst_narrow.specs.Narrowing.{IsStep, HaveVariablesBelow, IsIn, AreOpen}
 use Rattle.pst_values.specs.Solver.{bounds_at, IsReady, IsBase, IsTried}
 
 put_back-append : (xs ys : List Former) (b : List (Option Span)) → put_back (xs ++ ys) b ≡ put_back xs (put_back ys b)
@@ -94,6 +98,28 @@ further cs n t u v a b c h same e =
       trail = ap (take n) e.appended ∙ (take-append-le n u e.more room ∙ h.trail);
     }
 
+pub behind_mark : (n i : ℕ) (t u : List Former) (b : List (Option Span)) → n ≤ length t → u ≡ take n t ++ record { variable = i; bound = bound_of b i } ∷ [] → drop n u ≡ record { variable = i; bound = bound_of b i } ∷ []
+behind_mark n i t u b room taken = ap (drop n) taken ∙ drop_at (take n t) (record { variable = i; bound = bound_of b i } ∷ []) n (length-take-le n t room)
+
+-- one variable is changed behind the mark: constraints without it aren't refused
+pub quiet_after_set : OthersDontMatter → (cs : List Expr) (n i : ℕ) (s : Span) (t u : List Former) (a b c : List (Option Span)) → n ≤ length t → b ≡ put_back (drop n t) a → u ≡ take n t ++ record { variable = i; bound = bound_of b i } ∷ [] → c ≡ set b i (Some s) → AreOpen (map view cs) (bounds_at n t a) → QuietAreOpen (map view cs) (drop n u) c
+quiet_after_set law cs n i s t u a b c room back taken cut unrefused k e num q =
+    let f : Former = record { variable = i; bound = bound_of b i } in
+    let quiet : Mentions e i → ⊥ = subst (IsQuiet e) (behind_mark n i t u b room taken) q 0 f (omega arith) in
+    let same : SameBounds e b c = record {
+      count = sym (ap length cut ∙ length-set b i (Some s));
+      each = λ v m. sym (ap (λ x. bound_of x v) cut ∙ get_or-set_other b i v (Some s) None (λ e'. quiet (subst (Mentions e) e' m)));
+    } in
+    let small : k < length (map view cs) = slice_get_within (map view cs) k e num in
+    let here : IsUnrefused e b = subst (IsUnrefused e) (sym back) (subst (λ d. IsUnrefused d (bounds_at n t a)) (get_or_from_slice_get (map view cs) k e e num) (unrefused k e small)) in
+    subst (λ r. is_refused r ≡ false) (law.spans e b c same) here
+
+pub changed_after_set : (n i : ℕ) (t u : List Former) (b c : List (Option Span)) → n ≤ length t → i < length c → u ≡ take n t ++ record { variable = i; bound = bound_of b i } ∷ [] → AreBelow (length c) (drop n u)
+changed_after_set n i t u b c room small taken = subst (AreBelow (length c)) (sym (behind_mark n i t u b room taken)) (All-cons (λ former. former.variable < length c) (record { variable = i; bound = bound_of b i }) [] small (All-nil (λ former. former.variable < length c)))
+
+pub room_after_set : (n i : ℕ) (t u : List Former) (b : List (Option Span)) → n ≤ length t → u ≡ take n t ++ record { variable = i; bound = bound_of b i } ∷ [] → n ≤ length u
+room_after_set n i t u b room taken = let long = length-take-le n t room in omega (arith, ap length taken, length-append (take n t) (record { variable = i; bound = bound_of b i } ∷ []), long)
+
 -- ---- values with one variable in a span
 
 holds_of_in : (s : Span) (v : Option ℤ) → IsIn s v → Holds (Some s) v
@@ -111,8 +137,8 @@ within_set a i s values below within lies j small =
     ]
 
 -- the trial: back at the mark, a span, and narrowing
-pub tried : (cs : List Expr) (n i : ℕ) (s : Span) (t u v : List Former) (a b c d : List (Option Span)) (result : Result Bool NoMemory) → IsReady cs n t a → i < length a → s.low ≤ℤ s.high → b ≡ put_back (drop n t) a → u ≡ take n t ++ record { variable = i; bound = bound_of b i } ∷ [] → c ≡ set b i (Some s) → IsStep (AreMet (map view cs)) c d u v result → IsTried cs n i s t v a d result
-tried cs n i s t u v a b c d result h below order back taken cut step =
+pub tried : (cs : List Expr) (n i : ℕ) (s : Span) (t u v : List Former) (a b c d : List (Option Span)) (result : Result Bool NoMemory) → IsReady cs n t a → i < length a → s.low ≤ℤ s.high → b ≡ put_back (drop n t) a → u ≡ take n t ++ record { variable = i; bound = bound_of b i } ∷ [] → c ≡ set b i (Some s) → IsStep (AreMet (map view cs)) c d u v result → (result ≡ Ok true → AreOpen (map view cs) d) → IsTried cs n i s t v a d result
+tried cs n i s t u v a b c d result h below order back taken cut step unrefused =
     let size : length b ≡ length a = ap length back ∙ length-put_back (drop n t) a in
     let small : i < length b = omega (arith, size, below) in
     let first : IsBase cs n t u a c = subst (IsBase cs n t u a) (sym cut) (one_past cs n i s t u a b h small order back taken) in
@@ -121,6 +147,9 @@ tried cs n i s t u v a b c d result h below order back taken cut step =
       refutes = λ e values within holds. step.refutes e values (start values small within holds.1) holds.0;
       keeps = λ e values within holds. step.narrows.keeps values (start values small within holds.1) holds.0;
       upright = step.narrows.upright;
+      here = λ e. subst (IsInside (bound_of d i)) (ap (λ x. bound_of x i) cut ∙ get_or-set_same b i (Some s) None small) (step.narrows.inside i);
+      others = λ e j n. subst (IsInside (bound_of d j)) (ap (λ x. bound_of x j) cut ∙ (get_or-set_other b i j (Some s) None n ∙ ap (λ x. bound_of x j) back)) (step.narrows.inside j);
+      unrefused = unrefused;
     }
   where
     start : (values : List (Option ℤ)) → i < length b → AreWithin (bounds_at n t a) values → IsIn s (variable_value values i) → AreWithin c values
@@ -136,4 +165,7 @@ not_tried cs n i s t u a b result h back taken not_false not_true =
       refutes = λ e. absurd (not_false e);
       keeps = λ e. absurd (not_true e);
       upright = subst AreUpright (sym back) h.upright;
+      here = λ e. absurd (not_true e);
+      others = λ e. absurd (not_true e);
+      unrefused = λ e. absurd (not_true e);
     }

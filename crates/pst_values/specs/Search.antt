@@ -5,8 +5,10 @@ use Rattle.pst_expr.specs.Spans.{IsInSpans, size_of}
 use Rattle.pst_expr.specs.declared.tree.Expr.{Expr}
 use Rattle.pst_expr.specs.Tree.{Expression, view}
 use Rattle.pst_expr.specs.Value.{variable_value}
+use Rattle.pst_domain.specs.Bounds.{bound_of, Holds}
 use Rattle.pst_rng.specs.Words.{start_of}
 use Rattle.pst_narrow.specs.Solutions.{AreMet}
+use Rattle.pst_narrow.specs.Narrowing.{AreOpen}
 use Rattle.pst_values.specs.declared.tried.Tried.{Tried}
 use Rattle.pst_values.specs.Options.{option_at}
 
@@ -42,6 +44,23 @@ pub record IsSolution (domains : List (List Span)) (constraints : List Expressio
 abbrev pub Agree : List Tried → List (Option ℤ) → Type 0
 Agree tried values = (i : ℕ) (d : Tried) → i < length tried → variable_value values i ≡ (slice_index_or tried i d).value
 
+-- a value that a variable may have: one of its domain, and the one that it has where it has one
+pub record IsPossible (domains : List (List Span)) (tried : List Tried) (i : ℕ) (v : ℤ) : Type 0 where
+  pub one : IsInSpans v (domain_of domains i)
+  pub given : (d : Tried) → i < length tried → (slice_index_or tried i d).value ≡ Some v
+
+-- a bound that holds every value that a variable may have
+abbrev pub HoldsPossible : List (List Span) → List Tried → ℕ → Option Span → Type 0
+HoldsPossible domains tried i bound = (v : ℤ) → IsPossible domains tried i v → Holds bound (Some v)
+
+-- bounds that hold all values that the variables may have
+abbrev pub HoldAllPossible : List (List Span) → List Tried → List (Option Span) → Type 0
+HoldAllPossible domains tried bounds = (i : ℕ) → i < length domains → HoldsPossible domains tried i (bound_of bounds i)
+
+-- no constraint is refused at any bounds that hold all values that the variables may have
+abbrev pub IsOpen : Search → Type 0
+IsOpen s = (bounds : List (Option Span)) → HoldAllPossible s.domains (s.earlier ++ s.current ∷ []) bounds → AreOpen (map view s.constraints) bounds
+
 -- no solution agrees with the values before the current variable, and has this value there
 abbrev pub IsBarren : Search → ℤ → Type 0
 IsBarren s v =
@@ -62,13 +81,15 @@ AllBarren s from to = (place : ℕ) → from ≤ place → place < to → (v : �
 abbrev pub with_tried : Search → ℕ → Option ℤ → Search
 with_tried s passed value = record { domains = s.domains; constraints = s.constraints; seed = s.seed; place = s.place; earlier = s.earlier; current = record { passed = passed; value = value } }
 
--- a value is the first, in the seed's order and after those that were passed, that isn't skipped; skipped ones are barren
+-- a value is the first, in the seed's order and after those that were passed, that isn't skipped; skipped ones are barren,
+-- and with the value no constraint is refused
 pub record Gives (old new : Search) (v : ℤ) : Type 0 where
   pub at : ℕ
   pub after : old.current.passed ≤ at
   pub below : at < size old
   pub is : value_at old at ≡ Some v
   pub skipped : AllBarren old old.current.passed at
+  pub unrefused : IsOpen new
   pub new_is : new ≡ with_tried old (at + 1) (Some v)
 
 -- none is left: all that weren't passed are barren

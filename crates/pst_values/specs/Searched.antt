@@ -6,10 +6,10 @@ use Rattle.pst_expr.specs.declared.tree.Expr.{Expr}
 use Rattle.pst_expr.specs.Spans.{size_of}
 use Rattle.pst_expr.specs.Tree.{view}
 use Rattle.pst_expr.specs.Value.{variable_value}
-use Rattle.pst_domain.specs.Bounds.{AreUpright}
+use Rattle.pst_domain.specs.Bounds.{bound_of, AreUpright, IsInside}
 use Rattle.pst_narrow.specs.declared.trail.Former.{Former}
 use Rattle.pst_narrow.specs.Solutions.{AreMet}
-use Rattle.pst_narrow.specs.Narrowing.{HaveNone}
+use Rattle.pst_narrow.specs.Narrowing.{HaveNone, AreOpen}
 use Rattle.pst_values.specs.Options.{option_at}
 use Rattle.pst_values.specs.Solver.{bounds_at, IsBase, Keeps}
 
@@ -28,6 +28,9 @@ pub record IsFirst (constraints : List Expr) (variable : ℕ) (spans : List Span
   pub below : place < size_of spans
   pub barren : AreBarren constraints variable spans start bounds from place
   pub keeps : (v : ℤ) → option_at spans start place ≡ Some v → Keeps (AreMetAt constraints variable v) bounds new
+  pub here : (v : ℤ) → option_at spans start place ≡ Some v → IsInside (bound_of new variable) (Some (record { low = v; high = v }))
+  pub others : (j : ℕ) → (j ≡ variable → ⊥) → IsInside (bound_of new j) (bound_of bounds j)
+  pub unrefused : AreOpen (map view constraints) new
 
 abbrev pub Finds : List Expr → ℕ → List Span → ℕ → ℕ → List (Option Span) → List (Option Span) → Result (Option ℕ) NoMemory → Type 0
 Finds constraints variable spans start from bounds new (Ok (Some place)) = IsFirst constraints variable spans start from place bounds new

@@ -1,14 +1,14 @@
 -- Trials of spans for one variable.
-use Rattle.std.specs.Prelude.{◌≡◌, ℕ, ◌≤◌, ℤ, List, length, map, take, drop, Bool, true, false, Option, Result, Ok}
+use Rattle.std.specs.Prelude.{◌≡◌, ℕ, ◌≤◌, ℤ, List, length, map, take, drop, Bool, true, false, Option, Some, Result, Ok}
 use Rattle.pst_base.specs.declared.memory.NoMemory.{NoMemory}
 use Rattle.pst_expr.specs.declared.ranges.Span.{Span}
 use Rattle.pst_expr.specs.declared.tree.Expr.{Expr}
 use Rattle.pst_expr.specs.Tree.{view}
-use Rattle.pst_domain.specs.Bounds.{AreUpright, AreWithin}
+use Rattle.pst_domain.specs.Bounds.{bound_of, AreUpright, AreWithin, IsInside}
 use Rattle.pst_narrow.specs.declared.trail.Former.{Former}
 use Rattle.pst_narrow.specs.Trail.{put_back, AreBelow}
 use Rattle.pst_narrow.specs.Solutions.{AreMet}
-use Rattle.pst_narrow.specs.Narrowing.{HaveNone, HaveVariablesBelow, LiesIn}
+use Rattle.pst_narrow.specs.Narrowing.{HaveNone, HaveVariablesBelow, LiesIn, AreOpen}
 
 -- the bounds before the changes from a mark on
 abbrev pub bounds_at : ℕ → List Former → List (Option Span) → List (Option Span)
@@ -41,3 +41,6 @@ pub record IsTried (constraints : List Expr) (mark variable : ℕ) (span : Span)
   pub refutes : result ≡ Ok false → HaveNone (AreMetIn constraints variable span) (bounds_at mark old_trail old)
   pub keeps : result ≡ Ok true → Keeps (AreMetIn constraints variable span) (bounds_at mark old_trail old) new
   pub upright : AreUpright new
+  pub here : result ≡ Ok true → IsInside (bound_of new variable) (Some span)
+  pub others : result ≡ Ok true → (j : ℕ) → (j ≡ variable → ⊥) → IsInside (bound_of new j) (bound_of (bounds_at mark old_trail old) j)
+  pub unrefused : result ≡ Ok true → AreOpen (map view constraints) new

@@ -39,7 +39,8 @@ pub fn span_of_run(domain: &Domain, index: u64, count: u64) -> Span
     requires within { index + count ≤ size_of domain.now }
     ensures upright { result.low ≤ℤ result.high }
     ensures holds { HoldsRun domain.now index count result }
-    ensures point { count ≡ 1 → slice_get (values domain.now) index ≡ Some result.low }
+    ensures low { slice_get (values domain.now) index ≡ Some result.low }
+    ensures high { slice_get (values domain.now) (index + (count - 1)) ≡ Some result.high }
 {
     domains_list_values();
     let _spans = domain.spans();

@@ -9,9 +9,9 @@ use crate::options::{run_at, span_of_run};
 use crate::solver::Solver;
 use crate::tried::{Level, Tried};
 use pst_base::NoMemory;
-use pst_domain::Bounds;
+use pst_domain::{Bounds, narrower_bounds_give_inner_spans, spans_are_sane};
 use pst_expr::{Domain, Expr, Span, domains_list_values};
-use pst_narrow::Trail;
+use pst_narrow::{Trail, Watch};
 use pst_rng::start;
 use std::alloc::Global;
 use std::marker::Model;
@@ -26,6 +26,8 @@ pub struct ValueSearch {
     place: u64,
     earlier: Vec<Level>,
     current: Level,
+    // Whether the bounds know the current variable's value and those before it.
+    is_known: bool,
 }
 
 impl Model for ValueSearch {
@@ -76,8 +78,10 @@ impl ValueSearch {
         }
         let spans = hulls(alloc, &domains)?;
         let earlier = Vec::with_capacity(alloc, domains.len())?;
+        let watch = Watch::new(alloc, &constraints, domains.len())?;
         let solver = Solver {
             constraints,
+            watch,
             bounds: Bounds::new(spans),
             trail: Trail::new(alloc),
         };
@@ -91,7 +95,12 @@ impl ValueSearch {
             seed,
             place,
             earlier,
-            current: Level { mark: 0, tried },
+            current: Level {
+                mark: 0,
+                known: true,
+                tried,
+            },
+            is_known: false,
         })
     }
 
@@ -109,12 +118,14 @@ impl ValueSearch {
         let current = self.current;
         self.current = Level {
             mark: self.solver.trail.mark(),
+            known: self.is_known,
             tried: Tried {
                 passed: 0,
                 value: None,
             },
         };
         self.earlier.push_reserved(current);
+        self.is_known = false;
         true
     }
 
@@ -131,17 +142,25 @@ impl ValueSearch {
         self.solver
             .trail
             .undo(self.current.mark, &mut self.solver.bounds);
+        self.is_known = self.current.known;
         self.current = last;
         true
     }
 
     /// Gives the current variable its next value in the seed's order at which narrowing leaves values, `None` where
-    /// none is left; then it has no value. At `NoMemory` nothing changes.
+    /// none is left; then it has no value. With the value no constraint is refused. At `NoMemory` nothing changes; where
+    /// the variable had a value then, calls for variables behind it answer `NoMemory` too, until one goes back to it.
     pub fn next_value(&mut self) -> Result<Option<i64>, NoMemory>
         ensures some { (v : ℤ) → result ≡ Ok (Some v) → Gives self.old self.new v }
         ensures none { result ≡ Ok None → Ends self.old self.new }
         ensures no_memory { OnErr result (self.new ≡ self.old) }
     {
+        if !self.current.known {
+            return Err(NoMemory);
+        }
+        narrower_bounds_give_inner_spans();
+        spans_are_sane();
+        domains_list_values();
         let variable = self.earlier.len();
         let domain = &self.domains[variable];
         domain.spans();
@@ -151,10 +170,11 @@ impl ValueSearch {
         let passed = self.current.tried.passed;
         match self
             .solver
-            .first_admitted(mark, variable as u32, domain, from, passed)
+            .first_admitted(mark, variable > 0, variable as u32, domain, from, passed)
         {
             Err(error) => {
                 self.solver.trail.undo(mark, &mut self.solver.bounds);
+                self.is_known = false;
                 Err(error)
             }
             Ok(None) => {
@@ -163,6 +183,7 @@ impl ValueSearch {
                     passed: size,
                     value: None,
                 };
+                self.is_known = false;
                 Ok(None)
             }
             Ok(Some(at)) => {
@@ -171,6 +192,7 @@ impl ValueSearch {
                     passed: at + 1,
                     value: Some(value),
                 };
+                self.is_known = true;
                 Ok(Some(value))
             }
         }

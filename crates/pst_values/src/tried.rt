@@ -9,9 +9,10 @@ pub struct Tried {
     pub value: Option<i64>,
 }
 
-// A variable, with where the trail stood before it had a value.
+// A variable, with where the trail stood before it had a value, and whether the bounds there know the values before it.
 #[derive(Clone, Copy)]
 pub struct Level {
     pub mark: usize,
+    pub known: bool,
     pub tried: Tried,
 }

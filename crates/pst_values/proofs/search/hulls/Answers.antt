@@ -1,4 +1,4 @@
-use Rattle.std.proofs.Common.{◌+◌, Some, sym, subst, arith}
+use Rattle.std.proofs.Common.{◌+◌, ◌-◌, Some, sym, subst, arith}
 use Rattle.pst_values.specs.Options.{HoldsRun}
 use Rattle.pst_values.specs.Kept.{AreHulls}
 use Rattle.pst_values.proofs.KeptLemmas.{size_some, hull_of, more_hulls}
@@ -13,4 +13,4 @@ loop-domain-preserved c =
     let holds = subst (λ n. HoldsRun x 0 n c.span_of_run.result) c.size.ensures c.span_of_run.ensures.holds in
     subst (AreHulls c.args.domains.now (c.loop-domain.domain-index + 1)) (sym c.in_ok-push.ensures.items)
     (more_hulls c.args.domains.now c.loop-domain.domain-index c.loop-domain.spans.items x (Some c.span_of_run.result) c.loop-domain-test.true c.domain-item.is
-    (hull_of x c.span_of_run.result (c.domains_list_values.ensures x c.spans.ensures.domain) c.span_of_run.ensures.upright holds) c.loop-domain.invariant)
+    (hull_of x c.span_of_run.result (0 + (c.size.result - 1)) (c.domains_list_values.ensures x c.spans.ensures.domain) c.span_of_run.ensures.upright holds c.span_of_run.ensures.low c.span_of_run.ensures.high) c.loop-domain.invariant)

@@ -2,8 +2,8 @@ use Rattle.std.proofs.Common.{◌≢◌, length, None, refl, sym, subst, ap, ◌
 use Rattle.std.proofs.lemmas.List.{length_push}
 use Rattle.pst_values.specs.declared.tried.Level.{Level}
 use Rattle.pst_values.specs.Search.{fresh}
-use Rattle.pst_values.specs.Kept.{AreLayers}
-use Rattle.pst_values.proofs.KeptLemmas.{layers_on}
+use Rattle.pst_values.specs.Kept.{AreLayers, AreKnown}
+use Rattle.pst_values.proofs.KeptLemmas.{layers_on, known_on}
 use Rattle.pst_values.proofs.search.ValueSearch.advance.Goals as goal
 
 pub invariant_of-self : goal.invariant_of-self
@@ -17,7 +17,7 @@ invariant_of-self c =
     let h = c.self.invariant in
     let items = c.push_reserved.ensures.items in
     let long = ap length items ∙ length_push xs x in
-    let y : Level = record { mark = c.mark.result; tried = fresh } in
+    let y : Level = record { mark = c.mark.result; known = c.self.inside.is_known; tried = fresh } in
     let some : x.tried.value ≢ None = subst (λ s. s.current.value ≢ None) (sym c.self.view_is) c.requires in
     record {
       number = let n = h.number in omega (arith, long, n, c.if-len.false, c.len.ensures, c.len-2.ensures);
@@ -27,5 +27,8 @@ invariant_of-self c =
       room = let r = h.room in omega (arith, r, c.push_reserved.ensures.capacity);
       upright = h.upright;
       layers = subst (λ l. AreLayers ds cs l y t a) (sym items) (layers_on ds cs xs x y t a c.mark.ensures h.upright (h.holds some) h.layers);
+      watch = h.watch;
+      known = subst (λ l. AreKnown ds cs l y t a) (sym items) (known_on ds cs xs x y t a c.mark.ensures h.tight h.known);
+      tight = λ e. absurd cc;
       holds = λ there. absurd (there refl);
     }

@@ -1,18 +1,23 @@
-use Rattle.std.proofs.Common.{rules, ◌≡◌, ◌<◌, ◌+◌, ◌++◌, ◌∷◌, [], length, map, get_or, Some, None, Ok, refl, sym, subst, ap, ◌∙◌, arith}
+use Rattle.std.proofs.Common.{rules, ◌≡◌, ℕ, nat_lt, ◌<◌, ◌+◌, ◌++◌, ◌∷◌, [], length, map, get_or, true, Some, None, Ok, refl, sym, subst, ap, ◌∙◌, arith}
 use Rattle.std.proofs.lemmas.List.{length-map, get_or_read}
 use Rattle.std.proofs.lemmas.Int.{to_z-of_z}
+use Rattle.std.proofs.lemmas.Bool.Decides.{nat_tests}
 use mir.Val.{SFits, to_z, of_z}
 use mir.Syntax.{w64}
 use Rattle.pst_expr.specs.Spans.{size_of}
+use Rattle.pst_expr.specs.Tree.{view}
+use Rattle.pst_expr.specs.Laws.{ListsValues}
 use Rattle.pst_rng.specs.Words.{start_of}
 use Rattle.pst_values.specs.declared.tried.Tried.{Tried}
 use Rattle.pst_values.specs.declared.tried.Level.{Level}
 use Rattle.pst_values.specs.Options.{IsRun, option_at}
-use Rattle.pst_values.specs.Solver.{IsBase}
+use Rattle.pst_narrow.specs.Watch.{IsWatch}
+use Rattle.pst_narrow.specs.Narrowing.{AreOpen}
+use Rattle.pst_values.specs.Solver.{bounds_at, IsBase}
 use Rattle.pst_values.specs.Searched.{IsSearched}
 use Rattle.pst_values.specs.Search.{Gives, Ends, domain_of}
-use Rattle.pst_values.specs.Kept.{tried_of, HoldSolutions, AreLayers}
-use Rattle.pst_values.proofs.KeptLemmas.{layers_stay, size_some, value_is, search_of, start_at, as_current, next_gives, next_ends, next_holds, back_base, back_upright, back_holds}
+use Rattle.pst_values.specs.Kept.{tried_of, HoldSolutions, AreLayers, AreKnown, IsKnownAt}
+use Rattle.pst_values.proofs.KeptLemmas.{layers_stay, size_some, value_is, search_of, start_at, as_current, next_gives, next_ends, next_holds, back_base, back_upright, back_holds, known_stays, next_tight, open_possible}
 use Rattle.pst_values.proofs.search.ValueSearch.next_value.Goals as goal
 
 pub start-from-requires : goal.start-from-requires
@@ -23,6 +28,15 @@ first_admitted-requires-clause-start c =
     let some = size_some c.index-domain.result.now c.spans.ensures.domain in
     let n = c.size-size.ensures in
     grind (arith, c.start-from.ensures, some, n)
+
+pub first_admitted-requires-clause-watch : goal.first_admitted-requires-clause-watch
+first_admitted-requires-clause-watch c = subst (λ n. IsWatch (map view c.self.inside.solver.constraints.items) n c.self.inside.solver.watch) (sym c.self.invariant.count) c.self.invariant.watch
+
+above : (n : ℕ) → nat_lt 0 n ≡ true → 0 < n
+above n e = grind (arith, nat_tests)
+
+pub first_admitted-requires-clause-settled : goal.first_admitted-requires-clause-settled
+first_admitted-requires-clause-settled c some = (c.self.invariant.known.now c.if-not-self.false).unrefused (omega (arith, above c.len-variable.result some, c.len-variable.ensures, length-map c.self.inside.earlier.items tried_of))
 
 pub invariant_of-self : goal.invariant_of-self
 invariant_of-self c =
@@ -36,6 +50,7 @@ invariant_of-self c =
     let u = c.first_admitted.new.self.trail in
     let b = c.first_admitted.new.self.bounds in
     let same = c.first_admitted.ensures.same in
+    let watch = subst (λ k. IsWatch (map view k.items) (length ds) c.first_admitted.new.self.watch) (sym same) (subst (IsWatch (map view cs) (length ds)) (sym c.first_admitted.ensures.watch) h.watch) in
     let base : IsBase cs x.mark t u a b = c.first_admitted.ensures.searched.base in
     let w = c.undo.new.self in
     let d = c.undo.new.bounds in
@@ -48,6 +63,9 @@ invariant_of-self c =
       room = h.room;
       upright = back_upright cs x.mark t u a b d base c.undo.ensures.bounds;
       layers = subst (λ k. AreLayers ds k.items xs x w d) (sym same) (layers_stay ds cs xs x x t w a d refl back h.layers);
+      watch = watch;
+      known = subst (λ k. AreKnown ds k.items xs x w d) (sym same) (known_stays ds cs xs x x t w a d refl refl back h.layers h.known);
+      tight = λ e. absurd cc;
       holds = λ there. subst (λ k. HoldSolutions ds k.items (map tried_of xs ++ x.tried ∷ []) d) (sym same) (back_holds ds cs xs x x.tried t u a b d h.layers base c.undo.ensures.bounds);
     }
 
@@ -63,11 +81,12 @@ invariant_of-self-in-Ok-None c =
     let u = c.first_admitted.new.self.trail in
     let b = c.first_admitted.new.self.bounds in
     let same = c.first_admitted.ensures.same in
+    let watch = subst (λ k. IsWatch (map view k.items) (length ds) c.first_admitted.new.self.watch) (sym same) (subst (IsWatch (map view cs) (length ds)) (sym c.first_admitted.ensures.watch) h.watch) in
     let base : IsBase cs x.mark t u a b = c.first_admitted.ensures.searched.base in
     let w = c.undo-in-Ok-None.new.self in
     let d = c.undo-in-Ok-None.new.bounds in
     let back = back_base cs x.mark t u w a b d base c.undo-in-Ok-None.ensures.bounds c.undo-in-Ok-None.ensures.trail in
-    let y : Level = record { mark = x.mark; tried = record { passed = c.size-size.result; value = None } } in
+    let y : Level = record { mark = x.mark; known = x.known; tried = record { passed = c.size-size.result; value = None } } in
     record {
       number = h.number;
       small = h.small;
@@ -76,6 +95,9 @@ invariant_of-self-in-Ok-None c =
       room = h.room;
       upright = back_upright cs x.mark t u a b d base c.undo-in-Ok-None.ensures.bounds;
       layers = subst (λ k. AreLayers ds k.items xs y w d) (sym same) (layers_stay ds cs xs x y t w a d refl back h.layers);
+      watch = watch;
+      known = subst (λ k. AreKnown ds k.items xs y w d) (sym same) (known_stays ds cs xs x y t w a d refl refl back h.layers h.known);
+      tight = λ e. absurd cc;
       holds = λ there. absurd (there refl);
     }
 
@@ -91,6 +113,7 @@ invariant_of-self-in-Ok-Some c =
     let u = c.first_admitted.new.self.trail in
     let b = c.first_admitted.new.self.bounds in
     let same = c.first_admitted.ensures.same in
+    let watch = subst (λ k. IsWatch (map view k.items) (length ds) c.first_admitted.new.self.watch) (sym same) (subst (IsWatch (map view cs) (length ds)) (sym c.first_admitted.ensures.watch) h.watch) in
     let seed = c.self.inside.seed in
     let place = c.self.inside.place in
     let here = length (map tried_of xs) in
@@ -110,9 +133,11 @@ invariant_of-self-in-Ok-Some c =
     let run : IsRun start (size_of spans) at c.run_at.result = subst (λ n. IsRun start n at c.run_at.result) c.size-size.ensures c.run_at.ensures in
     let found : option_at (domain_of ds here) (start_at ds seed place xs) at ≡ Some v = ap (λ d. option_at d (start_at ds seed place xs) at) (sym f) ∙ (ap (λ k. option_at spans k at) (sym g) ∙ value_is spans start at c.run_at.result v run c.at-value.ensures) in
     let is : option_at (domain_of ds here) (start_at ds seed place xs) at ≡ Some v' = simp to_z-of_z found in
+    let known : x.known ≡ true = c.if-not-self.false in
+    let lists : ListsValues (domain_of ds here) = subst ListsValues f (c.domains_list_values.ensures spans c.spans.ensures.domain) in
     let now : Tried = record { passed = at + 1; value = Some v' } in
     let base : IsBase cs x.mark t u a b = searched.base in
-    let y : Level = record { mark = x.mark; tried = now } in
+    let y : Level = record { mark = x.mark; known = x.known; tried = now } in
     record {
       number = h.number;
       small = h.small;
@@ -121,6 +146,9 @@ invariant_of-self-in-Ok-Some c =
       room = h.room;
       upright = searched.upright;
       layers = subst (λ k. AreLayers ds k.items xs y u b) (sym same) (layers_stay ds cs xs x y t u a b refl base h.layers);
+      watch = watch;
+      known = subst (λ k. AreKnown ds k.items xs y u b) (sym same) (known_stays ds cs xs x y t u a b refl refl base h.layers h.known);
+      tight = λ e. subst (λ k. IsKnownAt ds k.items (map tried_of xs ++ now ∷ []) b) (sym same) (record { tight = next_tight ds cs seed place xs x at t u a b v' lists (h.known.now known).tight searched is; unrefused = λ some. searched.finds.unrefused });
       holds = λ there. subst (λ k. HoldSolutions ds k.items (map tried_of xs ++ now ∷ []) b) (sym same) (next_holds ds cs seed place xs x at t u a b v' h.layers searched is);
     }
 
@@ -136,6 +164,7 @@ returns-in-Ok-None-clause-none c done =
     let u = c.first_admitted.new.self.trail in
     let b = c.first_admitted.new.self.bounds in
     let same = c.first_admitted.ensures.same in
+    let watch = subst (λ k. IsWatch (map view k.items) (length ds) c.first_admitted.new.self.watch) (sym same) (subst (IsWatch (map view cs) (length ds)) (sym c.first_admitted.ensures.watch) h.watch) in
     let seed = c.self.inside.seed in
     let place = c.self.inside.place in
     let here = length (map tried_of xs) in
@@ -164,6 +193,7 @@ returns-in-Ok-Some-clause-some c wanted equal =
     let u = c.first_admitted.new.self.trail in
     let b = c.first_admitted.new.self.bounds in
     let same = c.first_admitted.ensures.same in
+    let watch = subst (λ k. IsWatch (map view k.items) (length ds) c.first_admitted.new.self.watch) (sym same) (subst (IsWatch (map view cs) (length ds)) (sym c.first_admitted.ensures.watch) h.watch) in
     let seed = c.self.inside.seed in
     let place = c.self.inside.place in
     let here = length (map tried_of xs) in
@@ -183,8 +213,12 @@ returns-in-Ok-Some-clause-some c wanted equal =
     let run : IsRun start (size_of spans) at c.run_at.result = subst (λ n. IsRun start n at c.run_at.result) c.size-size.ensures c.run_at.ensures in
     let found : option_at (domain_of ds here) (start_at ds seed place xs) at ≡ Some v = ap (λ d. option_at d (start_at ds seed place xs) at) (sym f) ∙ (ap (λ k. option_at spans k at) (sym g) ∙ value_is spans start at c.run_at.result v run c.at-value.ensures) in
     let is : option_at (domain_of ds here) (start_at ds seed place xs) at ≡ Some v' = simp to_z-of_z found in
+    let known : x.known ≡ true = c.if-not-self.false in
+    let lists : ListsValues (domain_of ds here) = subst ListsValues f (c.domains_list_values.ensures spans c.spans.ensures.domain) in
     let now : Tried = record { passed = at + 1; value = Some v' } in
-    let gives = next_gives ds cs seed place xs x at t u a b v' h.layers searched is in
+    let tight = next_tight ds cs seed place xs x at t u a b v' lists (h.known.now known).tight searched is in
+    let unrefused = open_possible c.narrower_bounds_give_inner_spans.ensures c.spans_are_sane.ensures ds cs seed place xs now b (searched.base.count ∙ h.count) tight searched.finds.unrefused in
+    let gives = next_gives ds cs seed place xs x at t u a b v' h.layers searched is unrefused in
     let value : v' ≡ wanted = cc in
     subst (Gives c.args.self.now (search_of ds c.first_admitted.new.self.constraints.items seed place xs now)) value
     (subst (λ s. Gives s (search_of ds c.first_admitted.new.self.constraints.items seed place xs now) v') c.self.view_is (subst (λ k. Gives (search_of ds cs seed place xs x.tried) (search_of ds k.items seed place xs now) v') (sym same) gives))
