@@ -23,10 +23,13 @@ action_lines =
     ∷ codes "  action pair { make m; take t; activity { m; t; bind m.o t.i; } }"
     ∷ []
 
+abbrev pub entry_line : ℕ → List ℕ
+entry_line turns = codes "  action entry { activity { repeat (" ++ decimal turns ++ codes ") { schedule {"
+
 -- four pairs side by side, so many times over
 abbrev pub entry_lines : ℕ → List (List ℕ)
 entry_lines turns =
-    (codes "  action entry { activity { repeat (" ++ decimal turns ++ codes ") { schedule {")
+    entry_line turns
     ∷ codes "    do pair; do pair; do pair; do pair; } } } }"
     ∷ codes "}"
     ∷ []

@@ -47,11 +47,18 @@ fn add_actions(text: &mut String) -> Result<(), NoMemory>
     )
 }
 
+// The line on which the root action begins.
+fn entry_line(alloc: Global, turns: u32) -> Result<String, NoMemory>
+    ensures { IfOk result (λ text. string_bytes text ≡ spec.entry_line turns) }
+{
+    Ok(format!(in alloc; "  action entry {{ activity {{ repeat ({turns}) {{ schedule {{")?)
+}
+
 // The root action, which runs four pairs side by side, so many times.
 fn add_entry(alloc: Global, text: &mut String, turns: u32) -> Result<(), NoMemory>
     ensures { OnOk result (string_bytes text.new ≡ string_bytes text.old ++ flat_map as_line (spec.entry_lines turns)) }
 {
-    let first = format!(in alloc; "  action entry {{ activity {{ repeat ({turns}) {{ schedule {{")?;
+    let first = entry_line(alloc, turns)?;
     add_line(text, first.as_str())?;
     add_line(text, "    do pair; do pair; do pair; do pair; } } } }")?;
     add_line(text, "}")

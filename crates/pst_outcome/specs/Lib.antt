@@ -3,3 +3,5 @@ pub mod Texts
 pub mod Outcome
 pub mod Delivered
 pub mod Laws
+pub mod Asking
+pub mod Sought

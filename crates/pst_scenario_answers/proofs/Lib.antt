@@ -1,1 +1,2 @@
 mod OneCheck
+mod Answering

@@ -5,6 +5,7 @@ ghost use Rattle.pst_model.specs.ModelView.{view_model};
 ghost use Rattle.pst_scen.specs.Laws.{IsPreorder, HasOneLeafEach};
 ghost use Rattle.pst_scen.specs.Plans.{IsPlanOf};
 ghost use Rattle.pst_order.specs.Facts.{LinksStates};
+ghost use Rattle.pst_scenario_answers.specs.declared.check.CheckAnswer.TheVariants.{Illegal as AtLine};
 ghost use Rattle.pst_scenario_answers.specs.Checked as spec;
 
 use pst_base::{Names, NoMemory};
@@ -44,11 +45,16 @@ impl CheckAnswer {
             CheckAnswer::Whole => Ok(String::from_str(alloc, "check whole\n")?),
             CheckAnswer::Prefix => Ok(String::from_str(alloc, "check prefix\n")?),
             CheckAnswer::BadTrace { line } => Ok(format!(in alloc; "badtrace {line}\n")?),
-            CheckAnswer::Illegal { line, rule } => {
-                Ok(format!(in alloc; "illegal {line} {rule}\n")?)
-            }
+            CheckAnswer::Illegal { line, rule } => illegal_line(alloc, line, rule),
         }
     }
+}
+
+// `illegal LINE RULE`.
+fn illegal_line(alloc: Global, line: u32, rule: u8) -> Result<String, NoMemory>
+    ensures { IfOk result (λ text. string_bytes text ≡ spec.answer_text (AtLine line rule)) }
+{
+    Ok(format!(in alloc; "illegal {line} {rule}\n")?)
 }
 
 // The answer that tells a verdict.

@@ -1,8 +1,8 @@
 mod Digits
-mod Keys
+pub mod Keys
 mod Roots
 mod Dropped
-mod Given
+pub mod Given
 mod Right
 mod Fronts
 mod Extended
