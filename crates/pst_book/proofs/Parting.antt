@@ -82,6 +82,20 @@ pub record AreWordsChanged (R : ℕ → ℕ → ℕ → Type 0) (old now : List 
 pub words_none : (R : ℕ → ℕ → ℕ → Type 0) (xs : List ℕ) → AreWordsChanged R xs xs 0
 words_none R xs = record { done = λ m l k. absurd (omega (arith, k)); rest = λ m l. refl }
 
+-- words without a pair
+words_skip : (R : ℕ → ℕ → ℕ → Type 0) (old now : List ℕ) (place next : ℕ) → place ≤ next → ((m x : ℕ) → place ≤ m / 64 → m / 64 < next → R m x x) → AreWordsChanged R old now place → AreWordsChanged R old now next
+words_skip R old now place next up same c = record {
+  done = λ m l k. ⊎_elim (λ b. c.done m l b) (λ b. subst (λ x. R m (get_or old m 0) x) (sym (c.rest m b)) (same m (get_or old m 0) b k)) (cases_lt (m / 64) place);
+  rest = λ m l. c.rest m (omega (arith, l, up));
+}
+
+module _ (rows : Rows) (a place next : ℕ) (up : place ≤ next) (none : (m : ℕ) → place ≤ m / 64 → m / 64 < next → Has rows a m → ⊥) (old now : List ℕ) where
+  pub raised_skip : AreWordsChanged (IsRaised (Has rows a)) old now place → AreWordsChanged (IsRaised (Has rows a)) old now next
+  raised_skip c = words_skip (IsRaised (Has rows a)) old now place next up (λ m x l k. record { raised = λ h. absurd (none m l k h); same = λ n. refl }) c
+
+  pub lowered_skip : AreWordsChanged (IsLowered (Has rows a)) old now place → AreWordsChanged (IsLowered (Has rows a)) old now next
+  lowered_skip c = words_skip (IsLowered (Has rows a)) old now place next up (λ m x l k. record { lowered = λ h. absurd (none m l k h); same = λ n. refl }) c
+
 -- one word more, where the relation asks for a property that the word's bits show
 words_more : (R S : ℕ → ℕ → ℕ → Type 0) (old now new : List ℕ) (place : ℕ) → length now ≡ length old → ((m x y : ℕ) → m / 64 ≡ place → S m x y → R m x y)
     → AreWordChanged S now new place → AreWordsChanged R old now place → AreWordsChanged R old new (place + 1)

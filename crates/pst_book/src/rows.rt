@@ -19,6 +19,23 @@ fn word_at(rows: &Rows, a: u32, place: usize) -> u64
     rows.words.as_slice()[a as usize * row + place]
 }
 
+/// The place of the first word from a place on that isn't 0, or the number of words.
+fn next_word(rows: &Rows, a: u32, from: usize, words: usize) -> usize
+    requires square { IsSquare rows.now }
+    requires a_in { a < rows.now.size }
+    requires words { words ≡ row_words rows.now.size }
+    requires from { from ≤ words }
+    ensures inside { (from ≤ result) × (result ≤ words) }
+    ensures none { (m : ℕ) → from ≤ m / 64 → m / 64 < result → Has rows.now a m → ⊥ }
+{
+    for place in from..words {
+        if word_at(rows, a, place) != 0 {
+            return place;
+        }
+    }
+    words
+}
+
 /// The first action behind the word that begins with the given one.
 fn word_end(first: u32, size: u32) -> u32
     requires { first < size }
@@ -60,7 +77,7 @@ fn raise_part(counts: &mut [u32], word: u64, first: u32, end: u32)
     }
 }
 
-fn raise_bits(counts: &mut [u32], word: u64, place: usize, size: u32)
+fn raise_word(counts: &mut [u32], word: u64, place: usize, size: u32)
     requires place_in { place * 64 < size }
     requires many { length counts.old ≡ size }
     requires room { (m : ℕ) → m < length counts.old → m / 64 ≡ place → IsBitSet word (m % 64) → get_or counts.old m 0 + 1 < 2 ^ 32 }
@@ -68,18 +85,6 @@ fn raise_bits(counts: &mut [u32], word: u64, place: usize, size: u32)
 {
     let first = place as u32 * 64;
     raise_part(counts, word, first, word_end(first, size));
-}
-
-fn raise_word(counts: &mut [u32], word: u64, place: usize, size: u32)
-    requires place_in { place * 64 < size }
-    requires many { length counts.old ≡ size }
-    requires room { (m : ℕ) → m < length counts.old → m / 64 ≡ place → IsBitSet word (m % 64) → get_or counts.old m 0 + 1 < 2 ^ 32 }
-    ensures { AreWordChanged (IsRaised (λ m. IsBitSet word (m % 64))) counts.old counts.new place }
-{
-    if word == 0 {
-        return;
-    }
-    raise_bits(counts, word, place, size);
 }
 
 /// Raises the number of each action with which the square pairs the given one, in a table of
@@ -92,8 +97,10 @@ pub fn raise(counts: &mut [u32], rows: &Rows, a: u32)
     ensures { AreRaised rows.now a counts.old counts.new }
 {
     let words = (rows.size as usize + 63) / 64;
-    for place in 0..words {
+    let mut place = next_word(rows, a, 0, words);
+    'words: while place < words {
         raise_word(counts, word_at(rows, a, place), place, rows.size);
+        place = next_word(rows, a, place + 1, words);
     }
 }
 
@@ -120,7 +127,7 @@ fn lower_part(counts: &mut [u32], word: u64, first: u32, end: u32)
     }
 }
 
-fn lower_bits(counts: &mut [u32], word: u64, place: usize, size: u32)
+fn lower_word(counts: &mut [u32], word: u64, place: usize, size: u32)
     requires place_in { place * 64 < size }
     requires many { length counts.old ≡ size }
     requires some { (m : ℕ) → m < length counts.old → m / 64 ≡ place → IsBitSet word (m % 64) → 0 < get_or counts.old m 0 }
@@ -128,18 +135,6 @@ fn lower_bits(counts: &mut [u32], word: u64, place: usize, size: u32)
 {
     let first = place as u32 * 64;
     lower_part(counts, word, first, word_end(first, size));
-}
-
-fn lower_word(counts: &mut [u32], word: u64, place: usize, size: u32)
-    requires place_in { place * 64 < size }
-    requires many { length counts.old ≡ size }
-    requires some { (m : ℕ) → m < length counts.old → m / 64 ≡ place → IsBitSet word (m % 64) → 0 < get_or counts.old m 0 }
-    ensures { AreWordChanged (IsLowered (λ m. IsBitSet word (m % 64))) counts.old counts.new place }
-{
-    if word == 0 {
-        return;
-    }
-    lower_bits(counts, word, place, size);
 }
 
 /// Lowers the number of each action with which the square pairs the given one, in a table of
@@ -152,7 +147,9 @@ pub fn lower(counts: &mut [u32], rows: &Rows, a: u32)
     ensures { AreLowered rows.now a counts.old counts.new }
 {
     let words = (rows.size as usize + 63) / 64;
-    for place in 0..words {
+    let mut place = next_word(rows, a, 0, words);
+    'words: while place < words {
         lower_word(counts, word_at(rows, a, place), place, rows.size);
+        place = next_word(rows, a, place + 1, words);
     }
 }

@@ -32,7 +32,8 @@ use Rattle.pst_outcome.specs.declared.answer.Answer.{Answer}
 use Rattle.pst_outcome.specs.declared.answer.Answer.TheVariants.{Done, Usage, NoFile, ReadFault, Large, Lexical, Syntax, Rule, NoMemory, Unbuilt}
 use Rattle.pst_outcome.specs.declared.answer.What.TheVariants as what
 use Rattle.pst_outcome.specs.Outcome.{OfUnits, BreaksRule, HasManyInstances, IsRun, IsSolved, IsUnbuilt, OfTokens, IsSyntaxFault, HasUnits, OfTexts, IsLexicalFault, HasManyTokens, HasTokens, lexical_fault, IsNext, ASource, TheTrace, OfFiles, IsNoFile, IsUnread, HasManyBytes, HasLongTrace, HasTexts, HasRoot, IsOwed, IsUsage, IsRootless, IsRooted}
-use Rattle.pst_outcome.specs.Asking.{Asked, AsksFor}
+use Rattle.pst_outcome.specs.declared.asked.Asked.{Asked}
+use Rattle.pst_outcome.specs.Asking.{AsksFor}
 use Rattle.pst_outcome.specs.Sought.{OfModel}
 use Rattle.pst_outcome.specs.Laws.{Agree, AnswersAreOne}
 use Rattle.pst_outcome.proofs.OneLine.{one_line, not_wrong, one_wrong, one_root}

@@ -11,7 +11,8 @@ use Rattle.pst_words.specs.Table.{key_start, IsValue, IsNumber}
 use Rattle.pst_words.specs.Lines.{IsArgument, AKey, AFile, IsLine, is_file, is_of, given}
 use Rattle.pst_words.proofs.Keys.{word_is, is_word_of, one_key, key_no_file}
 use Rattle.pst_words.proofs.Given.{given_here, given_later}
-use Rattle.pst_outcome.specs.Asking.{Asked, IsNumberGiven, AsksFor}
+use Rattle.pst_outcome.specs.declared.asked.Asked.{Asked}
+use Rattle.pst_outcome.specs.Asking.{IsNumberGiven, AsksFor}
 
 -- a number that fits 64 bits, which the text spells
 abbrev Spells : List ℕ → Type 0

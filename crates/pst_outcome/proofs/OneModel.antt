@@ -6,7 +6,7 @@ use Rattle.pst_legal.specs.ValueReading.{Answer as Reading, Whole, read}
 use Rattle.pst_legal.specs.First.{IsBefore, ReadsLegal, NoneBelow, NoneBefore, IsFirst}
 use Rattle.pst_outcome.specs.declared.answer.Answer.{Answer}
 use Rattle.pst_outcome.specs.declared.answer.Answer.TheVariants.{Solved}
-use Rattle.pst_outcome.specs.Asking.{Asked}
+use Rattle.pst_outcome.specs.declared.asked.Asked.{Asked}
 use Rattle.pst_outcome.specs.Sought.{OfModel, HasNone, IsSpent, IsFound}
 use Rattle.pst_outcome.specs.Laws.{Agree}
 use Rattle.pst_outcome.proofs.OneReading.{tri}

@@ -3,12 +3,7 @@ use Rattle.std.specs.Prelude.{◌≡◌, ℕ, ◌^◌, ◌<◌, List, decimal, N
 use Rattle.pst_words.specs.declared.key.Key.{Key}
 use Rattle.pst_words.specs.declared.key.Key.TheVariants.{Seed, Infer, Budget}
 use Rattle.pst_words.specs.Lines.{given}
-
--- the seed, the most inferred actions, and the most live lists of choices
-pub record Asked : Type 0 where
-  pub seed : ℕ
-  pub infer : ℕ
-  pub budget : ℕ
+use Rattle.pst_outcome.specs.declared.asked.Asked.{Asked}
 
 -- the number that words give the key, or another where they give it none
 pub record IsNumberGiven (key : Key) (arguments : List (List ℕ)) (otherwise n : ℕ) : Type 0 where

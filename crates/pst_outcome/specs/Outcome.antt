@@ -28,7 +28,8 @@ use Rattle.pst_sources_read.specs.Parsed.{AreParsed, HasSyntaxFault}
 use Rattle.pst_outcome.specs.declared.answer.Answer.{Answer}
 use Rattle.pst_outcome.specs.declared.answer.Answer.TheVariants.{Done, Usage, NoFile, ReadFault, Large, Lexical, Syntax, Rule, Unbuilt}
 use Rattle.pst_outcome.specs.declared.answer.What.TheVariants as what
-use Rattle.pst_outcome.specs.Asking.{Asked, AsksFor}
+use Rattle.pst_outcome.specs.declared.asked.Asked.{Asked}
+use Rattle.pst_outcome.specs.Asking.{AsksFor}
 use Rattle.pst_outcome.specs.Sought.{OfModel}
 use Rattle.pst_outcome.specs.Texts.{source_name, usage_text, no_file_text, read_fault_text, large_text, lexical_text, syntax_text, rule_text, unbuilt_text}
 

@@ -8,7 +8,7 @@ use Rattle.pst_trace_texts.specs.declared.last.Last.TheVariants as last
 use Rattle.pst_trace_texts.specs.Texts.{trace_text}
 use Rattle.pst_outcome.specs.declared.answer.Answer.{Answer}
 use Rattle.pst_outcome.specs.declared.answer.Answer.TheVariants.{Solved, NoScenario, Budget}
-use Rattle.pst_outcome.specs.Asking.{Asked}
+use Rattle.pst_outcome.specs.declared.asked.Asked.{Asked}
 use Rattle.pst_outcome.specs.Texts.{no_scenario_text, budget_text}
 
 -- No scenario with so few inferred actions is legal; the budget is spent in a level that may be searched; or the first legal scenario

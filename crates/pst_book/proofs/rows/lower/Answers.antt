@@ -1,26 +1,38 @@
 use Rattle.std.proofs.Common.{◌≡◌, ◌+◌, ◌*◌, ◌/◌, ◌^◌, ◌<◌, ◌≤◌, length, sym, subst, arith}
-use Rattle.pst_book.proofs.Parting.{words_none, lowered_on}
+use Rattle.pst_book.proofs.Parting.{words_none, lowered_on, lowered_skip}
 use Rattle.pst_book.proofs.rows.lower.Goals as goal
 
-pub loop-place-init : goal.loop-place-init
-loop-place-init c = words_none _ c.args.counts.now
+pub words-init : goal.words-init
+words-init c =
+    let e = c.next_word-place.ensures in
+    record {
+      inside = e.inside.1;
+      changed = lowered_skip c.args.rows.now c.args.a 0 c.next_word-place.result e.inside.0 e.none c.args.counts.now c.args.counts.now (words_none _ c.args.counts.now);
+    }
 
 pub lower_word-requires-clause-some : goal.lower_word-requires-clause-some
 lower_word-requires-clause-some c =
-    λ m l e h. let n = c.loop-place.auto.counts in let many = c.requires.many in
-    subst (λ v. 0 < v) (sym (c.loop-place.invariant.rest m (omega (arith, e)))) (c.requires.some m (omega (arith, l, n, many)) ((c.word_at.ensures m e).0 h))
+    λ m l e h. let n = c.words.auto.counts in let many = c.requires.many in
+    subst (λ v. 0 < v) (sym (c.words.invariant.changed.rest m (omega (arith, e)))) (c.requires.some m (omega (arith, l, n, many)) ((c.word_at.ensures m e).0 h))
 
-pub loop-place-preserved : goal.loop-place-preserved
-loop-place-preserved c =
-    lowered_on c.args.rows.now c.args.a c.word_at.result c.loop-place.place c.word_at.ensures c.args.counts.now c.loop-place.counts c.lower_word.new.counts c.loop-place.auto.counts c.lower_word.ensures c.loop-place.invariant
+pub words-preserved : goal.words-preserved
+words-preserved c =
+    let e = c.next_word-place-in-words.ensures in
+    let old = c.args.counts.now in
+    let new = c.lower_word.new.counts in
+    record {
+      inside = e.inside.1;
+      changed = lowered_skip c.args.rows.now c.args.a (c.words.place + 1) c.next_word-place-in-words.result e.inside.0 e.none old new
+          (lowered_on c.args.rows.now c.args.a c.word_at.result c.words.place c.word_at.ensures old c.words.counts new c.words.auto.counts c.lower_word.ensures c.words.invariant.changed);
+    }
 
 pub returns : goal.returns
 returns c =
-    let past = c.loop-place-test.false in
+    let past = c.words-test.false in
     let many = c.requires.many in
-    let i = c.loop-place.invariant in
+    let i = c.words.invariant.changed in
     record {
-      many = c.loop-place.auto.counts;
+      many = c.words.auto.counts;
       lowered = λ m l h. (i.done m l (omega (arith, l, past, many))).lowered h;
       same = λ m l h. (i.done m l (omega (arith, l, past, many))).same h;
     }

@@ -1,7 +1,14 @@
-use Rattle.pst_scen.specs.Rows.{Has}
+use Rattle.std.proofs.Common.{◌≤◌, ◌-◌}
+use Rattle.pst_scen.specs.Rows.{Has, row_words}
 use Rattle.pst_book.specs.Parts.{IsRaised}
 use Rattle.pst_book.proofs.Parting.{AreWordsChanged}
 use Rattle.pst_book.proofs.rows.raise.Given as goal
 
-abbrev pub invariant-loop-place : goal.invariant-loop-place
-invariant-loop-place l = AreWordsChanged (IsRaised (Has l.rows l.a)) l.fn.counts l.counts l.place
+abbrev pub decreases-words : goal.decreases-words
+decreases-words l = row_words l.rows.size - l.place
+
+abbrev pub invariant-words : goal.invariant-words
+invariant-words l = record {
+  inside : l.place ≤ row_words l.rows.size;
+  changed : AreWordsChanged (IsRaised (Has l.rows l.a)) l.fn.counts l.counts l.place;
+}

@@ -1,6 +1,6 @@
 use Rattle.std.proofs.Common.{◌+◌, ◌*◌, ◌<◌, refl, arith}
 use Rattle.pst_book.proofs.Parting.{raised_word, in_word}
-use Rattle.pst_book.proofs.rows.raise_bits.Goals as goal
+use Rattle.pst_book.proofs.rows.raise_word.Goals as goal
 
 pub raise_part-requires-clause-room : goal.raise_part-requires-clause-room
 raise_part-requires-clause-room c =

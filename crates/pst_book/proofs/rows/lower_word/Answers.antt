@@ -1,6 +1,6 @@
 use Rattle.std.proofs.Common.{◌+◌, ◌*◌, ◌<◌, refl, arith}
 use Rattle.pst_book.proofs.Parting.{lowered_word, in_word}
-use Rattle.pst_book.proofs.rows.lower_bits.Goals as goal
+use Rattle.pst_book.proofs.rows.lower_word.Goals as goal
 
 pub lower_part-requires-clause-some : goal.lower_part-requires-clause-some
 lower_part-requires-clause-some c =
