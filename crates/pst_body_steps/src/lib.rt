@@ -1,0 +1,11 @@
+//! The steps of a body, made from its statements.
+#![tactic(auto)]
+
+mod calls;
+mod locals;
+mod scopes;
+mod single;
+mod statements;
+mod steps;
+
+pub use steps::{body_steps, setting_in};

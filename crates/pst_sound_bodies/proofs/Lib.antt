@@ -1,0 +1,13 @@
+pub mod Paths
+pub mod Apart
+pub mod NoHandles
+pub mod Expressions
+pub mod Statements
+pub mod Inside
+pub mod Locals
+pub mod Counted
+pub mod NoFunctions
+pub mod Functions
+pub mod Found
+pub mod BodiesSound
+pub mod AllBodies
