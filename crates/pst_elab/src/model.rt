@@ -1,0 +1,101 @@
+//! The model of sources that keep all rules.
+ghost use Rattle.std.specs.Prelude.{◌≡◌, IfOk, map};
+ghost use Rattle.pst_ast.specs.DeclarationView.{view_unit};
+ghost use Rattle.pst_bind.specs.Needs.{served as served_in};
+ghost use Rattle.pst_elab_rules.specs.Model as tree;
+ghost use Rattle.pst_model.specs.ModelView.{view_model};
+ghost use Rattle.pst_scope.specs.Declarations.{declarations as the_declarations};
+ghost use Rattle.pst_bind.specs.PoolRules.{IsPoolMap};
+ghost use Rattle.pst_tree.specs.Instances.{AreInstances};
+ghost use Rattle.pst_type_rules.specs.Typed.{AreConstants};
+ghost use Rattle.pst_sources.specs.Shown.{sources_of};
+ghost use Rattle.pst_type_rules.specs.Sites.{fields};
+
+use pst_ast::{Instance, Unit};
+use pst_base::{Names, NoMemory};
+use pst_bind::Served;
+use pst_collect::declarations;
+use pst_field_domains::FieldDomains;
+use pst_index::Index;
+use pst_model::Model;
+use pst_model_actions::model_actions;
+use pst_model_functions::model_functions;
+use pst_model_pools::{model_parts, model_pools, model_serves};
+use pst_model_types::model_objects;
+use pst_sites::Sites;
+use pst_source_rules::Judged;
+use pst_sources::{Known, Sources};
+use pst_type_numbers::Numbered;
+use std::alloc::Global;
+
+// The model by the values of constants, the domains of fields and the instances.
+fn model_by(
+    numbered: &Numbered<'_>,
+    domains: &FieldDomains,
+    instances: &[Instance],
+    served: &[Served],
+) -> Result<Model, NoMemory>
+    requires domains { domains.now.places ≡ map (λ f. f.name.place) (fields (sources_of numbered.now).units) }
+    requires served { served.now ≡ served_in (sources_of numbered.now).units instances.now }
+    ensures { IfOk result (λ m. view_model m ≡ tree.model_by (sources_of numbered.now) domains.now.domains instances.now) }
+{
+    let sources = numbered.sources();
+    let alloc = sources.known().alloc();
+    let parts = model_parts(alloc, instances)?;
+    let pools = model_pools(numbered, instances)?;
+    let serves = model_serves(alloc, served)?;
+    let functions = model_functions(sources.known())?;
+    let objects = model_objects(sources, domains)?;
+    let actions = model_actions(numbered, domains)?;
+    Ok(Model {
+        actions,
+        objects,
+        instances: parts,
+        pools,
+        functions,
+        served: serves,
+    })
+}
+
+// The model, given where things are declared.
+fn model_in(
+    alloc: Global,
+    sites: &Sites<'_>,
+    index: &Index,
+    names: &Names,
+    judged: &Judged,
+) -> Result<Model, NoMemory>
+    requires declared { index.now ≡ the_declarations (map view_unit sites.now) }
+    requires constants { AreConstants (map view_unit sites.now) names.now judged.now.typed.constants }
+    requires instances { AreInstances (map view_unit sites.now) names.now judged.now.tree.instances }
+    requires pooled { IsPoolMap (map view_unit sites.now) judged.now.tree.instances judged.now.pools.pools judged.now.pools.served }
+    ensures { IfOk result (λ m. tree.IsModel (map view_unit sites.now) names.now (view_model m)) }
+{
+    let domains = FieldDomains::new(alloc, sites, index, names)?;
+    let constants = judged.typed.constants.as_slice();
+    let known = Known::new(alloc, index, names, sites, constants)?;
+    let sources = Sources::new(known)?;
+    let numbered = Numbered::new(&sources)?;
+    let instances = judged.tree.instances.as_slice();
+    let served = judged.pools.served.as_slice();
+    let model = model_by(&numbered, &domains, instances, served)?;
+    Ok(model)
+}
+
+/// The model of sources that keep all rules.
+pub(crate) fn model_of(
+    alloc: Global,
+    units: &[Unit],
+    names: &Names,
+    judged: &Judged,
+) -> Result<Model, NoMemory>
+    requires constants { AreConstants (map view_unit units.now) names.now judged.now.typed.constants }
+    requires instances { AreInstances (map view_unit units.now) names.now judged.now.tree.instances }
+    requires pooled { IsPoolMap (map view_unit units.now) judged.now.tree.instances judged.now.pools.pools judged.now.pools.served }
+    ensures { IfOk result (λ m. tree.IsModel (map view_unit units.now) names.now (view_model m)) }
+{
+    let declared = declarations(alloc, units)?;
+    let index = Index::new(alloc, declared)?;
+    let sites = Sites::new(alloc, units)?;
+    model_in(alloc, &sites, &index, names, judged)
+}
