@@ -1,8 +1,8 @@
 //! Steps of activities that are written as words, the inner ones first.
 //!
 //! `do A` traverses an action type, with the inline constraints before it. `sequence N`, `parallel N`
-//! and `schedule N` take the last steps, `branch W` the last one as a branch of the next `select`,
-//! and `repeat N` the last one.
+//! and `schedule N` take the last steps, `branch W` the last one as a branch of that weight, `select N`
+//! the last branches, and `repeat N` the last step.
 use crate::expressions::Expressions;
 use crate::words::Words;
 use pst_base::NoMemory;
@@ -68,8 +68,20 @@ impl Steps {
         Ok(())
     }
 
-    fn select(&mut self) -> Result<(), NoMemory> {
-        let branches = mem::replace(&mut self.branches, Vec::new(self.alloc));
+    // The last branches in order.
+    fn last_branches(&mut self, count: u32) -> Result<Vec<Branch>, NoMemory> {
+        let mut branches = Vec::new(self.alloc);
+        for _ in 0..count {
+            if let Some(branch) = self.branches.pop() {
+                branches.push(branch)?;
+            }
+        }
+        branches.reverse();
+        Ok(branches)
+    }
+
+    fn select(&mut self, count: u32) -> Result<(), NoMemory> {
+        let branches = self.last_branches(count)?;
         self.waiting.push(Step::Select(branches))?;
         Ok(())
     }
@@ -101,7 +113,7 @@ impl Steps {
         match word {
             "do" => self.traverse(words.index()),
             "branch" => self.add_branch(words.index()),
-            "select" => self.select(),
+            "select" => self.select(words.index()),
             "repeat" => self.repeat(expressions.number(words.number())),
             _ => self.block(word, words.index()),
         }
