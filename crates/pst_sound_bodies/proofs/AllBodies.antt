@@ -1,6 +1,6 @@
 -- The body of each atomic action of the model is sound.
-use Rattle.std.proofs.Common.{◌≡◌, ◌≤◌, refl, sym, ap, subst, arith, ◌∙◌}
-use Rattle.std.specs.Prelude.{ℕ, true, List, [], ◌∷◌, length, slice_get, All, Option, Some, None}
+use Rattle.std.proofs.Common.{◌≡◌, ◌≤◌, refl, sym, ap, subst, arith}
+use Rattle.std.specs.Prelude.{ℕ, true, List, [], length, All, Option, Some, None}
 use Rattle.std.specs.List.{flat_map}
 use Rattle.std.proofs.lemmas.List.Elements.{All-nil, All-map}
 use Rattle.std.proofs.lemmas.Option.{none-some}
@@ -11,13 +11,13 @@ use Rattle.pst_ast.specs.BodyTree.{BodyTree, MakeBody}
 use Rattle.pst_ast.specs.DeclarationTree.{UnitTree, ActionPartBody}
 use Rattle.pst_expr.specs.declared.ranges.Span.{Span}
 use Rattle.pst_model.specs.BodyTree.{BodyStepTree}
-use Rattle.pst_model.specs.ModelTree.{Atomic, Compound, ActionTree, ModelTree}
+use Rattle.pst_model.specs.ModelTree.{Atomic, ActionTree, ModelTree}
 use Rattle.pst_model.specs.SoundBody.{EachBodyStep, IsSoundBodyStep, IsSoundBody}
 use Rattle.pst_scope.specs.Breaches.{IsNone}
 use Rattle.pst_scope.specs.declared.declaration.Declaration.{Declaration}
 use Rattle.pst_scope.specs.declared.referent.Owner.TheVariants.{OfAction}
 use Rattle.pst_scope.specs.Declarations.{action_declared, in_body_statement, declarations}
-use Rattle.pst_scope.specs.NameRules.{NameBreach, Reaches}
+use Rattle.pst_scope.specs.NameRules.{NameBreach}
 use Rattle.pst_scope.specs.Sorts.{is_action, same_place}
 use Rattle.pst_scope.specs.Uses.{body_list_uses, environment}
 use Rattle.pst_type_rules.specs.declared.typed.ConstantValue.{ConstantValue}
@@ -36,7 +36,7 @@ use Rattle.pst_sound_expressions.proofs.Facts.{AreFacts}
 use Rattle.pst_sound_expressions.proofs.FactsOf.{facts_of}
 use Rattle.pst_sound_expressions.proofs.Members.{In, in_find}
 use Rattle.pst_sound_expressions.proofs.Owned.{those_declared}
-use Rattle.pst_sound_expressions.proofs.Walks.{IsActionAt, action_stands}
+use Rattle.pst_sound_expressions.proofs.Walks.{action_stands}
 use Rattle.pst_sound_types.proofs.NeedsSound.{all_in}
 use Rattle.pst_sound_bodies.specs.Conditions.{StandApart}
 use Rattle.pst_sound_bodies.specs.Laws.{HasSoundBody}

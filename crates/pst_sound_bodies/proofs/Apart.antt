@@ -1,6 +1,6 @@
 -- Slots of bodies have a meaning, and two of them are the same or have no field in common.
-use Rattle.std.proofs.Common.{◌≡◌, ◌⊎◌, ◌<◌, ◌≤◌, inl, inr, refl, sym, ap, subst, arith, ◌∙◌}
-use Rattle.std.specs.Prelude.{ℕ, ◌+◌, false, List, length}
+use Rattle.std.proofs.Common.{◌≡◌, ◌⊎◌, ◌<◌, ◌≤◌, inl, sym, ap, subst, arith, ◌∙◌}
+use Rattle.std.specs.Prelude.{ℕ, ◌+◌, false, List}
 use Rattle.pst_expr.specs.declared.ranges.Span.{Span}
 use Rattle.pst_model.specs.Limits.{most_elements}
 use Rattle.pst_model.specs.ConstraintTree.{SlotTree, Own, Object, First, ClaimId, ClaimField, Prev, IsFirst, Id, Index, Local, Through, Outer}
@@ -11,7 +11,7 @@ use Rattle.pst_terms.specs.Sources.{Sources}
 use Rattle.pst_elab_rules.specs.Types.{model_action, model_objects}
 use Rattle.pst_sound_expressions.specs.Blocks.{without_field, with_field, has_field, AreRows}
 use Rattle.pst_sound_expressions.proofs.Facts.{AreFacts}
-use Rattle.pst_sound_expressions.proofs.ActionReadings.{IsOwnRow, OfField, OfReference, OfFirst, OfClaim, OfClaimField, IsActionRow, OfItself, OfHandle}
+use Rattle.pst_sound_expressions.proofs.ActionReadings.{OfField, OfReference, OfFirst, OfClaim, OfClaimField, IsActionRow, OfItself, OfHandle}
 use Rattle.pst_sound_expressions.proofs.ActionRows.{own_slot}
 use Rattle.pst_sound_expressions.proofs.RowsApart.{action_rows}
 use Rattle.pst_sound_bodies.specs.Rows.{IsBodyRow, OfAction, OfIndex, OfLocal}

@@ -1,8 +1,8 @@
 -- The bodies of the model are sound.
-use Rattle.std.proofs.Common.{◌≡◌, ◌⊎◌, ◌<◌, ◌≤◌, inl, inr, refl, sym, ap, subst, arith, ◌∙◌}
-use Rattle.std.specs.Prelude.{ℕ, zero, suc, ◌+◌, Bool, true, false, ◌&&◌, List, [], ◌∷◌, map, length, slice_get, cond, All, IsSome, Option, Some, None}
+use Rattle.std.proofs.Common.{◌≡◌, ◌<◌, ◌≤◌, inl, inr, refl, sym, ap, subst, arith, ◌∙◌}
+use Rattle.std.specs.Prelude.{ℕ, ◌+◌, Bool, true, false, List, [], ◌∷◌, map, length, slice_get, cond, All, IsSome, Option, Some, None}
 use Rattle.std.specs.List.{filter, flat_map}
-use Rattle.std.specs.Option.{option_map, option_map_or, option_or, option_and_then, IsSomeAnd}
+use Rattle.std.specs.Option.{option_map, option_map_or, IsSomeAnd}
 use Rattle.std.proofs.lemmas.Bool.{false≢true}
 use Rattle.std.proofs.lemmas.List.{length-map}
 use Rattle.std.proofs.lemmas.List.Elements.{All-nil, All-cons}
@@ -11,13 +11,12 @@ use Rattle.pst_base.specs.declared.position.Place.{Place}
 use Rattle.pst_ast.specs.declared.leaf.Name.{Name}
 use Rattle.pst_ast.specs.declared.shared.LabelNode.{LabelNode}
 use Rattle.pst_ast.specs.ExpressionTree.{ExprTree}
-use Rattle.pst_ast.specs.SharedTree.{PlainTree}
 use Rattle.pst_ast.specs.BodyTree.{ArgumentsTree, CallTree, MakeCall, BodyStatementTree, BodyStatementEmpty, BodyStatementLocal, BodyStatementAssign, BodyStatementCall, BodyStatementBlock, BodyStatementIf, BodyStatementIfElse, BodyStatementRepeat, BodyTree, MakeBody}
 use Rattle.pst_ast.specs.DeclarationTree.{UnitTree, AnswerTree, AnswerVoid, AnswerPlain}
 use Rattle.pst_expr.specs.declared.ranges.Span.{Span}
 use Rattle.pst_model.specs.Limits.{most_locals}
 use Rattle.pst_model.specs.BodyTree.{BodyStepTree}
-use Rattle.pst_model.specs.ModelTree.{ActionTree, FunctionTree, ModelTree}
+use Rattle.pst_model.specs.ModelTree.{ActionTree, ModelTree}
 use Rattle.pst_model.specs.SoundBody.{locals_of, EachBodyStep, IsBodyExpression, IsCall, IsSoundBodyStep, IsSoundBody}
 use Rattle.pst_ast.specs.declared.instance.Instance.{Instance}
 use Rattle.pst_scope.specs.Breaches.{IsNone}
@@ -29,20 +28,20 @@ use Rattle.pst_scope.specs.declared.referent.Owner.{Owner}
 use Rattle.pst_scope.specs.declared.referent.Owner.TheVariants.{OfAction}
 use Rattle.pst_scope.specs.declared.referent.Referent.{Referent}
 use Rattle.pst_scope.specs.declared.referent.Referent.TheVariants.{Declared, Initial, Previous, Number}
-use Rattle.pst_scope.specs.Declarations.{local, index, index_of, in_body_statement, in_body, declarations}
+use Rattle.pst_scope.specs.Declarations.{local, index, index_of, in_body_statement, declarations}
 use Rattle.pst_scope.specs.Lookups.{declared_at, type_here, member_of, owned, referent, stands_for}
 use Rattle.pst_scope.specs.NameRules.{NameBreach, Reaches, assigned_finding}
 use Rattle.pst_scope.specs.Sorts.{is_action, same_place}
 use Rattle.pst_scope.specs.Uses.{InBody, Calls, Passes, Assigns, arguments_of, whole_uses, call_uses, body_list_uses, environment, uses as all_uses}
-use Rattle.pst_type_rules.specs.Limits.{is_local, is_local_of, IsLimited, Locals}
+use Rattle.pst_type_rules.specs.Limits.{is_local, is_local_of, Locals}
 use Rattle.pst_type_rules.specs.TypeRules.{TypeBreach, OfUse, NoLocal, is_declared}
 use Rattle.pst_type_rules.specs.Sites.{DeclaredAction, action_at, functions}
 use Rattle.pst_type_rules.specs.Members.{bodies_of}
 use Rattle.pst_type_rules.specs.declared.typed.ConstantValue.{ConstantValue}
 use Rattle.pst_inherited.specs.Bases.{with_bases, number_in, function_number}
-use Rattle.pst_terms.specs.Sources.{Sources, declared_in}
+use Rattle.pst_terms.specs.Sources.{Sources}
 use Rattle.pst_terms.specs.Readings.{Setting, Turn, AtLevel, is_inner_sort, expression_of}
-use Rattle.pst_elab_rules.specs.Bodies.{behind, local_in, local_of, function_called, arguments_in, locals_in, body_steps, statement_list}
+use Rattle.pst_elab_rules.specs.Bodies.{behind, local_in, local_of, function_called, arguments_in, body_steps}
 use Rattle.pst_elab_rules.specs.Steps.{or_zero, turn_setting}
 use Rattle.pst_elab_rules.specs.Types.{setting_of, parameter_span, answer_span, model_function, model_action}
 use Rattle.pst_elab_rules.specs.Model.{sources, model_by}
@@ -53,9 +52,8 @@ use Rattle.pst_sound_expressions.proofs.Meanings.{IsMeaning, OfInner, OfOwner, O
 use Rattle.pst_sound_expressions.proofs.Members.{In, in_find, in_filter, to_filter, to_contains}
 use Rattle.pst_sound_expressions.proofs.Owned.{numbered, same_itself, and_true}
 use Rattle.pst_sound_expressions.proofs.SetTerms.{AreUses, AreDeclared}
-use Rattle.pst_sound_expressions.proofs.TermsOf.{Each, each_left, each_right}
+use Rattle.pst_sound_expressions.proofs.TermsOf.{each_left, each_right}
 use Rattle.pst_sound_types.proofs.FewNeeds.{few}
-use Rattle.pst_sound_types.proofs.NeedsSound.{all_in}
 use Rattle.pst_sound_types.proofs.ServedWhole.{got_back}
 use Rattle.pst_sound_types.proofs.Typed.{nothing_found}
 use Rattle.pst_sound_bodies.proofs.Counted.{counted, AreOnce, stands_at, once_numbered, fewer}

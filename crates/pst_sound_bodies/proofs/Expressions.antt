@@ -19,7 +19,6 @@ use Rattle.pst_scope.specs.Lookups.{stands_for}
 use Rattle.pst_scope.specs.Uses.{Reads, InBody, part_of, parts_of, path_uses, whole_uses}
 use Rattle.pst_inherited.specs.Bases.{with_bases, number_in}
 use Rattle.pst_terms.specs.Sources.{Sources, declared_in}
-use Rattle.pst_terms.specs.Terms.{Reading}
 use Rattle.pst_terms.specs.Readings.{Setting, item_reading, owner_reading, checked_reading, reading_of, expr_term, expression_of}
 use Rattle.pst_elab_rules.specs.Types.{model_action, model_objects}
 use Rattle.pst_model.specs.ConstraintTree.{SlotTree}
@@ -33,8 +32,7 @@ use Rattle.pst_sound_expressions.proofs.Facts.{AreFacts}
 use Rattle.pst_sound_expressions.proofs.Plain.{plain_reading}
 use Rattle.pst_sound_expressions.proofs.ActionsSound.{blocks_lift}
 use Rattle.pst_sound_expressions.proofs.RowsApart.{row_derived}
-use Rattle.pst_sound_expressions.proofs.ActionReadings.{IsActionRow}
-use Rattle.pst_sound_bodies.specs.Rows.{IsBodyRow, OfAction, OfIndex, OfLocal}
+use Rattle.pst_sound_bodies.specs.Rows.{OfAction, OfIndex, OfLocal}
 use Rattle.pst_sound_bodies.proofs.Paths.{Never, IsInBody, Row, body_path}
 use Rattle.pst_sound_bodies.proofs.Apart.{body_rows}
 

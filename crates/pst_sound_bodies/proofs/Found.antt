@@ -1,5 +1,5 @@
 -- The body of an action, where it stands.
-use Rattle.std.proofs.Common.{◌≡◌, inl, inr, refl, sym, ap, subst, ◌∙◌}
+use Rattle.std.proofs.Common.{◌≡◌, inl, inr, refl, ap, subst, ◌∙◌}
 use Rattle.std.specs.Prelude.{List, [], ◌∷◌, Option, Some, None}
 use Rattle.std.specs.List.{filter_map, flat_map}
 use Rattle.std.specs.Option.{option_map, option_or, option_and_then}
@@ -8,7 +8,7 @@ use Rattle.pst_ast.specs.ActivityTree.{ActivityTree}
 use Rattle.pst_ast.specs.BodyTree.{BodyTree}
 use Rattle.pst_ast.specs.DeclarationTree.{UnitTree, ActionPartTree, ActionPartField, ActionPartReference, ActionPartClaim, ActionPartMembers, ActionPartConstraint, ActionPartActivity, ActionPartBody, ActionPartEmpty}
 use Rattle.pst_scope.specs.declared.declaration.Declaration.{Declaration}
-use Rattle.pst_type_rules.specs.Members.{bodies_in, bodies_of}
+use Rattle.pst_type_rules.specs.Members.{bodies_in}
 use Rattle.pst_type_rules.specs.Sites.{DeclaredAction, action_at}
 use Rattle.pst_inherited.specs.Contents.{Content, Activity, Body, activity_in, body_in, first_of, content_in, own_content, last_content}
 use Rattle.pst_sound_expressions.proofs.Members.{In}

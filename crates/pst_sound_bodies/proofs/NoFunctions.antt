@@ -1,6 +1,6 @@
 -- What constraints, activities and bodies declare is no function.
 use Rattle.std.proofs.Common.{◌≡◌, inl, inr, ⊎_elim, refl, subst}
-use Rattle.std.specs.Prelude.{Bool, true, false, List, [], ◌∷◌, ◌++◌, Option, Some, None}
+use Rattle.std.specs.Prelude.{false, List, [], ◌∷◌, ◌++◌, Option, Some, None}
 use Rattle.std.specs.List.{flat_map}
 use Rattle.pst_base.specs.declared.position.Place.{Place}
 use Rattle.pst_ast.specs.declared.shared.LabelNode.{LabelNode}

@@ -1,9 +1,8 @@
 -- The body of an action names no handle.
 use Rattle.std.proofs.Common.{◌≡◌, refl, sym, ap, subst, ◌∙◌}
-use Rattle.std.specs.Prelude.{ℕ, Bool, true, false, List, [], ◌∷◌, map, Option, Some, None}
-use Rattle.std.specs.List.{filter_map}
+use Rattle.std.specs.Prelude.{ℕ, true, false, List, [], ◌∷◌, Option, Some, None}
 use Rattle.std.specs.Option.{option_and_then}
-use Rattle.std.proofs.lemmas.Option.{none-some, same_Some}
+use Rattle.std.proofs.lemmas.Option.{same_Some}
 use Rattle.pst_ast.specs.ExpressionTree.{ExprTree}
 use Rattle.pst_ast.specs.ActivityTree.{StatementTree}
 use Rattle.pst_ast.specs.BodyTree.{BodyTree}
@@ -17,9 +16,9 @@ use Rattle.pst_scope.specs.declared.referent.Traversal.{Traversal}
 use Rattle.pst_scope.specs.declared.referent.PathPart.{PathPart}
 use Rattle.pst_scope.specs.Declarations.{declarations}
 use Rattle.pst_scope.specs.Sorts.{is_handle}
-use Rattle.pst_scope.specs.Lookups.{member_of, traversed, traversed_member, stands_for}
-use Rattle.pst_scope.specs.Uses.{Use, Judges, Reads, InBody, expr_uses, uses}
-use Rattle.pst_type_rules.specs.Handles.{mention, mentions, first_of_path, first_names, IsJudgedBy, ByOwner, IsSteadyIn}
+use Rattle.pst_scope.specs.Lookups.{member_of, traversed, stands_for}
+use Rattle.pst_scope.specs.Uses.{Judges, Reads, InBody, expr_uses, uses}
+use Rattle.pst_type_rules.specs.Handles.{mention, mentions, first_of_path, first_names, ByOwner, IsSteadyIn}
 use Rattle.pst_type_rules.specs.Members.{activities_of, bodies_of, IsCompound, Own, Inherited, IsTwofold, ActivityAndBody}
 use Rattle.pst_type_rules.specs.Sites.{DeclaredAction, action_at}
 use Rattle.pst_type_rules.specs.TypeRules.{TypeBreach, Unsteady, OfDeclaration, Twofold}

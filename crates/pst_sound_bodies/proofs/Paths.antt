@@ -1,9 +1,8 @@
 -- Paths in the bodies of actions.
 use Rattle.std.proofs.Common.{◌≡◌, ◌⊎◌, ◌<◌, inl, inr, refl, sym, ap, subst, ◌∙◌}
-use Rattle.std.specs.Prelude.{ℕ, Bool, true, false, List, [], ◌∷◌, length, Option, Some, None}
+use Rattle.std.specs.Prelude.{ℕ, true, List, [], ◌∷◌, length, Option, Some, None}
 use Rattle.std.specs.List.{find}
 use Rattle.std.specs.Option.{option_or, option_and_then}
-use Rattle.std.proofs.lemmas.Bool.{false≢true}
 use Rattle.std.proofs.lemmas.Option.{none-some, same_Some}
 use Rattle.pst_base.specs.declared.position.Place.{Place}
 use Rattle.pst_base.specs.declared.table.NameId.{NameId}
@@ -12,18 +11,17 @@ use Rattle.pst_model.specs.ConstraintTree.{SlotTree, Index, Local}
 use Rattle.pst_scope.specs.declared.declaration.Declaration.{Declaration}
 use Rattle.pst_scope.specs.declared.declaration.Sort.{Sort}
 use Rattle.pst_scope.specs.declared.declaration.Sort.TheVariants as sort
-use Rattle.pst_scope.specs.declared.environment.Environment.{Environment}
 use Rattle.pst_scope.specs.declared.referent.Owner.TheVariants.{OfAction}
 use Rattle.pst_scope.specs.declared.referent.Referent.{Referent}
 use Rattle.pst_scope.specs.declared.referent.Referent.TheVariants.{Declared, Initial, Previous, Number}
 use Rattle.pst_scope.specs.declared.referent.PathPart.{PathPart}
 use Rattle.pst_scope.specs.Inner.{inner_named}
 use Rattle.pst_scope.specs.Sorts.{is_action, is_handle, same_name, same_place}
-use Rattle.pst_scope.specs.Lookups.{declared_at, referent, owned, item_here, value_behind, value_named, stands_for}
-use Rattle.pst_scope.specs.Paths.{is_head, is_head_sort}
+use Rattle.pst_scope.specs.Lookups.{declared_at, referent, owned, item_here, value_named, stands_for}
+use Rattle.pst_scope.specs.Paths.{is_head}
 use Rattle.pst_inherited.specs.Bases.{number_in}
 use Rattle.pst_terms.specs.Sources.{Sources, declared_in}
-use Rattle.pst_terms.specs.Terms.{Reading, ANumber, AThing, AnArray}
+use Rattle.pst_terms.specs.Terms.{Reading, AThing}
 use Rattle.pst_terms.specs.Readings.{Setting, Turn, AtLevel, is_inner_sort, turn_reading, declared_reading, name_reading, own_reading}
 use Rattle.pst_sound_expressions.specs.Used.{IsGood}
 use Rattle.pst_sound_expressions.proofs.Members.{In, in_find}

@@ -1,6 +1,6 @@
 -- The statements of bodies are sound where their expressions, calls and assignments are.
-use Rattle.std.proofs.Common.{◌≡◌, ◌<◌, inl, inr, refl, sym, subst}
-use Rattle.std.specs.Prelude.{ℕ, ◌+◌, Bool, true, false, List, [], ◌∷◌, ◌++◌, slice_get, All, IfSome, IsSome, Option, Some, None}
+use Rattle.std.proofs.Common.{◌≡◌, ◌<◌, inl, refl, sym, subst}
+use Rattle.std.specs.Prelude.{ℕ, ◌+◌, true, false, List, [], ◌∷◌, ◌++◌, slice_get, All, IfSome, IsSome, Option, Some, None}
 use Rattle.std.specs.List.{flat_map}
 use Rattle.std.specs.Option.{option_map, IsSomeAnd}
 use Rattle.std.proofs.lemmas.List.Elements.{All-nil, All-cons, All-append}

@@ -1,5 +1,5 @@
 -- The parts of a sound model put together.
-use Rattle.std.proofs.Common.{◌≡◌, ◌≤◌, refl, sym, ap, arith, ◌∙◌}
+use Rattle.std.proofs.Common.{◌≡◌, ◌≤◌, refl, ap, arith, ◌∙◌}
 use Rattle.std.specs.Prelude.{ℕ, List, length}
 use Rattle.std.proofs.lemmas.List.{length-map}
 use Rattle.pst_ast.specs.declared.instance.Instance.{Instance}

@@ -1,5 +1,5 @@
 -- Laws of the definitions: the model of sources is sound.
-use Rattle.std.specs.Prelude.{◌≡◌, ℕ, List, map}
+use Rattle.std.specs.Prelude.{ℕ, List, map}
 use Rattle.std.specs.List.{flat_map, AllZip}
 use Rattle.pst_token.specs.declared.token.Token.{Token}
 use Rattle.pst_token.specs.Order.{AreRising}

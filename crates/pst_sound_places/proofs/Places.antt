@@ -1,7 +1,7 @@
 -- Tokens at rising places give each name a place of its own.
-use Rattle.std.proofs.Common.{◌≡◌, ◌⊎◌, ◌<◌, inl, inr, refl, sym, ap, subst, arith, ◌∙◌}
-use Rattle.std.specs.Prelude.{ℕ, zero, suc, Bool, true, false, List, [], ◌∷◌, map, slice_get, Some}
-use Rattle.std.specs.List.{flat_map, Contains}
+use Rattle.std.proofs.Common.{◌≡◌, inl, inr, refl, sym, ap, subst, arith, ◌∙◌}
+use Rattle.std.specs.Prelude.{ℕ, zero, suc, true, false, List, [], ◌∷◌, map, slice_get, Some}
+use Rattle.std.specs.List.{flat_map}
 use Rattle.std.proofs.lemmas.Bool.{false≢true}
 use Rattle.std.proofs.lemmas.Option.{none-some, same_Some}
 use Rattle.pst_base.specs.declared.position.Place.{Place}
@@ -11,8 +11,7 @@ use Rattle.pst_token.specs.Order.{AreRising}
 use Rattle.pst_ast.specs.DeclarationTree.{UnitTree}
 use Rattle.pst_ast.specs.DeclarationSpelling.{spell_unit}
 use Rattle.pst_scope.specs.declared.declaration.Declaration.{Declaration}
-use Rattle.pst_scope.specs.declared.declaration.Scope.{Scope}
-use Rattle.pst_scope.specs.declared.declaration.Scope.TheVariants.{Files, Part}
+use Rattle.pst_scope.specs.declared.declaration.Scope.TheVariants.{Part}
 use Rattle.pst_scope.specs.Declarations.{declarations}
 use Rattle.pst_terms.specs.Readings.{is_inner_sort}
 use Rattle.pst_sound_expressions.specs.Conditions.{HaveOwnPlaces}

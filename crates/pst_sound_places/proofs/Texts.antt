@@ -5,29 +5,27 @@ use Rattle.std.specs.List.{flat_map}
 use Rattle.pst_base.specs.declared.position.Place.{Place}
 use Rattle.pst_token.specs.declared.kind.Kind.TheVariants as kind
 use Rattle.pst_token.specs.declared.token.Token.{Token}
-use Rattle.pst_ast.specs.declared.leaf.Name.{Name}
 use Rattle.pst_ast.specs.declared.shared.LabelNode.{LabelNode}
 use Rattle.pst_ast.specs.declared.shared.NextName.{NextName}
-use Rattle.pst_ast.specs.declared.shared.TypeName.{TypeName}
-use Rattle.pst_ast.specs.Marks.{mark, name_token, spell_option}
-use Rattle.pst_ast.specs.ExpressionTree.{ExprTree, PartTree, MakePart}
+use Rattle.pst_ast.specs.Marks.{mark, spell_option}
+use Rattle.pst_ast.specs.ExpressionTree.{PartTree, MakePart}
 use Rattle.pst_ast.specs.ExpressionSpelling.{spell_expr, spell_part}
 use Rattle.pst_ast.specs.SharedTree.{NamesTree, MakeNames}
-use Rattle.pst_ast.specs.SharedSpelling.{spell_next_expr, spell_next_name, spell_dot_name, spell_names, spell_label, spell_type_name, spell_plain, spell_type}
+use Rattle.pst_ast.specs.SharedSpelling.{spell_next_name, spell_dot_name, spell_names, spell_label, spell_type_name, spell_plain, spell_type}
 use Rattle.pst_ast.specs.ConstraintTree.{ConstraintTree, ConstraintOne, ConstraintBlock, ConstraintItemTree, ConstraintItemEmpty, ConstraintItemExpr, ConstraintItemImplies, ConstraintItemIf, ConstraintItemIfElse, ConstraintItemUnique, ConstraintItemForeach, ConstraintItemRow, NoConstraintItemRow, MoreConstraintItemRow, ConstraintContentNamed, ConstraintContentSet, ConstraintDeclarationTree, MakeConstraintDeclaration}
 use Rattle.pst_ast.specs.ConstraintSpelling.{spell_constraint, spell_constraint_item, spell_constraint_item_row, spell_constraint_declaration}
 use Rattle.pst_ast.specs.ActivityTree.{WithTree, WithNothing, WithSet, StatementTree, StatementEmpty, StatementLabeled, StatementPlain, CoreTree, CoreDo, CoreHandle, CoreSequence, CoreTogether, CoreSelect, CoreRepeat, CoreIf, CoreIfElse, CoreMatch, CoreBind, BranchTree, MakeBranch, ArmTree, MakeArm, StatementRow, NoStatementRow, MoreStatementRow, BranchRow, NoBranchRow, MoreBranchRow, ArmRow, NoArmRow, MoreArmRow, ActivityTree, MakeActivity}
 use Rattle.pst_ast.specs.ActivitySpelling.{spell_with, spell_join, spell_bind, spell_guard, spell_arm_label, spell_statement, spell_core, spell_branch, spell_arm, spell_statement_row, spell_branch_row, spell_arm_row, spell_activity}
 use Rattle.pst_ast.specs.BodyTree.{BodyStatementTree, BodyStatementEmpty, BodyStatementLocal, BodyStatementAssign, BodyStatementCall, BodyStatementBlock, BodyStatementIf, BodyStatementIfElse, BodyStatementRepeat, BodyStatementRow, NoBodyStatementRow, MoreBodyStatementRow, BodyTree, MakeBody}
 use Rattle.pst_ast.specs.BodySpelling.{spell_value, spell_body_statement, spell_body_statement_row, spell_body}
-use Rattle.pst_ast.specs.DeclarationTree.{UnitTree, MakeUnit, ItemTree, ItemComponent, ItemObject, ItemEnum, ItemFunction, ItemEmpty, MakeComponent, ComponentPartTree, ComponentPartAction, ComponentPartObject, ComponentPartEnum, ComponentPartFunction, ComponentPartPool, ComponentPartPoolBind, ComponentPartMembers, ComponentPartEmpty, ObjectTree, MakeObject, ObjectPartTree, ObjectPartField, ObjectPartConstraint, ObjectPartEmpty, FieldTree, MakeField, NextFieldTree, MakeNextField, EnumTree, MakeEnum, EnumItemTree, MakeEnumItem, NextEnumItemTree, MakeNextEnumItem, FunctionTree, MakeFunction, ParameterTree, MakeParameter, NextParameterTree, MakeNextParameter, ParametersTree, MakeParameters, MakePool, MembersTree, MakeMembers, MakeReference, MakeClaim, ActionTree, MakeAction, ActionPartTree, ActionPartField, ActionPartReference, ActionPartClaim, ActionPartMembers, ActionPartConstraint, ActionPartActivity, ActionPartBody, ActionPartEmpty}
-use Rattle.pst_ast.specs.DeclarationSpelling.{spell_base, spell_next_field, spell_field, spell_members, spell_action_part, spell_action, spell_object_part, spell_object, spell_enum_value, spell_enum_item, spell_next_enum_item, spell_enum, spell_answer, spell_parameter, spell_next_parameter, spell_parameters, spell_function, spell_size, spell_component_part, spell_component, spell_item, spell_unit}
+use Rattle.pst_ast.specs.DeclarationTree.{UnitTree, MakeUnit, ItemTree, ItemComponent, ItemObject, ItemEnum, ItemFunction, ItemEmpty, MakeComponent, ComponentPartTree, ComponentPartAction, ComponentPartObject, ComponentPartEnum, ComponentPartFunction, ComponentPartPool, ComponentPartPoolBind, ComponentPartMembers, ComponentPartEmpty, ObjectTree, MakeObject, ObjectPartTree, ObjectPartField, ObjectPartConstraint, ObjectPartEmpty, FieldTree, MakeField, NextFieldTree, MakeNextField, EnumTree, MakeEnum, EnumItemTree, MakeEnumItem, NextEnumItemTree, MakeNextEnumItem, FunctionTree, MakeFunction, ParameterTree, MakeParameter, NextParameterTree, MakeNextParameter, ParametersTree, MakeParameters, MakePool, MakeMembers, MakeReference, MakeClaim, ActionTree, MakeAction, ActionPartTree, ActionPartField, ActionPartReference, ActionPartClaim, ActionPartMembers, ActionPartConstraint, ActionPartActivity, ActionPartBody, ActionPartEmpty}
+use Rattle.pst_ast.specs.DeclarationSpelling.{spell_base, spell_next_field, spell_field, spell_action_part, spell_action, spell_object_part, spell_object, spell_enum_value, spell_enum_item, spell_next_enum_item, spell_enum, spell_answer, spell_parameter, spell_next_parameter, spell_parameters, spell_function, spell_size, spell_component_part, spell_item, spell_unit}
 use Rattle.pst_scope.specs.declared.declaration.Declaration.{Declaration}
 use Rattle.pst_scope.specs.declared.declaration.Sort.{Sort}
 use Rattle.pst_scope.specs.declared.declaration.Sort.TheVariants as sort
-use Rattle.pst_scope.specs.Declarations.{member, level_of, type_declared, index, local, index_of, in_set, in_item, in_item_row, in_with, in_statement, in_core, in_branch, in_arm, in_statement_row, in_branch_row, in_arm_row, in_activity, in_body_statement, in_body_row, in_body, field_part, next_field_part, in_field, is_output, names_of, in_members, in_constraint, in_action_part, in_object_part, action_declared, in_action, in_object, item_name, next_item, in_enum, parameter_name, next_parameter, parameters_of, in_function, in_component_part, in_item_of_unit, in_unit, declarations}
+use Rattle.pst_scope.specs.Declarations.{member, level_of, type_declared, index, local, index_of, in_set, in_item, in_item_row, in_with, in_statement, in_core, in_branch, in_arm, in_statement_row, in_branch_row, in_arm_row, in_activity, in_body_statement, in_body_row, in_body, field_part, next_field_part, in_field, is_output, names_of, in_constraint, in_action_part, in_object_part, action_declared, in_action, in_object, item_name, next_item, in_enum, parameter_name, next_parameter, parameters_of, in_function, in_component_part, in_item_of_unit, in_unit, declarations}
 use Rattle.pst_terms.specs.Readings.{is_inner_sort}
-use Rattle.pst_sound_places.proofs.Laid.{IsLaid, IsScoped, laid_none, laid_skip, laid_one, laid_more, laid_both, laid_name, laid_outer, laid_flat, laid_scope}
+use Rattle.pst_sound_places.proofs.Laid.{IsLaid, laid_none, laid_skip, laid_one, laid_more, laid_both, laid_name, laid_outer, laid_flat, laid_scope}
 
 abbrev pub Nowhere : Place → Type 0
 Nowhere = λ p. ⊥

@@ -1,11 +1,10 @@
 -- Instances lead where their declarations do.
-use Rattle.std.proofs.Common.{◌≡◌, inl, inr, refl, sym, ap, subst, arith, ◌∙◌}
-use Rattle.std.specs.Prelude.{ℕ, zero, suc, ◌+◌, nat_eq, Bool, true, false, not, ◌&&◌, List, [], ◌∷◌, position, slice_get, get_or, Option, Some, None, option_and_then, if◌then◌else◌}
+use Rattle.std.proofs.Common.{◌≡◌, refl, sym, ap, subst, ◌∙◌}
+use Rattle.std.specs.Prelude.{ℕ, Bool, true, false, ◌&&◌, List, [], ◌∷◌, position, slice_get, get_or, Option, Some, None, option_and_then, if◌then◌else◌}
 use Rattle.std.proofs.lemmas.Bool.{false≢true, eqb-true}
 use Rattle.std.proofs.lemmas.Option.{none-some, same_Some, slice_get-get_or}
 use Rattle.std.proofs.lemmas.List.Quantifiers.{position-Some}
 use Rattle.pst_base.specs.declared.position.Place.{Place}
-use Rattle.pst_base.specs.declared.table.NameId.{NameId}
 use Rattle.pst_ast.specs.declared.leaf.Name.{Name}
 use Rattle.pst_ast.specs.declared.instance.Instance.{Instance}
 use Rattle.pst_ast.specs.DeclarationTree.{UnitTree}
@@ -20,14 +19,14 @@ use Rattle.pst_scope.specs.Lookups.{look_up, if_sort, type_of}
 use Rattle.pst_scope.specs.Paths.{and_then}
 use Rattle.pst_scope.specs.NameRules.{NameBreach, named_in, or_breaks, named_within, along}
 use Rattle.pst_scope.specs.Sorts.{is_instance, same_name, same_scope}
-use Rattle.pst_tree.specs.Instances.{instances_in, AreInstances}
+use Rattle.pst_tree.specs.Instances.{AreInstances}
 use Rattle.pst_bind.specs.Pools.{component_of, component_at}
 use Rattle.pst_bind.specs.Serving.{is_parent, child_named, led_to}
 use Rattle.pst_sound_expressions.specs.Conditions.{HaveOwnPlaces}
 use Rattle.pst_sound_expressions.proofs.Members.{In, in_filter}
 use Rattle.pst_sound_expressions.proofs.Owned.{both_true}
 use Rattle.pst_sound_names.proofs.Named.{found_as, same_names, same_scopes}
-use Rattle.pst_sound_served.proofs.Tree.{HasParent, parent_is}
+use Rattle.pst_sound_served.proofs.Tree.{parent_is}
 
 -- ---- positions
 

@@ -1,7 +1,7 @@
 -- What pools serve is of their object types.
-use Rattle.std.proofs.Common.{◌≡◌, ◌≢◌, ◌⊎◌, ◌<◌, inl, inr, refl, sym, ap, subst, arith, ◌∙◌}
-use Rattle.std.specs.Prelude.{ℕ, zero, suc, nat_eq, Bool, true, false, not, ◌&&◌, List, [], ◌∷◌, ◌++◌, map, length, slice_get, All, Option, Some, None, option_and_then, if◌then◌else◌}
-use Rattle.std.specs.List.{filter, filter_map, flat_map, enumerate_from, list_any}
+use Rattle.std.proofs.Common.{◌≡◌, ◌≢◌, ◌⊎◌, inl, inr, refl, sym, ap, subst, arith, ◌∙◌}
+use Rattle.std.specs.Prelude.{ℕ, nat_eq, Bool, true, false, not, ◌&&◌, List, [], ◌∷◌, ◌++◌, map, length, slice_get, All, Option, Some, None, option_and_then, if◌then◌else◌}
+use Rattle.std.specs.List.{filter, flat_map, enumerate_from, list_any}
 use Rattle.std.specs.Option.{option_map, option_map_or}
 use Rattle.std.specs.Option.{IsSomeAnd}
 use Rattle.std.proofs.lemmas.Bool.{false≢true, eqb-true}
@@ -14,56 +14,52 @@ use Rattle.pst_ast.specs.declared.instance.Instance.{Instance}
 use Rattle.pst_ast.specs.DeclarationTree.{UnitTree}
 use Rattle.pst_expr.specs.declared.ranges.Span.{Span}
 use Rattle.pst_model.specs.declared.model.Pool.{Pool}
-use Rattle.pst_model.specs.declared.model.Serve.{Serve}
 use Rattle.pst_model.specs.declared.action.Reference.{Reference}
 use Rattle.pst_model.specs.declared.action.Claim.{Claim}
-use Rattle.pst_model.specs.ModelTree.{ActionTree, ModelTree}
+use Rattle.pst_model.specs.ModelTree.{ModelTree}
 use Rattle.pst_model.specs.Served.{objects_of, IsSoundServe}
 use Rattle.pst_scope.specs.Breaches.{IsNone}
 use Rattle.pst_scope.specs.declared.declaration.Declaration.{Declaration}
-use Rattle.pst_scope.specs.declared.declaration.Scope.{Scope}
 use Rattle.pst_scope.specs.declared.declaration.Scope.TheVariants.{Files, Part}
 use Rattle.pst_scope.specs.declared.declaration.Sort.{Sort}
 use Rattle.pst_scope.specs.declared.declaration.Sort.TheVariants as sort
 use Rattle.pst_scope.specs.declared.referent.Checked.{Checked}
 use Rattle.pst_scope.specs.declared.referent.Checked.TheVariants.{Is, Breaks}
-use Rattle.pst_scope.specs.declared.referent.Finding.{Finding}
 use Rattle.pst_scope.specs.declared.referent.Target.{Target}
 use Rattle.pst_scope.specs.Declarations.{level_of, declarations}
 use Rattle.pst_scope.specs.Lookups.{look_up, declared_at, if_sort, member_of, type_of}
 use Rattle.pst_scope.specs.Paths.{and_then}
-use Rattle.pst_scope.specs.NameRules.{NameBreach, finding, found, named_in, named_within, or_breaks, along, target_of, use_finding}
-use Rattle.pst_scope.specs.Sorts.{is_action, is_component, is_object, is_pool, is_reference, is_claim, is_need, same_name, same_place}
+use Rattle.pst_scope.specs.NameRules.{NameBreach, found, named_in, named_within, or_breaks, along, target_of}
+use Rattle.pst_scope.specs.Sorts.{is_action, is_object, is_pool, is_reference, is_claim, is_need, same_name, same_place}
 use Rattle.pst_scope.specs.Uses.{Use, Judges, HasPlain, HasType, Uniques, Branches, Arms, Performs, Ties, Passes, Reads, Repeats, TakesItem, NamesType, NamesBase, Calls, Assigns, Traverses, Ends, Joins, Binds, Targets, uses}
 use Rattle.pst_type_rules.specs.Members.{those_that}
 use Rattle.pst_type_rules.specs.TypeRules.{first_name, TypeBreach, OfUse, OtherObject}
 use Rattle.pst_type_rules.specs.declared.typed.ConstantValue.{ConstantValue}
 use Rattle.pst_type_rules.specs.Typed.{AreConstants}
-use Rattle.pst_inherited.specs.Bases.{members, members_that, references_of, claims_of, needs_of, object_number}
-use Rattle.pst_tree.specs.Instances.{AreInstances, part_of, parts_of}
-use Rattle.pst_pool_binds.specs.PoolBinds.{ExplicitBind, DefaultBind, explicit_of, explicit_binds, default_binds}
+use Rattle.pst_inherited.specs.Bases.{members, references_of, claims_of, needs_of, object_number}
+use Rattle.pst_tree.specs.Instances.{AreInstances, part_of}
+use Rattle.pst_pool_binds.specs.PoolBinds.{ExplicitBind, explicit_of, explicit_binds, default_binds}
 use Rattle.pst_bind.specs.declared.pool_map.Served.{Served}
 use Rattle.pst_bind.specs.Pools.{component_of, component_at, pools, pool_number}
 use Rattle.pst_bind.specs.Serving.{with_those_above, led_to, stands_in, pool_bound, leads_to, names_just, explicit_in, is_same, is_of_type, default_in, first_filled, candidates, only_one, serving_pool}
 use Rattle.pst_bind.specs.Needs.{Need, is_performed, numbered_actions, is_there, is_home, homes_of, needs_in, needs, served_by, serving, served}
-use Rattle.pst_terms.specs.Sources.{Sources, declared_in}
+use Rattle.pst_terms.specs.Sources.{Sources}
 use Rattle.pst_elab_rules.specs.Model.{model_pool, serve_of, sources, model_by, IsModel}
 use Rattle.pst_elab_rules.specs.Types.{object_of, reference, claim, model_action, model_actions}
 use Rattle.pst_sound_expressions.specs.Conditions.{HaveOwnPlaces}
 use Rattle.pst_sound_expressions.proofs.Members.{In, in_get, in_filter, in_map, in_append, in_flat_map, in_numbered, to_contains}
 use Rattle.pst_sound_expressions.proofs.Owned.{both_true, looked_up, those_declared, member_declared}
-use Rattle.pst_sound_expressions.proofs.ActionRows.{type_declared, some_and, got_map, object_of_typed}
+use Rattle.pst_sound_expressions.proofs.ActionRows.{type_declared, some_and, got_map}
 use Rattle.pst_sound_expressions.proofs.ConstantsIn.{same_places}
 use Rattle.pst_sound_expressions.proofs.Facts.{AreFacts}
 use Rattle.pst_sound_expressions.proofs.FactsOf.{facts_of}
 use Rattle.pst_sound_expressions.proofs.Plain.{in_filter_map}
 use Rattle.pst_sound_types.proofs.NeedsSound.{all_in}
-use Rattle.pst_sound_types.proofs.PoolsSound.{IsPoolOf, pool_is, pool_object}
-use Rattle.pst_sound_types.proofs.Typed.{nothing_found, reference_typed, claim_typed, declared_action}
+use Rattle.pst_sound_types.proofs.PoolsSound.{pool_is, pool_object}
+use Rattle.pst_sound_types.proofs.Typed.{nothing_found, reference_typed, claim_typed}
 use Rattle.pst_sound_names.proofs.Levels.{IsLevelled, Inner, OfFiles, AtLevel, levelled}
 use Rattle.pst_sound_names.proofs.Named.{same_names, same_place_itself, action_outer, one_place, placed, member_named}
-use Rattle.pst_sound_served.proofs.Tree.{of_component}
-use Rattle.pst_sound_served.proofs.Leads.{at_position, and_then_gave, sort_gave, is_same as same_checked, no_break, checked_gave, or_gave, named_is, IsReached, leads}
+use Rattle.pst_sound_served.proofs.Leads.{at_position, and_then_gave, sort_gave, is_same as same_checked, checked_gave, or_gave, named_is, leads}
 
 -- ---- the targets of binds
 

@@ -1,6 +1,6 @@
 -- Each instance is of a declared component, and stands where its parent's component declares it.
 use Rattle.std.proofs.Common.{◌≡◌, ◌⊎◌, inl, inr, refl, sym, ap, subst, arith, ◌∙◌}
-use Rattle.std.specs.Prelude.{ℕ, ◌+◌, Bool, true, false, ◌&&◌, List, [], ◌∷◌, ◌++◌, length, slice_get, codes, Option, Some, None, option_and_then}
+use Rattle.std.specs.Prelude.{ℕ, ◌+◌, true, ◌&&◌, List, ◌∷◌, ◌++◌, length, slice_get, codes, Option, Some, None, option_and_then}
 use Rattle.std.proofs.lemmas.Bool.{false≢true}
 use Rattle.std.proofs.lemmas.Option.{none-some, same_Some}
 use Rattle.pst_base.specs.declared.table.NameId.{NameId}
@@ -12,10 +12,10 @@ use Rattle.pst_scope.specs.declared.declaration.Scope.TheVariants.{Files, Part}
 use Rattle.pst_scope.specs.declared.declaration.Sort.{Sort}
 use Rattle.pst_scope.specs.declared.declaration.Sort.TheVariants as sort
 use Rattle.pst_scope.specs.Declarations.{declarations}
-use Rattle.pst_scope.specs.Lookups.{look_up, is_type_for, type_of, is_text}
+use Rattle.pst_scope.specs.Lookups.{is_type_for, type_of, is_text}
 use Rattle.pst_scope.specs.NameRules.{NameBreach, is_root_component}
 use Rattle.pst_scope.specs.Sorts.{is_component, is_instance, same_scope}
-use Rattle.pst_tree.specs.Instances.{instances_in, instance, root_of, IsSubtree, Subtree, AreSubtrees, NoSubtree, MoreSubtrees, AreInstances}
+use Rattle.pst_tree.specs.Instances.{instances_in, instance, IsSubtree, Subtree, AreSubtrees, NoSubtree, MoreSubtrees, AreInstances}
 use Rattle.pst_tree.proofs.LaidOut.{Stands, in_front, behind_it, one_of_both, from_get, to_get}
 use Rattle.pst_bind.specs.Pools.{component_of, component_at}
 use Rattle.pst_terms.specs.Readings.{is_inner_sort}

@@ -6,7 +6,6 @@ use Rattle.std.specs.Option.{option_map_or}
 use Rattle.std.proofs.lemmas.List.Elements.{All-nil, All-map, All-append}
 use Rattle.std.proofs.lemmas.Option.{none-some, same_Some}
 use Rattle.pst_base.specs.declared.position.Place.{Place}
-use Rattle.pst_base.specs.declared.table.NameId.{NameId}
 use Rattle.pst_ast.specs.declared.leaf.Name.{Name}
 use Rattle.pst_ast.specs.ExpressionTree.{PathTree, PathDotted, PathItem, PathLongItem}
 use Rattle.pst_ast.specs.ConstraintTree.{ConstraintDeclarationTree}
@@ -31,16 +30,16 @@ use Rattle.pst_scope.specs.declared.referent.PathReferent.{PathReferent}
 use Rattle.pst_scope.specs.declared.referent.Checked.{Checked}
 use Rattle.pst_scope.specs.declared.referent.Checked.TheVariants.{Is, Breaks}
 use Rattle.pst_scope.specs.Declarations.{action_declared, index, in_action_part, declarations}
-use Rattle.pst_scope.specs.Lookups.{type_of, value_named, stands_for, member_of}
+use Rattle.pst_scope.specs.Lookups.{value_named, stands_for}
 use Rattle.pst_scope.specs.NameRules.{NameBreach, Reaches, item_by}
 use Rattle.pst_scope.specs.Paths.{is_value, read_path}
 use Rattle.pst_scope.specs.Sorts.{is_action, is_handle, same_place}
-use Rattle.pst_scope.specs.Uses.{Use, Judges, Reads, Constrains, part_of, parts_of, path_uses, action_part_uses, uses, environment}
+use Rattle.pst_scope.specs.Uses.{Judges, Reads, Constrains, part_of, parts_of, path_uses, action_part_uses, environment}
 use Rattle.pst_type_rules.specs.Handles.{mention, is_member_constraint, ByDerived}
 use Rattle.pst_type_rules.specs.Members.{those_that}
 use Rattle.pst_type_rules.specs.Sites.{DeclaredAction, actions, action_at}
 use Rattle.pst_type_rules.specs.TypeRules.{TypeBreach}
-use Rattle.pst_inherited.specs.Bases.{with_bases, handles_of, handle_number}
+use Rattle.pst_inherited.specs.Bases.{with_bases, handle_number}
 use Rattle.pst_inherited.specs.Contents.{Content, Activity, Body, content_of}
 use Rattle.pst_terms.specs.Sources.{Sources, declared_in}
 use Rattle.pst_terms.specs.Terms.{Term}

@@ -1,13 +1,12 @@
 -- Handles that are named in constraints, inline constraints and binds are traversed once in the model.
 use Rattle.std.proofs.Common.{◌≡◌, ◌⊎◌, ◌≤◌, inl, inr, refl, sym, ap, subst, arith, ◌∙◌}
-use Rattle.std.specs.Prelude.{ℕ, zero, suc, Bool, true, false, List, [], ◌∷◌, ◌++◌, length, Option, Some, None}
+use Rattle.std.specs.Prelude.{ℕ, zero, suc, Bool, true, false, List, [], ◌∷◌, length, Option, Some, None}
 use Rattle.std.specs.List.{filter_map, flat_map}
 use Rattle.std.specs.Option.{option_map_or}
-use Rattle.std.proofs.lemmas.Option.{same_Some}
 use Rattle.pst_base.specs.declared.position.Place.{Place}
 use Rattle.pst_base.specs.declared.table.NameId.{NameId}
 use Rattle.pst_ast.specs.ActivityTree.{StatementTree, ActivityTree, MakeActivity}
-use Rattle.pst_ast.specs.DeclarationTree.{UnitTree, ActionPartTree, ActionPartActivity}
+use Rattle.pst_ast.specs.DeclarationTree.{ActionPartActivity}
 use Rattle.pst_model.specs.ActivityTree.{StepTree}
 use Rattle.pst_model.specs.SoundSlots.{activity_of}
 use Rattle.pst_model.specs.Traversals as model
@@ -17,14 +16,14 @@ use Rattle.pst_scope.specs.declared.environment.Environment.{Environment}
 use Rattle.pst_scope.specs.declared.referent.Owner.TheVariants.{OfAction}
 use Rattle.pst_scope.specs.declared.referent.Referent.TheVariants.{Declared}
 use Rattle.pst_scope.specs.declared.referent.PathPart.{PathPart}
-use Rattle.pst_scope.specs.Declarations.{action_declared, in_statement, in_action_part, declarations}
+use Rattle.pst_scope.specs.Declarations.{action_declared, in_statement, declarations}
 use Rattle.pst_scope.specs.Lookups.{base_of, stands_for}
 use Rattle.pst_scope.specs.NameRules.{NameBreach, Reaches}
 use Rattle.pst_scope.specs.Sorts.{is_action, is_handle, same_place}
 use Rattle.pst_scope.specs.Uses.{Use, Judges, Reads, Constrains, statement_uses, action_part_uses, expr_uses, uses, environment}
 use Rattle.pst_type_rules.specs.Handles.{traversals, IsSteady, IsSteadyIn, Mention, mention, first_of_path, first_names, is_member_constraint, mentions, IsJudgedBy}
 use Rattle.pst_type_rules.specs.Members.{IsOrDerives, Itself, Derives}
-use Rattle.pst_type_rules.specs.Sites.{DeclaredAction, actions, action_at}
+use Rattle.pst_type_rules.specs.Sites.{actions, action_at}
 use Rattle.pst_type_rules.specs.TypeRules.{TypeBreach, Unsteady}
 use Rattle.pst_inherited.specs.Bases.{bases_within, with_bases, handles_of, handle_number}
 use Rattle.pst_inherited.specs.Contents.{Content, Activity, content_of}
@@ -35,12 +34,12 @@ use Rattle.pst_sound_expressions.specs.Conditions.{HaveOwnPlaces}
 use Rattle.pst_sound_expressions.proofs.Members.{In, in_find, in_append, to_map, to_contains}
 use Rattle.pst_sound_expressions.proofs.Facts.{AreFacts}
 use Rattle.pst_sound_expressions.proofs.SetTerms.{IsUsed, AreUses, AreDeclared}
-use Rattle.pst_sound_expressions.proofs.Walks.{IsActionAt, action_stands}
+use Rattle.pst_sound_expressions.proofs.Walks.{action_stands}
 use Rattle.pst_sound_expressions.proofs.ActionReadings.{bases_are_actions}
 use Rattle.pst_sound_types.proofs.ServedWhole.{to_filter_map}
 use Rattle.pst_sound_steady.proofs.Numbers.{number_derived}
 use Rattle.pst_sound_steady.proofs.Tally.{tally, once, Alike}
-use Rattle.pst_sound_steady.proofs.Texts.{IsTextOf, content_stands, own_content_is, compound_content}
+use Rattle.pst_sound_steady.proofs.Texts.{content_stands, own_content_is, compound_content}
 use Rattle.pst_sound_steady.proofs.Traversing.{IsText, statements_same}
 
 -- ---- bases

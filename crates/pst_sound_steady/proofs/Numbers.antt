@@ -1,6 +1,6 @@
 -- The handles of an action and of its bases, by name and by number.
-use Rattle.std.proofs.Common.{◌≡◌, inl, inr, refl, sym, ap, subst, ◌∙◌}
-use Rattle.std.specs.Prelude.{ℕ, Bool, true, false, nat_eq, List, [], ◌∷◌, slice_get, Option, Some, None}
+use Rattle.std.proofs.Common.{◌≡◌, refl, sym, ap, subst, ◌∙◌}
+use Rattle.std.specs.Prelude.{ℕ, Bool, true, false, nat_eq, List, slice_get, Option, Some, None}
 use Rattle.std.specs.Option.{option_map_or}
 use Rattle.std.proofs.lemmas.Bool.{false≢true, eqb-true, eq-eqb}
 use Rattle.std.proofs.lemmas.Option.{none-some, same_Some}

@@ -1,6 +1,6 @@
 -- Where the activity of an action stands, and that it is the one by the rules.
-use Rattle.std.proofs.Common.{◌≡◌, inl, inr, refl, sym, ap, subst, ◌∙◌}
-use Rattle.std.specs.Prelude.{ℕ, true, List, [], ◌∷◌, ◌++◌, Option, Some, None}
+use Rattle.std.proofs.Common.{◌≡◌, inl, inr, refl, sym, ap, ◌∙◌}
+use Rattle.std.specs.Prelude.{List, [], ◌∷◌, ◌++◌, Option, Some, None}
 use Rattle.std.specs.List.{filter_map, flat_map}
 use Rattle.std.specs.Option.{option_map, option_or, option_and_then}
 use Rattle.std.proofs.lemmas.Option.{none-some, same_Some}
@@ -12,7 +12,7 @@ use Rattle.pst_scope.specs.declared.declaration.Declaration.{Declaration}
 use Rattle.pst_scope.specs.Declarations.{declarations}
 use Rattle.pst_scope.specs.Lookups.{base_of}
 use Rattle.pst_scope.specs.NameRules.{Reaches}
-use Rattle.pst_type_rules.specs.Members.{activities_in, bodies_in, activities_of, bodies_of, IsCompound, Own, Inherited}
+use Rattle.pst_type_rules.specs.Members.{activities_in, bodies_in, IsCompound, Own, Inherited}
 use Rattle.pst_type_rules.specs.Sites.{DeclaredAction, action_at}
 use Rattle.pst_inherited.specs.Bases.{with_bases}
 use Rattle.pst_inherited.specs.Contents.{Content, Activity, Body, activity_in, body_in, first_of, content_in, own_content, last_content, content_of}

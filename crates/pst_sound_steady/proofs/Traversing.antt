@@ -7,33 +7,27 @@ use Rattle.std.proofs.lemmas.List.{append-nil}
 use Rattle.pst_base.specs.declared.position.Place.{Place}
 use Rattle.pst_base.specs.declared.table.NameId.{NameId}
 use Rattle.pst_ast.specs.declared.leaf.Name.{Name}
-use Rattle.pst_ast.specs.declared.shared.LabelNode.{LabelNode}
 use Rattle.pst_ast.specs.declared.activity.TogetherWord.{TogetherWord}
 use Rattle.pst_ast.specs.declared.activity.TogetherWord.TheVariants as together
 use Rattle.pst_ast.specs.ActivityTree.{JoinTree, ArmLabelTree, ArmLabelRanges, ArmLabelDefault, StatementTree, StatementEmpty, StatementLabeled, StatementPlain, CoreTree, CoreDo, CoreHandle, CoreSequence, CoreTogether, CoreSelect, CoreRepeat, CoreIf, CoreIfElse, CoreMatch, CoreBind, BranchTree, MakeBranch, ArmTree, MakeArm, StatementRow, NoStatementRow, MoreStatementRow, BranchRow, NoBranchRow, MoreBranchRow, ArmRow, NoArmRow, MoreArmRow}
-use Rattle.pst_ast.specs.DeclarationTree.{UnitTree}
-use Rattle.pst_model.specs.ActivityTree.{StepTree, Sequence, StepRow, NoSteps, MaybeStep, NoStep, SomeStep}
+use Rattle.pst_model.specs.ActivityTree.{StepTree, StepRow, MaybeStep}
 use Rattle.pst_model.specs.ActivityTree as step
 use Rattle.pst_model.specs.Traversals as model
 use Rattle.pst_scope.specs.Breaches.{IsNone}
 use Rattle.pst_scope.specs.declared.declaration.Declaration.{Declaration}
-use Rattle.pst_scope.specs.declared.declaration.Sort.TheVariants as sort
 use Rattle.pst_scope.specs.declared.environment.Environment.{Environment}
 use Rattle.pst_scope.specs.declared.referent.Owner.{Owner}
 use Rattle.pst_scope.specs.declared.referent.Owner.TheVariants.{OfAction}
 use Rattle.pst_scope.specs.declared.referent.Referent.{Referent}
-use Rattle.pst_scope.specs.declared.referent.Referent.TheVariants.{Declared}
-use Rattle.pst_scope.specs.Declarations.{declarations, index, index_of, in_statement, in_core, in_branch, in_arm, in_statement_row, in_branch_row, in_arm_row}
-use Rattle.pst_scope.specs.Lookups.{value_named}
+use Rattle.pst_scope.specs.Declarations.{declarations, index, in_statement, in_core, in_branch, in_arm, in_statement_row, in_branch_row, in_arm_row}
 use Rattle.pst_scope.specs.NameRules.{NameBreach, Reaches, unless, is_handle_name}
-use Rattle.pst_scope.specs.Sorts.{is_handle, same_name}
-use Rattle.pst_scope.specs.Uses.{Use, Traverses, Branches, Condition, Arms, Judges, by_handle, with_inner, with_index, with_uses, option_uses, whole_uses, guard_uses, branch_places, join_uses, labels_in, branches_in, core_place, arm_label, arm_labels, arm_label_uses, performed, statement_uses, core_uses, branch_uses, arm_uses, statement_row_uses, branch_row_uses, arm_row_uses, uses}
+use Rattle.pst_scope.specs.Sorts.{same_name}
+use Rattle.pst_scope.specs.Uses.{Use, Traverses, Branches, Condition, with_inner, with_index, option_uses, whole_uses, guard_uses, branch_places, join_uses, labels_in, branches_in, core_place, arm_label_uses, performed, statement_uses, core_uses, branch_uses, arm_uses, statement_row_uses, branch_row_uses, arm_row_uses, uses}
 use Rattle.pst_type_rules.specs.Handles.{traversals, core_traversals, row_traversals, branch_traversals, branch_row_traversals, arm_traversals, arm_row_traversals}
 use Rattle.pst_inherited.specs.Bases.{with_bases, handles_of, handle_number}
 use Rattle.pst_terms.specs.Sources.{Sources, declared_in}
-use Rattle.pst_terms.specs.Readings.{Setting, AtLevel}
-use Rattle.pst_elab_rules.specs.Steps.{handle_in, handle_named, handle_number_in, handle_of, by_name, one_step, more_steps, together_step, guard_of, weight_of, turn_setting, add_arm, statement_step, core_step, row_steps, branch_step, branch_steps, arm_row, arm_rows, default_of, default_in}
-use Rattle.pst_elab_rules.specs.Spans.{range_spans}
+use Rattle.pst_terms.specs.Readings.{Setting}
+use Rattle.pst_elab_rules.specs.Steps.{handle_in, handle_number_in, handle_of, one_step, more_steps, together_step, turn_setting, statement_step, core_step, row_steps, branch_step, branch_steps, arm_row, arm_rows, default_of, default_in}
 use Rattle.pst_sound_expressions.specs.Conditions.{HaveOwnPlaces}
 use Rattle.pst_sound_expressions.proofs.Members.{In, to_left, to_right}
 use Rattle.pst_sound_expressions.proofs.Meanings.{AreIndices}

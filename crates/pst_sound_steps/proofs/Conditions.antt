@@ -1,14 +1,11 @@
 -- Conditions, guards, counts and matched values of activities name fields of their own action and indices.
-use Rattle.std.proofs.Common.{◌≡◌, ◌⊎◌, ◌<◌, inl, inr, refl, sym, ap, subst, ◌∙◌}
-use Rattle.std.specs.Prelude.{ℕ, ◌+◌, Bool, true, false, List, [], ◌∷◌, length, Option, Some, None}
+use Rattle.std.proofs.Common.{◌≡◌, ◌<◌, inl, inr, refl, sym, ap, subst, ◌∙◌}
+use Rattle.std.specs.Prelude.{ℕ, ◌+◌, Bool, true, false, List, Option, Some, None}
 use Rattle.std.specs.List.{find}
 use Rattle.std.proofs.lemmas.Bool.{false≢true}
-use Rattle.std.proofs.lemmas.Option.{same_Some}
 use Rattle.pst_base.specs.declared.position.Place.{Place}
 use Rattle.pst_base.specs.declared.table.NameId.{NameId}
-use Rattle.pst_ast.specs.declared.leaf.Name.{Name}
 use Rattle.pst_ast.specs.ExpressionTree.{ExprTree, PathTree, PathDotted, PathItem, PathLongItem}
-use Rattle.pst_ast.specs.DeclarationTree.{UnitTree}
 use Rattle.pst_expr.specs.declared.ranges.Span.{Span}
 use Rattle.pst_model.specs.ConstraintTree.{SlotTree, Own, Index, Through}
 use Rattle.pst_model.specs.SoundActivity.{IsCondition}
@@ -26,15 +23,14 @@ use Rattle.pst_scope.specs.declared.referent.PathPart.{PathPart}
 use Rattle.pst_scope.specs.declared.referent.PathReferent.{PathReferent}
 use Rattle.pst_scope.specs.declared.referent.Checked.{Checked}
 use Rattle.pst_scope.specs.declared.referent.Checked.TheVariants.{Is, Breaks}
-use Rattle.pst_scope.specs.Lookups.{referent, owned, member_of, stands_for}
+use Rattle.pst_scope.specs.Lookups.{owned, member_of, stands_for}
 use Rattle.pst_scope.specs.NameRules.{NameBreach, Reaches, item_by}
-use Rattle.pst_scope.specs.Paths.{is_value, is_head, is_head_sort, is_handle_referent, read_path}
-use Rattle.pst_scope.specs.Sorts.{is_action, is_field, is_handle, same_place}
-use Rattle.pst_scope.specs.Uses.{Use, Judges, Reads, Condition, part_of, parts_of, path_uses, expr_uses, whole_uses, uses}
+use Rattle.pst_scope.specs.Paths.{is_value, is_head, is_head_sort, read_path}
+use Rattle.pst_scope.specs.Sorts.{is_field, same_place}
+use Rattle.pst_scope.specs.Uses.{Judges, Reads, Condition, part_of, parts_of, path_uses, expr_uses, whole_uses, uses}
 use Rattle.pst_type_rules.specs.TypeRules.{is_condition_sort, is_declared, TypeBreach, OfUse, NotInCondition}
 use Rattle.pst_inherited.specs.Bases.{with_bases}
 use Rattle.pst_terms.specs.Sources.{Sources, declared_in}
-use Rattle.pst_terms.specs.Terms.{Term}
 use Rattle.pst_terms.specs.Readings.{Setting, Turn, AtLevel, AtNumber, item_reading, turn_reading, declared_reading, name_reading, owner_reading, checked_reading, reading_of, expr_term, expression_of}
 use Rattle.pst_elab_rules.specs.Types.{model_action, model_objects}
 use Rattle.pst_sound_expressions.specs.Blocks.{with_field, AreRows}

@@ -1,6 +1,6 @@
 -- Inline constraints are sound.
-use Rattle.std.proofs.Common.{◌≡◌, ◌⊎◌, ◌<◌, inl, inr, refl, sym, ap, subst, ◌∙◌}
-use Rattle.std.specs.Prelude.{ℕ, ◌+◌, Bool, true, false, not, ◌&&◌, List, [], ◌∷◌, map, All, Option, Some, None, is_some, if◌then◌else◌}
+use Rattle.std.proofs.Common.{◌≡◌, inl, inr, refl, sym, ap, subst, ◌∙◌}
+use Rattle.std.specs.Prelude.{ℕ, ◌+◌, Bool, true, false, not, ◌&&◌, List, [], ◌∷◌, All, Option, Some, None, is_some, if◌then◌else◌}
 use Rattle.std.specs.Option.{option_or, option_and_then}
 use Rattle.std.proofs.lemmas.Bool.{false≢true}
 use Rattle.std.proofs.lemmas.Option.{none-some, same_Some}
@@ -10,9 +10,9 @@ use Rattle.pst_base.specs.declared.table.NameId.{NameId}
 use Rattle.pst_ast.specs.declared.leaf.Name.{Name}
 use Rattle.pst_ast.specs.declared.instance.Instance.{Instance}
 use Rattle.pst_ast.specs.ExpressionTree.{PathTree, PathDotted, PathItem, PathLongItem}
-use Rattle.pst_ast.specs.ActivityTree.{WithTree, WithNothing, WithSet, ActivityTree, StatementTree, MakeActivity}
+use Rattle.pst_ast.specs.ActivityTree.{WithTree, WithNothing, WithSet, ActivityTree}
 use Rattle.pst_expr.specs.declared.ranges.Span.{Span}
-use Rattle.pst_model.specs.ConstraintTree.{ConstraintTree, SlotTree, Own, Object, First, ClaimId, ClaimField, Prev, IsFirst, Id, Index, Local, Through, Outer}
+use Rattle.pst_model.specs.ConstraintTree.{SlotTree, Own, Object, First, ClaimId, ClaimField, Prev, IsFirst, Id, Index, Local, Through, Outer}
 use Rattle.pst_model.specs.ModelTree.{ModelTree}
 use Rattle.pst_model.specs.SoundConstraint.{IsSoundConstraint}
 use Rattle.pst_model.specs.SoundSlots.{IsConstraintSlot, IsInlineSlot}
@@ -36,11 +36,11 @@ use Rattle.pst_scope.specs.Lookups.{referent, owned, member_of, value_named, tra
 use Rattle.pst_scope.specs.NameRules.{NameBreach, Reaches, item_by}
 use Rattle.pst_scope.specs.Paths.{is_value, is_head, is_head_sort, read_path}
 use Rattle.pst_scope.specs.Sorts.{is_action, is_handle}
-use Rattle.pst_scope.specs.Uses.{Use, Judges, Reads, Constrains, part_of, parts_of, path_uses, with_inner, with_uses, uses}
+use Rattle.pst_scope.specs.Uses.{Judges, Reads, Constrains, part_of, parts_of, path_uses, with_uses}
 use Rattle.pst_type_rules.specs.Handles.{mention, is_member_constraint, ByTraversed, ByOwner}
 use Rattle.pst_type_rules.specs.TypeRules.{TypeBreach}
-use Rattle.pst_inherited.specs.Bases.{with_bases, handles_of, handle_number}
-use Rattle.pst_inherited.specs.Contents.{Content, Activity, content_of}
+use Rattle.pst_inherited.specs.Bases.{with_bases}
+use Rattle.pst_inherited.specs.Contents.{Activity, content_of}
 use Rattle.pst_terms.specs.Sources.{Sources, declared_in}
 use Rattle.pst_terms.specs.Readings.{Setting, AtNumber, is_inner_sort, is_inner, item_reading, declared_reading, name_reading, own_reading, owner_reading, traversed_with, outer_if, path_reading, checked_reading, reading_of, map_reading}
 use Rattle.pst_elab_rules.specs.Constraints.{with_turn, set_terms}
@@ -50,7 +50,7 @@ use Rattle.pst_elab_rules.specs.Types.{model_action}
 use Rattle.pst_sound_expressions.specs.Blocks.{with_field, AreRows}
 use Rattle.pst_sound_expressions.specs.Used.{IsGood}
 use Rattle.pst_sound_expressions.specs.Conditions.{HaveOwnPlaces}
-use Rattle.pst_sound_expressions.proofs.Members.{In, to_contains}
+use Rattle.pst_sound_expressions.proofs.Members.{In}
 use Rattle.pst_sound_expressions.proofs.Owned.{of_sort, member_is}
 use Rattle.pst_sound_expressions.proofs.TermsOf.{Each}
 use Rattle.pst_sound_expressions.proofs.SetTerms.{IsUsed, AreUses, AreDeclared, set_blocks}

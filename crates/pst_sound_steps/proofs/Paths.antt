@@ -1,6 +1,6 @@
 -- Paths whose first name is that of a member of an action, wherever they stand.
 use Rattle.std.proofs.Common.{◌≡◌, refl, sym, ap, subst, ◌∙◌}
-use Rattle.std.specs.Prelude.{ℕ, true, List, [], ◌∷◌, Option, Some, None}
+use Rattle.std.specs.Prelude.{ℕ, true, List, [], ◌∷◌, Option, Some}
 use Rattle.std.specs.Option.{option_or}
 use Rattle.std.proofs.lemmas.Option.{same_Some}
 use Rattle.pst_base.specs.declared.table.NameId.{NameId}
@@ -17,7 +17,7 @@ use Rattle.pst_scope.specs.Lookups.{item_here, referent, member_of, value_named,
 use Rattle.pst_scope.specs.Sorts.{is_action, is_field, is_handle}
 use Rattle.pst_scope.specs.Uses.{environment}
 use Rattle.pst_terms.specs.Sources.{Sources, declared_in}
-use Rattle.pst_terms.specs.Readings.{Setting, is_inner_sort, declared_reading, name_reading, behind_reading, own_reading}
+use Rattle.pst_terms.specs.Readings.{Setting, is_inner_sort, declared_reading, name_reading, own_reading}
 use Rattle.pst_elab_rules.specs.Types.{setting_of}
 use Rattle.pst_sound_expressions.specs.Used.{IsGood}
 use Rattle.pst_sound_expressions.proofs.Members.{In}

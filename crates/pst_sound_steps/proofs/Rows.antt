@@ -1,6 +1,6 @@
 -- Rows of slots in activities: turns, and slots of the action round a traversal.
 use Rattle.std.proofs.Common.{◌≡◌, ◌⊎◌, ◌<◌, ◌≤◌, inl, inr, refl, sym, ap, subst, arith, ◌∙◌}
-use Rattle.std.specs.Prelude.{ℕ, zero, suc, ◌+◌, Bool, false, List, [], ◌∷◌, map}
+use Rattle.std.specs.Prelude.{ℕ, zero, suc, ◌+◌, false, List, [], ◌∷◌, map}
 use Rattle.pst_model.specs.Limits.{most_elements}
 use Rattle.pst_model.specs.ConstraintTree.{SlotTree, Index, Outer}
 use Rattle.pst_terms.specs.Fields.{counted}

@@ -1,6 +1,6 @@
 -- The steps of activities are sound.
-use Rattle.std.proofs.Common.{◌≡◌, ◌<◌, ◌≤◌, inl, inr, refl, sym, ap, subst, arith, ◌∙◌}
-use Rattle.std.specs.Prelude.{ℕ, ◌+◌, Bool, true, false, List, [], ◌∷◌, ◌++◌, map, length, slice_get, All, IfSome, Option, Some, None, if◌then◌else◌}
+use Rattle.std.proofs.Common.{◌≡◌, inl, inr, refl, sym, ap, subst, arith, ◌∙◌}
+use Rattle.std.specs.Prelude.{ℕ, ◌+◌, Bool, true, false, List, [], ◌∷◌, ◌++◌, slice_get, All, IfSome, Option, Some, None, if◌then◌else◌}
 use Rattle.std.specs.List.{filter_map, flat_map, cons_option, Contains}
 use Rattle.std.specs.Option.{IsSomeAnd, option_map, option_map_or, option_or, option_and_then}
 use Rattle.std.proofs.lemmas.List.Elements.{All-cons, All-nil, All-map}
@@ -14,40 +14,37 @@ use Rattle.pst_ast.specs.declared.shared.TypeName.{TypeName}
 use Rattle.pst_ast.specs.declared.activity.TogetherWord.{TogetherWord}
 use Rattle.pst_ast.specs.declared.activity.TogetherWord.TheVariants as together
 use Rattle.pst_ast.specs.ExpressionTree.{ExprTree}
-use Rattle.pst_ast.specs.ActivityTree.{WithTree, JoinTree, GuardTree, GuardCondition, GuardWeight, ArmLabelTree, ArmLabelRanges, ArmLabelDefault, StatementTree, StatementEmpty, StatementLabeled, StatementPlain, CoreTree, CoreDo, CoreHandle, CoreSequence, CoreTogether, CoreSelect, CoreRepeat, CoreIf, CoreIfElse, CoreMatch, CoreBind, BranchTree, MakeBranch, ArmTree, MakeArm, StatementRow, NoStatementRow, MoreStatementRow, BranchRow, NoBranchRow, MoreBranchRow, ArmRow, NoArmRow, MoreArmRow, ActivityTree, MakeActivity}
+use Rattle.pst_ast.specs.ActivityTree.{WithTree, JoinTree, GuardTree, GuardCondition, GuardWeight, ArmLabelRanges, ArmLabelDefault, StatementTree, StatementEmpty, StatementLabeled, StatementPlain, CoreTree, CoreDo, CoreHandle, CoreSequence, CoreTogether, CoreSelect, CoreRepeat, CoreIf, CoreIfElse, CoreMatch, CoreBind, BranchTree, MakeBranch, ArmTree, MakeArm, StatementRow, NoStatementRow, MoreStatementRow, BranchRow, NoBranchRow, MoreBranchRow, ArmRow, NoArmRow, MoreArmRow, ActivityTree, MakeActivity}
 use Rattle.pst_ast.specs.DeclarationTree.{UnitTree}
 use Rattle.pst_expr.specs.declared.ranges.Span.{Span}
-use Rattle.pst_model.specs.ActivityTree.{StepTree, Sequence, StepRow, NoSteps, MaybeStep, branches_of}
+use Rattle.pst_model.specs.ActivityTree.{StepTree, StepRow, MaybeStep, branches_of}
 use Rattle.pst_model.specs.ActivityTree as step
 use Rattle.pst_model.specs.ModelTree.{Atomic, Compound, ActionTree, ModelTree}
 use Rattle.pst_model.specs.SoundActivity.{EachStep, EachOfSteps, EachOfBranches, EachOfBranch, EachOfArms, EachOfMaybe, IsCondition, IsTraversed, IsHandle, IsSoundBranch, IsSoundStep}
-use Rattle.pst_model.specs.SoundSlots.{handles_of as model_handles}
 use Rattle.pst_scope.specs.Breaches.{IsNone}
 use Rattle.pst_scope.specs.declared.declaration.Declaration.{Declaration}
 use Rattle.pst_scope.specs.declared.declaration.Scope.TheVariants.{Files, Part}
 use Rattle.pst_scope.specs.declared.environment.Environment.{Environment}
 use Rattle.pst_scope.specs.declared.referent.Owner.TheVariants.{OfAction}
 use Rattle.pst_scope.specs.declared.referent.Traversal.{Traversal}
-use Rattle.pst_scope.specs.declared.referent.Traversal.TheVariants.{ByType, ByHandle}
-use Rattle.pst_scope.specs.declared.referent.Referent.{Referent}
+use Rattle.pst_scope.specs.declared.referent.Traversal.TheVariants.{ByType}
 use Rattle.pst_scope.specs.declared.referent.Referent.TheVariants.{Declared}
-use Rattle.pst_scope.specs.Declarations.{declarations, index, index_of, in_with, in_statement, in_core, in_branch, in_arm, in_statement_row, in_branch_row, in_arm_row}
-use Rattle.pst_scope.specs.Inner.{inner_named}
-use Rattle.pst_scope.specs.Lookups.{look_up, if_sort, type_here, component_named, type_by, second_of, type_named, type_of, handled, traversed, value_behind, value_named}
+use Rattle.pst_scope.specs.Declarations.{declarations, index, in_with, in_statement, in_core, in_branch, in_arm, in_statement_row, in_branch_row, in_arm_row}
+use Rattle.pst_scope.specs.Lookups.{look_up, if_sort, type_here, component_named, type_by, second_of, type_named, type_of, handled, traversed, value_named}
 use Rattle.pst_scope.specs.NameRules.{NameBreach, Reaches}
 use Rattle.pst_scope.specs.Sorts.{is_action, is_handle}
-use Rattle.pst_scope.specs.Uses.{Use, NamesType, Traverses, Performs, Branches, Condition, Arms, Judges, AnAction, by_handle, with_index, with_uses, option_uses, whole_uses, weight_uses, guard_uses, branch_places, join_uses, labels_in, branches_in, core_place, arm_label, arm_labels, arm_label_uses, performed, statement_uses, core_uses, branch_uses, arm_uses, statement_row_uses, branch_row_uses, arm_row_uses, uses}
+use Rattle.pst_scope.specs.Uses.{Use, NamesType, Traverses, Performs, Branches, Condition, AnAction, by_handle, with_index, with_uses, option_uses, whole_uses, weight_uses, guard_uses, branch_places, join_uses, labels_in, branches_in, core_place, arm_label_uses, performed, statement_uses, core_uses, branch_uses, arm_uses, statement_row_uses, branch_row_uses, arm_row_uses, uses}
 use Rattle.pst_type_rules.specs.declared.typed.ConstantValue.{ConstantValue}
 use Rattle.pst_type_rules.specs.Members.{those_that}
 use Rattle.pst_type_rules.specs.Sites.{DeclaredAction, action_at}
 use Rattle.pst_type_rules.specs.TypeRules.{TypeBreach, OfUse, AbstractTraversed}
 use Rattle.pst_type_rules.specs.Typed.{AreConstants}
-use Rattle.pst_inherited.specs.Bases.{with_bases, members_that, handles_of, action_number, handle_number, number_in}
+use Rattle.pst_inherited.specs.Bases.{with_bases, handles_of, action_number, handle_number}
 use Rattle.pst_inherited.specs.Contents.{Content, Activity, Body, content_of}
 use Rattle.pst_terms.specs.Sources.{Sources, declared_in}
 use Rattle.pst_terms.specs.Readings.{Setting, Turn, AtLevel, AtNumber, expression_of}
 use Rattle.pst_elab_rules.specs.Model.{sources, model_by, IsModel}
-use Rattle.pst_elab_rules.specs.Steps.{inline_of, or_zero, traversed_number, handle_of, one_step, more_steps, together_step, guard_of, weight_of, turn_setting, add_arm, first_default, statement_step, core_step, row_steps, branch_step, branch_steps, arm_row, arm_rows, default_of, default_in}
+use Rattle.pst_elab_rules.specs.Steps.{inline_of, or_zero, traversed_number, handle_of, one_step, more_steps, together_step, guard_of, weight_of, turn_setting, statement_step, core_step, row_steps, branch_step, branch_steps, arm_row, arm_rows, default_of, default_in}
 use Rattle.pst_elab_rules.specs.Types.{setting_of, handle_types, content, is_abstract, model_action, model_actions}
 use Rattle.pst_sound_expressions.specs.Conditions.{HaveOwnPlaces}
 use Rattle.pst_sound_expressions.proofs.Members.{In, to_contains, from_contains}
@@ -63,9 +60,9 @@ use Rattle.pst_sound_types.proofs.Typed.{type_right, declared_action}
 use Rattle.pst_sound_activities.proofs.Arms.{arms_apart}
 use Rattle.pst_sound_activities.proofs.Handles.{handle_typed}
 use Rattle.pst_sound_activities.proofs.Joins.{joins_sound, weights_sound}
-use Rattle.pst_sound_steady.proofs.Numbers.{IsHandleOf, own_place_of, among_derived, number_derived}
-use Rattle.pst_sound_steady.proofs.Traversing.{declared_left, declared_right, IsText, text_more, handle_used, handle_of_is}
-use Rattle.pst_sound_steady.proofs.Judged.{IsActivityOf, activity_is, first_text}
+use Rattle.pst_sound_steady.proofs.Numbers.{own_place_of, among_derived, number_derived}
+use Rattle.pst_sound_steady.proofs.Traversing.{declared_left, declared_right, text_more, handle_used, handle_of_is}
+use Rattle.pst_sound_steady.proofs.Judged.{activity_is, first_text}
 use Rattle.pst_sound_steps.proofs.Conditions.{IsTurn, AreTurns, IsPlain, condition_sound}
 use Rattle.pst_sound_steps.proofs.Inline.{inline_sound}
 

@@ -1,33 +1,32 @@
 -- The ties of an activity come from pairs of ends of its binds, in the order of their text.
 use Rattle.std.proofs.Common.{◌≡◌, inl, inr, refl, sym, ap, subst, ◌∙◌}
-use Rattle.std.specs.Prelude.{ℕ, Bool, true, false, List, [], ◌∷◌, ◌++◌, map, Option, Some, None}
+use Rattle.std.specs.Prelude.{true, List, [], ◌∷◌, ◌++◌, map, Some, None}
 use Rattle.std.specs.List.{flat_map}
 use Rattle.std.proofs.lemmas.Grind.{flat_map-append}
 use Rattle.pst_base.specs.declared.position.Place.{Place}
 use Rattle.pst_ast.specs.declared.leaf.Name.{Name}
-use Rattle.pst_ast.specs.declared.shared.LabelNode.{LabelNode}
 use Rattle.pst_ast.specs.declared.activity.EndNode.{EndNode}
-use Rattle.pst_ast.specs.ActivityTree.{BindTree, MakeBind, StatementTree, StatementEmpty, StatementLabeled, StatementPlain, CoreTree, CoreDo, CoreHandle, CoreSequence, CoreTogether, CoreSelect, CoreRepeat, CoreIf, CoreIfElse, CoreMatch, CoreBind, BranchTree, MakeBranch, ArmTree, MakeArm, StatementRow, NoStatementRow, MoreStatementRow, BranchRow, NoBranchRow, MoreBranchRow, ArmRow, NoArmRow, MoreArmRow, ActivityTree, MakeActivity}
-use Rattle.pst_ast.specs.DeclarationTree.{UnitTree, MakeUnit, ItemTree, ItemComponent, ItemObject, ItemEnum, ItemFunction, ItemEmpty, MakeComponent, ComponentPartTree, ComponentPartAction, ComponentPartObject, ComponentPartEnum, ComponentPartFunction, ComponentPartPool, ComponentPartPoolBind, ComponentPartMembers, ComponentPartEmpty, ActionTree, MakeAction, ActionPartTree, ActionPartActivity}
+use Rattle.pst_ast.specs.ActivityTree.{BindTree, MakeBind, StatementTree, StatementEmpty, StatementLabeled, StatementPlain, CoreTree, CoreDo, CoreHandle, CoreSequence, CoreTogether, CoreSelect, CoreRepeat, CoreIf, CoreIfElse, CoreMatch, CoreBind, BranchTree, MakeBranch, ArmTree, MakeArm, StatementRow, NoStatementRow, MoreStatementRow, BranchRow, NoBranchRow, MoreBranchRow, ArmRow, NoArmRow, MoreArmRow}
+use Rattle.pst_ast.specs.DeclarationTree.{UnitTree, MakeUnit, ItemTree, ItemComponent, ItemObject, ItemEnum, ItemFunction, ItemEmpty, MakeComponent, ComponentPartTree, ComponentPartAction, ComponentPartObject, ComponentPartEnum, ComponentPartFunction, ComponentPartPool, ComponentPartPoolBind, ComponentPartMembers, ComponentPartEmpty, MakeAction, ActionPartTree}
 use Rattle.pst_model.specs.declared.activity.Tie.{Tie}
 use Rattle.pst_scope.specs.declared.declaration.Declaration.{Declaration}
 use Rattle.pst_scope.specs.declared.environment.Environment.{Environment}
 use Rattle.pst_scope.specs.declared.referent.Owner.TheVariants.{OfAction}
 use Rattle.pst_scope.specs.Declarations.{action_declared, base_name, index, in_component_part, in_item_of_unit, in_statement, in_core, in_branch, in_arm, in_statement_row, in_branch_row, in_arm_row}
-use Rattle.pst_scope.specs.Uses.{Use, Ties, Ends, Branches, Condition, Arms, NamesBase, end_use, other_ends, bind_uses, with_index, option_uses, whole_uses, guard_uses, branch_places, join_uses, labels_in, branches_in, core_place, arm_label, arm_labels, arm_label_uses, performed, statement_uses, core_uses, branch_uses, arm_uses, statement_row_uses, branch_row_uses, arm_row_uses, activity_uses, action_part_uses, action_uses, component_part_uses, unit_item_uses, unit_uses, uses, environment}
+use Rattle.pst_scope.specs.Uses.{Use, Ties, Ends, Branches, Condition, NamesBase, end_use, other_ends, bind_uses, with_index, option_uses, whole_uses, guard_uses, branch_places, join_uses, labels_in, branches_in, core_place, arm_label_uses, performed, statement_uses, core_uses, branch_uses, arm_uses, statement_row_uses, branch_row_uses, arm_row_uses, action_part_uses, component_part_uses, unit_item_uses, unit_uses, uses, environment}
 use Rattle.pst_scope.specs.Sorts.{same_place}
-use Rattle.pst_type_rules.specs.Binds.{Pair, pairs_of, pairs}
-use Rattle.pst_type_rules.specs.Sites.{DeclaredAction, action_of, actions_in_part, actions_in_item, actions, items_of}
+use Rattle.pst_type_rules.specs.Binds.{Pair, pairs_of}
+use Rattle.pst_type_rules.specs.Sites.{DeclaredAction, actions_in_part, actions_in_item, actions, items_of}
 use Rattle.pst_terms.specs.Sources.{Sources, declared_in}
 use Rattle.pst_terms.specs.Readings.{Setting}
-use Rattle.pst_elab_rules.specs.Ties.{tie_of, ties_of, statement_binds, core_binds, row_binds, branch_binds, branch_row_binds, arm_binds, arm_row_binds, ties_in}
+use Rattle.pst_elab_rules.specs.Ties.{tie_of, ties_of, statement_binds, core_binds, row_binds, branch_binds, branch_row_binds, arm_binds, arm_row_binds}
 use Rattle.pst_sound_expressions.proofs.Members.{In, in_flat_map, to_flat_map, to_map}
 use Rattle.pst_sound_expressions.proofs.Facts.{AreFacts}
 use Rattle.pst_sound_expressions.proofs.SetTerms.{AreUses, AreDeclared}
 use Rattle.pst_sound_expressions.proofs.TermsOf.{each_left, each_right}
 use Rattle.pst_sound_expressions.proofs.Walks.{item_declared}
 use Rattle.pst_sound_steady.proofs.Traversing.{declared_left, declared_right, IsText, text_more}
-use Rattle.pst_sound_names.proofs.Follows.{Follows, Done, Take, Skip, follows_skip, follows_both, follows_more, follows_in, follows_inner}
+use Rattle.pst_sound_names.proofs.Follows.{Follows, Done, Take, follows_skip, follows_both, follows_inner}
 
 module _ (s : Sources) (facts : AreFacts s) (o : Declaration) (setting : Setting) (type : Place) where
   abbrev ds : List Declaration

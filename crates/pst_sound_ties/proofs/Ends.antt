@@ -1,9 +1,9 @@
 -- The ends of binds: what they name, and their numbers.
-use Rattle.std.proofs.Common.{◌≡◌, ◌≢◌, inl, inr, refl, sym, ap, subst, ◌∙◌}
-use Rattle.std.specs.Prelude.{ℕ, Bool, true, false, List, [], ◌∷◌, map, slice_get, Option, Some, None, is_some, if◌then◌else◌, option_and_then}
-use Rattle.std.specs.Option.{option_map, option_map_or, option_or}
+use Rattle.std.proofs.Common.{◌≡◌, ◌≢◌, refl, sym, ap, ◌∙◌}
+use Rattle.std.specs.Prelude.{ℕ, Bool, true, false, List, slice_get, Option, Some, None, if◌then◌else◌, option_and_then}
+use Rattle.std.specs.Option.{option_map, option_or}
 use Rattle.std.proofs.lemmas.Bool.{false≢true}
-use Rattle.std.proofs.lemmas.Option.{none-some, same_Some}
+use Rattle.std.proofs.lemmas.Option.{none-some}
 use Rattle.pst_base.specs.declared.position.Place.{Place}
 use Rattle.pst_base.specs.declared.table.NameId.{NameId}
 use Rattle.pst_ast.specs.declared.activity.EndNode.{EndNode}
@@ -11,37 +11,34 @@ use Rattle.pst_ast.specs.declared.instance.Instance.{Instance}
 use Rattle.pst_expr.specs.declared.ranges.Span.{Span}
 use Rattle.pst_model.specs.ModelTree.{ModelTree}
 use Rattle.pst_model.specs.SoundActivity.{reference_of}
-use Rattle.pst_model.specs.SoundSlots.{handle_type}
 use Rattle.pst_scope.specs.Breaches.{IsNone}
 use Rattle.pst_scope.specs.declared.declaration.Declaration.{Declaration}
 use Rattle.pst_scope.specs.declared.environment.Environment.{Environment}
 use Rattle.pst_scope.specs.declared.referent.Finding.{Finding}
 use Rattle.pst_scope.specs.declared.referent.Owner.TheVariants.{OfAction}
-use Rattle.pst_scope.specs.declared.referent.Referent.{Referent}
 use Rattle.pst_scope.specs.declared.referent.Referent.TheVariants.{Declared}
 use Rattle.pst_scope.specs.Declarations.{declarations}
 use Rattle.pst_scope.specs.Lookups.{item_here, referent, member_of, type_of, handled, value_named, stands_for}
 use Rattle.pst_scope.specs.NameRules.{NameBreach, Reaches, unless, is_so, is_handle_name, end_named}
 use Rattle.pst_scope.specs.Sorts.{is_action, is_handle, is_reference}
-use Rattle.pst_scope.specs.Uses.{Use, Ends, uses, environment}
+use Rattle.pst_scope.specs.Uses.{Ends, uses}
 use Rattle.pst_type_rules.specs.Binds.{reference_at}
 use Rattle.pst_inherited.specs.Bases.{with_bases, handles_of, references_of, handle_number, reference_number}
 use Rattle.pst_terms.specs.Sources.{Sources, declared_in}
 use Rattle.pst_terms.specs.Readings.{Setting}
 use Rattle.pst_elab_rules.specs.Model.{model_by}
-use Rattle.pst_elab_rules.specs.Steps.{or_zero, handle_in, handle_named, handle_of}
+use Rattle.pst_elab_rules.specs.Steps.{or_zero, handle_in}
 use Rattle.pst_elab_rules.specs.Ties.{end_reference, end_handle, end_number}
-use Rattle.pst_elab_rules.specs.Types.{setting_of, handle_types, reference, model_action}
+use Rattle.pst_elab_rules.specs.Types.{setting_of, handle_types, reference}
 use Rattle.pst_sound_expressions.specs.Conditions.{HaveOwnPlaces}
 use Rattle.pst_sound_expressions.proofs.Members.{In}
-use Rattle.pst_sound_expressions.proofs.Owned.{of_sort, numbered, member_declared, member_is}
+use Rattle.pst_sound_expressions.proofs.Owned.{of_sort, numbered, member_declared}
 use Rattle.pst_sound_expressions.proofs.Facts.{AreFacts}
 use Rattle.pst_sound_expressions.proofs.Meanings.{without_traversal}
-use Rattle.pst_sound_expressions.proofs.ActionRows.{got_map, type_declared}
+use Rattle.pst_sound_expressions.proofs.ActionRows.{got_map}
 use Rattle.pst_sound_expressions.proofs.ActionsSound.{handle_numbered}
 use Rattle.pst_sound_types.proofs.Typed.{nothing_found}
 use Rattle.pst_sound_activities.proofs.Handles.{handle_typed}
-use Rattle.pst_sound_names.proofs.Named.{same_names}
 use Rattle.pst_sound_steady.proofs.Numbers.{IsHandleOf, handle_named_is, own_place_of, among_derived, number_derived}
 use Rattle.pst_sound_steady.proofs.Traversing.{IsText, handle_of_is}
 

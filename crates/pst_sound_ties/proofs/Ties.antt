@@ -1,23 +1,20 @@
 -- The binds of activities are sound.
-use Rattle.std.proofs.Common.{◌≡◌, ◌≢◌, ◌⊎◌, ◌<◌, inl, inr, refl, sym, ap, subst, arith, ◌∙◌, append_assoc}
-use Rattle.std.specs.Prelude.{ℕ, Bool, true, false, nat_eq, List, [], ◌∷◌, ◌++◌, map, slice_get, All, AllPairs, Option, Some, None, option_and_then, is_some}
-use Rattle.std.specs.List.{flat_map, filter_map}
+use Rattle.std.proofs.Common.{◌≡◌, ◌≢◌, inl, inr, refl, sym, ap, subst, arith, ◌∙◌, append_assoc}
+use Rattle.std.specs.Prelude.{ℕ, Bool, true, false, nat_eq, List, [], ◌∷◌, ◌++◌, slice_get, All, AllPairs, Option, Some, None, option_and_then}
 use Rattle.std.specs.Option.{IsSomeAnd, option_map_or}
 use Rattle.std.proofs.lemmas.Bool.{false≢true, eqb-true, eq-eqb}
 use Rattle.std.proofs.lemmas.List.Elements.{All-map}
 use Rattle.std.proofs.lemmas.List.Kept.{AllPairs-cons}
-use Rattle.std.proofs.lemmas.Option.{none-some, same_Some}
+use Rattle.std.proofs.lemmas.Option.{same_Some}
 use Rattle.pst_base.specs.declared.position.Place.{Place}
-use Rattle.pst_base.specs.declared.table.NameId.{NameId}
 use Rattle.pst_ast.specs.declared.activity.EndNode.{EndNode}
 use Rattle.pst_ast.specs.declared.declaration.ObjectWord.TheVariants as word
 use Rattle.pst_ast.specs.declared.instance.Instance.{Instance}
-use Rattle.pst_ast.specs.ActivityTree.{StatementTree, ActivityTree, MakeActivity}
+use Rattle.pst_ast.specs.ActivityTree.{ActivityTree, MakeActivity}
 use Rattle.pst_ast.specs.DeclarationTree.{UnitTree, ActionPartActivity}
 use Rattle.pst_expr.specs.declared.ranges.Span.{Span}
 use Rattle.pst_model.specs.declared.activity.Tie.{Tie}
 use Rattle.pst_model.specs.declared.action.Reference.{Reference}
-use Rattle.pst_model.specs.declared.object.ObjectKind.{ObjectKind}
 use Rattle.pst_model.specs.declared.object.ObjectKind.TheVariants.{Stream}
 use Rattle.pst_model.specs.ActivityTree as step
 use Rattle.pst_model.specs.ModelTree.{ContentTree, Atomic, Compound, ModelTree}
@@ -31,24 +28,24 @@ use Rattle.pst_scope.specs.declared.declaration.Sort.TheVariants as sort
 use Rattle.pst_scope.specs.declared.environment.Environment.{Environment}
 use Rattle.pst_scope.specs.declared.referent.Owner.TheVariants.{OfAction}
 use Rattle.pst_scope.specs.Declarations.{declarations}
-use Rattle.pst_scope.specs.Lookups.{type_of, traversed, traversed_member, member_of}
+use Rattle.pst_scope.specs.Lookups.{type_of, traversed, member_of}
 use Rattle.pst_scope.specs.NameRules.{NameBreach, Reaches}
 use Rattle.pst_scope.specs.Sorts.{is_action, is_handle, is_reference, same_place}
-use Rattle.pst_scope.specs.Uses.{Use, Ties, Ends, uses}
+use Rattle.pst_scope.specs.Uses.{Ties, Ends, uses}
 use Rattle.pst_type_rules.specs.declared.typed.ConstantValue.{ConstantValue}
-use Rattle.pst_type_rules.specs.Binds.{Pair, pairs_of, pairs, is_input, is_stream, BindTwice, Input, StreamOutput, IsSameEnd, IsStreamEnd}
+use Rattle.pst_type_rules.specs.Binds.{Pair, pairs, is_input, is_stream, BindTwice, Input, StreamOutput, IsSameEnd, IsStreamEnd}
 use Rattle.pst_type_rules.specs.Binds as rule
 use Rattle.pst_type_rules.specs.Handles.{mention, ByOwner}
 use Rattle.pst_type_rules.specs.Members.{those_that}
 use Rattle.pst_type_rules.specs.Sites.{actions, action_at}
 use Rattle.pst_type_rules.specs.TypeRules.{TypeBreach, OfUse, UnfitEnds, OneHandle, BoundTwice}
 use Rattle.pst_type_rules.specs.Typed.{AreConstants}
-use Rattle.pst_inherited.specs.Bases.{with_bases, handles_of, references_of, handle_number, reference_number, object_number}
+use Rattle.pst_inherited.specs.Bases.{with_bases, references_of, handle_number, reference_number, object_number}
 use Rattle.pst_inherited.specs.Contents.{Content, Activity, Body, content_of}
 use Rattle.pst_terms.specs.Sources.{Sources, declared_in}
 use Rattle.pst_terms.specs.Readings.{Setting}
 use Rattle.pst_elab_rules.specs.Model.{sources, model_by, IsModel}
-use Rattle.pst_elab_rules.specs.Ties.{tie_of, ties_of, statement_binds, end_handle, end_number, ties_in}
+use Rattle.pst_elab_rules.specs.Ties.{tie_of, end_handle, end_number, ties_in}
 use Rattle.pst_elab_rules.specs.Types.{setting_of, handle_types, content, is_output, object_of, reference, kind_in, model_object, model_objects, model_action}
 use Rattle.pst_sound_expressions.specs.Conditions.{HaveOwnPlaces}
 use Rattle.pst_sound_expressions.proofs.Members.{In, in_find, to_right, to_contains}
@@ -63,7 +60,7 @@ use Rattle.pst_sound_names.proofs.Named.{same_names}
 use Rattle.pst_sound_steady.proofs.Numbers.{number_one}
 use Rattle.pst_sound_steady.proofs.Texts.{content_stands}
 use Rattle.pst_sound_steady.proofs.Traversing.{IsText}
-use Rattle.pst_sound_steady.proofs.Judged.{SteadyIn, steady_derived, judged_steady, IsActivityOf, activity_is, first_text}
+use Rattle.pst_sound_steady.proofs.Judged.{steady_derived, judged_steady, activity_is, first_text}
 use Rattle.pst_sound_ties.specs.Laws.{HasSoundTies}
 use Rattle.pst_sound_names.proofs.Follows.{Follows, comes_from, come}
 use Rattle.pst_sound_ties.proofs.Binds.{IsTieOf, list_come, in_sources}
