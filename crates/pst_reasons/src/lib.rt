@@ -1,0 +1,8 @@
+//! Why bounds hold no solution: on which of the values that variables were given it rests.
+#![tactic(auto)]
+
+mod reasons;
+mod step;
+
+pub use reasons::Narrowed;
+pub use step::{Cause, Given, Step};
