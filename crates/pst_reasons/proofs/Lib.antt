@@ -1,2 +1,3 @@
 mod MarkLemmas
 mod BackLemmas
+mod NoteLemmas

@@ -2,7 +2,9 @@
 #![tactic(auto)]
 
 mod reasons;
+mod settling;
 mod step;
 
 pub use reasons::Narrowed;
+pub use settling::settle;
 pub use step::{Cause, Given, Step};
