@@ -1,9 +1,10 @@
 mod TrailLemmas
-mod NarrowLemmas
+pub mod NarrowLemmas
 mod PartLemmas
-mod ListLemmas
+pub mod ListLemmas
 mod OperandLemmas
 mod MentionLemmas
-mod NotedLemmas
-mod SettleLemmas
+pub mod NotedLemmas
+pub mod SettleLemmas
 mod LocalLemmas
+mod LogicLemmas

@@ -8,3 +8,4 @@ pub mod Mentions
 pub mod Watch
 pub mod Settled
 pub mod Local
+pub mod Logic

@@ -18,5 +18,6 @@ mod watch;
 
 pub use mentions::{narrowing_is_local, others_dont_matter};
 pub use narrowing::narrow;
+pub use settle::look_again;
 pub use trail::{Former, Trail};
 pub use watch::Watch;

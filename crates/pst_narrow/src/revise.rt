@@ -5,12 +5,33 @@ ghost use Rattle.pst_domain.specs.Bounds.{AreUpright, HasVariablesBelow};
 ghost use Rattle.pst_narrow.specs.Solutions.{IsMet};
 ghost use Rattle.pst_narrow.specs.Narrowing.{IsStep};
 ghost use Rattle.pst_narrow.specs.Cuts.{CutIsMade};
+ghost use Rattle.pst_narrow.specs.Logic.{IsSurelyTrue};
 
 use crate::compare::compare;
 use crate::trail::Trail;
 use pst_base::NoMemory;
-use pst_domain::Bounds;
-use pst_expr::Expr;
+use pst_domain::{Bounds, refused, span_of};
+use pst_expr::{BinaryOp, Expr};
+
+// How many operators may stand along the left operands where logic is looked through.
+const LONGEST: usize = 256;
+
+// Whether more stand there.
+fn is_long(expr: &Expr) -> bool {
+    expr.left_end().0 > LONGEST
+}
+
+// Whether an expression is true under all values within the bounds that give it a value.
+fn is_surely_true(expr: &Expr, bounds: &Bounds) -> bool
+    requires upright { AreUpright bounds.now }
+    requires variables { HasVariablesBelow (length bounds.now) (view expr.now) }
+    ensures { result ≡ true → IsSurelyTrue (view expr.now) bounds.now }
+{
+    match span_of(expr, bounds) {
+        Some(span) => span.low > 0 || span.high < 0,
+        None => false,
+    }
+}
 
 /// Cuts the bounds to those under which a constraint can hold, false where it can't.
 pub fn revise(constraint: &Expr, bounds: &mut Bounds, trail: &mut Trail) -> Result<bool, NoMemory>
@@ -19,8 +40,37 @@ pub fn revise(constraint: &Expr, bounds: &mut Bounds, trail: &mut Trail) -> Resu
     ensures step { IsStep (IsMet (view constraint.now)) bounds.old bounds.new trail.old trail.new result }
     ensures cut { result ≡ Ok true → CutIsMade (view constraint.now) bounds.old bounds.new }
 {
-    match constraint {
-        Expr::Binary(op, left, right) => compare(*op, left, right, bounds, trail),
-        _ => Ok(true),
+    let Expr::Binary(op, left, right) = constraint else {
+        return Ok(true);
+    };
+    match op {
+        BinaryOp::And => {
+            if is_long(constraint) {
+                return Ok(true);
+            }
+            if !revise(right, bounds, trail)? {
+                return Ok(false);
+            }
+            revise(left, bounds, trail)
+        }
+        BinaryOp::Or => {
+            if is_long(constraint) {
+                return Ok(true);
+            }
+            if refused(left, bounds) {
+                return revise(right, bounds, trail);
+            }
+            if refused(right, bounds) {
+                return revise(left, bounds, trail);
+            }
+            Ok(true)
+        }
+        BinaryOp::Implies => {
+            if is_surely_true(left, bounds) {
+                return revise(right, bounds, trail);
+            }
+            Ok(true)
+        }
+        _ => compare(*op, left, right, bounds, trail),
     }
 }

@@ -33,8 +33,9 @@ fn look_at(constraint: &Expr, bounds: &mut Bounds, trail: &mut Trail) -> Result<
     Ok(!refused(constraint, bounds))
 }
 
-// The same, where the trail is no longer than a limit; else the constraint is only tested.
-fn look_again(
+/// Cuts the bounds to those under which a constraint can hold, where the trail is no longer than a limit, and tests it.
+/// False where it can't hold.
+pub fn look_again(
     constraint: &Expr,
     limit: usize,
     bounds: &mut Bounds,

@@ -1,0 +1,10 @@
+//! Why bounds hold no solution: on which of the values that variables were given it rests.
+#![tactic(auto)]
+
+mod reasons;
+mod settling;
+mod step;
+
+pub use reasons::Narrowed;
+pub use settling::settle;
+pub use step::{Cause, Given, Step};
