@@ -10,6 +10,7 @@ use Rattle.pst_ast.specs.DeclarationTree.{UnitTree}
 use Rattle.pst_judged.specs.Kept.{AreKept}
 use Rattle.pst_straight.specs.Shown.{IsNotStraight}
 use Rattle.pst_words.specs.declared.command.Command.{Command}
+use Rattle.pst_words.specs.declared.command.Command.TheVariants.{Solve}
 use Rattle.pst_model.specs.Limits.{most_instances}
 use Rattle.pst_elab_rules.specs.Ends.{HasMany}
 use Rattle.pst_outcome.specs.declared.answer.Answer.TheVariants.{Large, Unbuilt}
@@ -26,25 +27,25 @@ inner e = cc
 
 -- more than one unit, or none
 pub not_alone : (command : Command) (arguments : List (List ℕ)) (component action : List ℕ) (asked : Asked) (names : List (List ℕ)) (units : List UnitTree) (r : Result Reply NoMemory)
-    → AreKept units names component action → ((unit : UnitTree) → units ≡ unit ∷ [] → ⊥) → IfOk r (Says Unbuilt unbuilt_text)
+    → AreKept units names component action → (command ≡ Solve → ⊥) → ((unit : UnitTree) → units ≡ unit ∷ [] → ⊥) → IfOk r (Says Unbuilt unbuilt_text)
     → IfOk r (λ reply. OfUnits command arguments component action asked names units reply.answer (string_bytes reply.text))
-not_alone command arguments component action asked names units r kept none says =
-    said (OfUnits command arguments component action asked names units) Unbuilt unbuilt_text r (IsUnbuilt kept (λ unit served is. absurd (none unit is))) says
+not_alone command arguments component action asked names units r kept unsolved none says =
+    said (OfUnits command arguments component action asked names units) Unbuilt unbuilt_text r (IsUnbuilt kept unsolved (λ unit served is. absurd (none unit is))) says
 
 -- a line that isn't served to its end
 pub not_served : (command : Command) (arguments : List (List ℕ)) (component action : List ℕ) (asked : Asked) (names : List (List ℕ)) (units : List UnitTree) (r : Result Reply NoMemory)
-    → AreKept units names component action → (IsServed command arguments component → ⊥) → IfOk r (Says Unbuilt unbuilt_text)
+    → AreKept units names component action → (command ≡ Solve → ⊥) → (IsServed command arguments component → ⊥) → IfOk r (Says Unbuilt unbuilt_text)
     → IfOk r (λ reply. OfUnits command arguments component action asked names units reply.answer (string_bytes reply.text))
-not_served command arguments component action asked names units r kept other says =
-    said (OfUnits command arguments component action asked names units) Unbuilt unbuilt_text r (IsUnbuilt kept (λ unit served is. absurd (other served))) says
+not_served command arguments component action asked names units r kept unsolved other says =
+    said (OfUnits command arguments component action asked names units) Unbuilt unbuilt_text r (IsUnbuilt kept unsolved (λ unit served is. absurd (other served))) says
 
 -- a unit of another form
 pub not_straight : (command : Command) (arguments : List (List ℕ)) (component action : List ℕ) (asked : Asked) (names : List (List ℕ)) (unit : UnitTree) (r : Result Reply NoMemory)
-    → AreKept (unit ∷ []) names component action → IsNotStraight names unit action → IfOk r (Says Unbuilt unbuilt_text)
+    → AreKept (unit ∷ []) names component action → (command ≡ Solve → ⊥) → IsNotStraight names unit action → IfOk r (Says Unbuilt unbuilt_text)
     → IfOk r (λ reply. OfUnits command arguments component action asked names (unit ∷ []) reply.answer (string_bytes reply.text))
-not_straight command arguments component action asked names unit r kept other says =
+not_straight command arguments component action asked names unit r kept unsolved other says =
     said (OfUnits command arguments component action asked names (unit ∷ [])) Unbuilt unbuilt_text r
-    (IsUnbuilt kept (λ u served is. subst (λ x. IsNotStraight names x action) (inner is) other)) says
+    (IsUnbuilt kept unsolved (λ u served is. subst (λ x. IsNotStraight names x action) (inner is) other)) says
 
 -- what is right of the units alone
 pub of_these : (command : Command) (arguments : List (List ℕ)) (component action : List ℕ) (asked : Asked) (names : List (List ℕ)) (units : List UnitTree) (unit : UnitTree) (r : Result Reply NoMemory) → units ≡ unit ∷ []

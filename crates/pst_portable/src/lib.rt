@@ -5,6 +5,7 @@
 mod files;
 mod printing;
 mod replies;
+mod sought;
 mod top;
 mod units;
 mod words;

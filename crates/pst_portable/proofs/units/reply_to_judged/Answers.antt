@@ -6,7 +6,7 @@ use Rattle.pst_outcome.specs.Texts.{rule_text, source_name}
 use Rattle.pst_outcome.specs.Outcome.{OfUnits, BreaksRule}
 use Rattle.pst_portable.proofs.Said.{said}
 use Rattle.pst_portable.proofs.Kept.{too_many}
-use Rattle.pst_portable.proofs.units.reply_to_units.Goals as goal
+use Rattle.pst_portable.proofs.units.reply_to_judged.Goals as goal
 
 pub returns-in-Err-Broken : goal.returns-in-Err-Broken
 returns-in-Err-Broken c =
