@@ -1,5 +1,5 @@
 -- What is read behind the sources is built.
-use Rattle.std.proofs.Common.{◌≡◌, ℕ, ◌-◌, ◌≤◌, List, [], ◌∷◌, ◌++◌, length, map, replicate, Some, None, sym, ap, ◌∙◌, subst}
+use Rattle.std.proofs.Common.{◌≡◌, ℕ, ◌-◌, ◌≤◌, List, [], ◌∷◌, ◌++◌, length, map, replicate, Some, None, refl, sym, ap, ◌∙◌, subst}
 use Rattle.std.specs.List.{range_with_len}
 use Rattle.pst_model.specs.ModelTree.{ModelTree}
 use Rattle.pst_scen.specs.declared.scenario.Scenario.{Scenario}
@@ -7,9 +7,9 @@ use Rattle.pst_scen.specs.Scenarios.{leaves_of}
 use Rattle.pst_legal.specs.Growing.{nothing_yet, most_nodes, most_acts}
 use Rattle.pst_legal.specs.Reading.{Reading, Wants, Stops, Reads, then_read, read_tree}
 use Rattle.pst_legal.specs.SupplyReading.{read_supply}
-use Rattle.pst_legal.specs.ValueReading.{answer_of, read_values}
+use Rattle.pst_legal.specs.ValueReading.{Options, Dead, Whole, answer_of, read_values}
 use Rattle.pst_longer.proofs.Goes.{Stands}
-use Rattle.pst_built.proofs.Bares.{nodes_in}
+use Rattle.pst_built.proofs.Bares.{nodes_in, bares}
 use Rattle.pst_built.proofs.Parents.{parents, InOrder}
 use Rattle.pst_built.proofs.Links.{Links}
 use Rattle.pst_built.proofs.Ends.{Ends}

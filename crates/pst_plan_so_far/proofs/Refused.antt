@@ -1,15 +1,16 @@
 -- What is linked is ordered by links that are read.
-use Rattle.std.proofs.Common.{◌≡◌, ◌⊎◌, ℕ, List, Some, sym, ap, ◌∙◌, subst, ⊎_elim, arith}
+use Rattle.std.proofs.Common.{◌≡◌, ◌⊎◌, ℕ, ◌<◌, List, Some, refl, sym, ap, ◌∙◌, subst, ⊎_elim, arith}
 use Rattle.std.specs.Option.{option_and_then}
 use Rattle.std.specs.Prelude.{slice_get}
 use Rattle.pst_model.specs.ModelTree.{ModelTree}
 use Rattle.pst_scen.specs.declared.act.Act.{Act}
+use Rattle.pst_scen.specs.declared.act.Flow.{Flow}
 use Rattle.pst_scen.specs.declared.act.Flow.TheVariants.{StateIn}
 use Rattle.pst_scen.specs.declared.act.Link.{Link}
 use Rattle.pst_scen.specs.declared.act.Link.TheVariants as link
 use Rattle.pst_scen.specs.declared.scenario.Scenario.{Scenario}
 use Rattle.pst_scen.specs.Scenarios.{reference_at, IsLinkOf, AreLinked}
-use Rattle.pst_scen.specs.Flows.{Reads}
+use Rattle.pst_scen.specs.Flows.{Refers, Reads}
 use Rattle.pst_scen.specs.Order.{Cause, Sequence, Buffer, Source, Previous, Replaced, Must, Directly, Through}
 use Rattle.pst_scen.specs.Plans.{StandParallel}
 use Rattle.pst_scen.specs.Refusals.{Refusal, Cycle, GroupClash, ParallelOrder, ParallelClash, GroupClashes, Two, One, IsRefused}

@@ -1,5 +1,5 @@
 -- Plans of scenarios whose activity and sources are read, and perhaps more.
-use Rattle.std.specs.Prelude.{ℕ, List}
+use Rattle.std.specs.Prelude.{◌≡◌, ℕ, List}
 use Rattle.pst_model.specs.ModelTree.{ModelTree}
 use Rattle.pst_scen.specs.declared.scenario.Scenario.{Scenario}
 use Rattle.pst_scen.specs.Scenarios.{AreLinked}
