@@ -1,3 +1,4 @@
 mod MarkLemmas
 mod BackLemmas
 mod NoteLemmas
+mod GiveLemmas

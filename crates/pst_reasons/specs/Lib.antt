@@ -1,3 +1,4 @@
 pub mod Explained
 pub mod Reasons
 pub mod Settled
+pub mod Giving

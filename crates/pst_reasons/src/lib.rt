@@ -1,6 +1,7 @@
 //! Why bounds hold no solution: on which of the values that variables were given it rests.
 #![tactic(auto)]
 
+mod giving;
 mod reasons;
 mod settling;
 mod step;
