@@ -3,3 +3,4 @@ mod Ends
 mod SourceNames
 mod Served
 mod Kept
+mod Seeking
