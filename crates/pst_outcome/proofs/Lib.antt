@@ -2,6 +2,4 @@ mod OneReading
 mod OneLine
 mod OneLexing
 mod OneParse
-mod OneAsking
-mod OneModel
 mod OneAnswer

@@ -15,13 +15,11 @@ use Rattle.pst_ast.specs.DeclarationTree.{UnitTree}
 use Rattle.pst_ast.specs.Laws.{AtMostOneTree, AnswersAgree}
 use Rattle.pst_ast.specs.Rule.{TheUnit}
 use Rattle.pst_model.specs.Limits.{most_instances}
-use Rattle.pst_model.specs.ModelTree.{ModelTree}
-use Rattle.pst_elab_rules.specs.Laws.{FirstBreachesAreOne, AnswersAreApart}
+use Rattle.pst_elab_rules.specs.Laws.{FirstBreachesAreOne}
 use Rattle.pst_judged.specs.Kept.{JudgementsAreApart}
 use Rattle.pst_scen.specs.declared.scenario.Scenario.{Scenario}
 use Rattle.pst_straight.specs.Shown.{ScenariosAreOne, ShowsRun}
 use Rattle.pst_words.specs.declared.command.Command.{Command}
-use Rattle.pst_words.specs.declared.command.Command.TheVariants.{Run, Solve}
 use Rattle.pst_words.specs.declared.command.Lines.{Lines}
 use Rattle.pst_words.specs.Lines.{IsLine}
 use Rattle.pst_files_read.specs.Limits.{most_bytes, most_trace}
@@ -31,17 +29,12 @@ use Rattle.pst_sources_read.specs.Lexed.{AreLexed, HasTextFault}
 use Rattle.pst_outcome.specs.declared.answer.Answer.{Answer}
 use Rattle.pst_outcome.specs.declared.answer.Answer.TheVariants.{Done, Usage, NoFile, ReadFault, Large, Lexical, Syntax, Rule, NoMemory, Unbuilt}
 use Rattle.pst_outcome.specs.declared.answer.What.TheVariants as what
-use Rattle.pst_outcome.specs.Outcome.{OfUnits, BreaksRule, HasManyInstances, IsRun, IsSolved, IsUnbuilt, OfTokens, IsSyntaxFault, HasUnits, OfTexts, IsLexicalFault, HasManyTokens, HasTokens, lexical_fault, IsNext, ASource, TheTrace, OfFiles, IsNoFile, IsUnread, HasManyBytes, HasLongTrace, HasTexts, HasRoot, IsOwed, IsUsage, IsRootless, IsRooted}
-use Rattle.pst_outcome.specs.declared.asked.Asked.{Asked}
-use Rattle.pst_outcome.specs.Asking.{AsksFor}
-use Rattle.pst_outcome.specs.Sought.{OfModel}
-use Rattle.pst_outcome.specs.Laws.{Agree, AnswersAreOne}
+use Rattle.pst_outcome.specs.Outcome.{OfUnits, BreaksRule, HasManyInstances, IsRun, IsUnbuilt, OfTokens, IsSyntaxFault, HasUnits, OfTexts, IsLexicalFault, HasManyTokens, HasTokens, lexical_fault, IsNext, ASource, TheTrace, OfFiles, IsNoFile, IsUnread, HasManyBytes, HasLongTrace, HasTexts, HasRoot, IsOwed, IsUsage, IsRootless, IsRooted}
+use Rattle.pst_outcome.specs.Laws.{AnswersAreOne}
 use Rattle.pst_outcome.proofs.OneLine.{one_line, not_wrong, one_wrong, one_root}
 use Rattle.pst_outcome.proofs.OneReading.{one_texts, one_stop, not_all_read, one_trace, trace_not_read, inside, Stops, NotThere, TooLong}
 use Rattle.pst_outcome.proofs.OneLexing.{one_text_fault, no_text_fault}
 use Rattle.pst_outcome.proofs.OneParse.{one_units, one_syntax_fault, no_syntax_fault}
-use Rattle.pst_outcome.proofs.OneAsking.{one_asked}
-use Rattle.pst_outcome.proofs.OneModel.{of_model}
 
 -- the laws that tell answers apart
 record Laws : Type 0 where
@@ -53,63 +46,47 @@ record Laws : Type 0 where
   judged : JudgementsAreApart
   breaches : FirstBreachesAreOne
   scenarios : ScenariosAreOne
-  apart : AnswersAreApart
 
 -- ---- units
 
 same_unit : {X : Type 0} {u v : X} → u ∷ [] ≡ v ∷ [] → u ≡ v
 same_unit e = cc
 
-run_or_solve : (command : Command) → command ≡ Run → command ≡ Solve → ⊥
-run_or_solve command run solve = let both : Run ≡ Solve = sym run ∙ solve in absurd cc
-
-of_units : Laws → (command : Command) (arguments : List (List ℕ)) (component action : List ℕ) (asked : Asked) (names : List (List ℕ)) (units : List UnitTree) (a b : Answer) (s t : List ℕ)
-    → OfUnits command arguments component action asked names units a s → OfUnits command arguments component action asked names units b t → Agree a b
-of_units laws command arguments component action asked names units _ _ _ _ (BreaksRule p r h) (BreaksRule q u k) =
+of_units : Laws → (command : Command) (arguments : List (List ℕ)) (component action : List ℕ) (names : List (List ℕ)) (units : List UnitTree) (a b : Answer) (s t : List ℕ)
+    → OfUnits command arguments component action names units a s → OfUnits command arguments component action names units b t → a ≡ b
+of_units laws command arguments component action names units _ _ _ _ (BreaksRule p r h) (BreaksRule q u k) =
     let same = laws.breaches units names component action p q r u h k in
-    inl (ap (λ x. Rule x r) same.0 ∙ ap (Rule q) same.1)
-of_units laws command arguments component action asked names units _ _ _ _ (BreaksRule p r h) (HasManyInstances k) = absurd (laws.judged.many_alone units names component action p r k h)
-of_units laws command arguments component action asked names units _ _ _ _ (BreaksRule p r h) (IsRun unit count text k _ _ _) = absurd (laws.judged.no_breach units names component action p r k h)
-of_units laws command arguments component action asked names units _ _ _ _ (BreaksRule p r h) (IsUnbuilt k _ _) = absurd (laws.judged.no_breach units names component action p r k h)
-of_units laws command arguments component action asked names units _ _ _ _ (HasManyInstances h) (BreaksRule q u k) = absurd (laws.judged.many_alone units names component action q u h k)
-of_units laws command arguments component action asked names units _ _ _ _ (HasManyInstances h) (HasManyInstances k) = inl refl
-of_units laws command arguments component action asked names units _ _ _ _ (HasManyInstances h) (IsRun unit count text k _ _ _) = absurd (laws.judged.not_many units names component action k h)
-of_units laws command arguments component action asked names units _ _ _ _ (HasManyInstances h) (IsUnbuilt k _ _) = absurd (laws.judged.not_many units names component action k h)
-of_units laws command arguments component action asked names units _ _ _ _ (IsRun unit count text h _ _ _) (BreaksRule q u k) = absurd (laws.judged.no_breach units names component action q u h k)
-of_units laws command arguments component action asked names units _ _ _ _ (IsRun unit count text h _ _ _) (HasManyInstances k) = absurd (laws.judged.not_many units names component action h k)
-of_units laws command arguments component action asked names units _ _ _ _ (IsRun unit count text _ served is h) (IsRun other number trace _ _ is_too k) =
+    ap (λ x. Rule x r) same.0 ∙ ap (Rule q) same.1
+of_units laws command arguments component action names units _ _ _ _ (BreaksRule p r h) (HasManyInstances k) = absurd (laws.judged.many_alone units names component action p r k h)
+of_units laws command arguments component action names units _ _ _ _ (BreaksRule p r h) (IsRun unit count text k _ _ _) = absurd (laws.judged.no_breach units names component action p r k h)
+of_units laws command arguments component action names units _ _ _ _ (BreaksRule p r h) (IsUnbuilt k _) = absurd (laws.judged.no_breach units names component action p r k h)
+of_units laws command arguments component action names units _ _ _ _ (HasManyInstances h) (BreaksRule q u k) = absurd (laws.judged.many_alone units names component action q u h k)
+of_units laws command arguments component action names units _ _ _ _ (HasManyInstances h) (HasManyInstances k) = refl
+of_units laws command arguments component action names units _ _ _ _ (HasManyInstances h) (IsRun unit count text k _ _ _) = absurd (laws.judged.not_many units names component action k h)
+of_units laws command arguments component action names units _ _ _ _ (HasManyInstances h) (IsUnbuilt k _) = absurd (laws.judged.not_many units names component action k h)
+of_units laws command arguments component action names units _ _ _ _ (IsRun unit count text h _ _ _) (BreaksRule q u k) = absurd (laws.judged.no_breach units names component action q u h k)
+of_units laws command arguments component action names units _ _ _ _ (IsRun unit count text h _ _ _) (HasManyInstances k) = absurd (laws.judged.not_many units names component action h k)
+of_units laws command arguments component action names units _ _ _ _ (IsRun unit count text _ served is h) (IsRun other number trace _ _ is_too k) =
     let one : other ≡ unit = same_unit (sym is_too ∙ is) in
     let moved : ShowsRun names unit action number trace = subst (λ u. ShowsRun names u action number trace) one k in
     let same = (laws.scenarios names unit action h.actions moved.actions h.scenario moved.scenario h.straight moved.straight).1 in
-    inl (ap Done (h.count_is ∙ ap (λ (s : Scenario). length s.actions) same ∙ sym moved.count_is))
-of_units laws command arguments component action asked names units _ _ _ _ (IsRun unit count text _ served is h) (IsUnbuilt _ _ none) = absurd (none unit served is h.actions h.scenario h.straight)
-of_units laws command arguments component action asked names units _ _ _ _ (IsUnbuilt h _ _) (BreaksRule q u k) = absurd (laws.judged.no_breach units names component action q u h k)
-of_units laws command arguments component action asked names units _ _ _ _ (IsUnbuilt h _ _) (HasManyInstances k) = absurd (laws.judged.not_many units names component action h k)
-of_units laws command arguments component action asked names units _ _ _ _ (IsUnbuilt _ _ none) (IsRun unit count text _ served is k) = absurd (none unit served is k.actions k.scenario k.straight)
-of_units laws command arguments component action asked names units _ _ _ _ (IsUnbuilt _ _ _) (IsUnbuilt _ _ _) = inl refl
-of_units laws command arguments component action asked names units _ _ _ _ (BreaksRule p r h) (IsSolved m root b t _ k _) = absurd (laws.apart.no_breach units names component action m root p r k h)
-of_units laws command arguments component action asked names units _ _ _ _ (HasManyInstances h) (IsSolved m root b t _ k _) = absurd (laws.apart.not_many units names component action m root k h)
-of_units laws command arguments component action asked names units _ _ _ _ (IsRun unit count text _ served _ _) (IsSolved m root b t solves _ _) = absurd (run_or_solve command served.runs solves)
-of_units laws command arguments component action asked names units _ _ _ _ (IsUnbuilt _ other _) (IsSolved m root b t solves _ _) = absurd (other solves)
-of_units laws command arguments component action asked names units _ _ _ _ (IsSolved m root a s solves h _) (BreaksRule q u k) = absurd (laws.apart.no_breach units names component action m root q u h k)
-of_units laws command arguments component action asked names units _ _ _ _ (IsSolved m root a s solves h _) (HasManyInstances k) = absurd (laws.apart.not_many units names component action m root h k)
-of_units laws command arguments component action asked names units _ _ _ _ (IsSolved m root a s solves _ _) (IsRun unit count text _ served _ _) = absurd (run_or_solve command served.runs solves)
-of_units laws command arguments component action asked names units _ _ _ _ (IsSolved m root a s solves _ _) (IsUnbuilt _ other _) = absurd (other solves)
-of_units laws command arguments component action asked names units _ _ _ _ (IsSolved m root a s solves h x) (IsSolved l number b t _ k y) =
-    let same = laws.apart.one_answer units names component action l m number root k h in
-    let moved : OfModel names m root asked b t = subst (λ (n : ℕ). OfModel names m n asked b t) same.1 (subst (λ (o : ModelTree). OfModel names o number asked b t) same.0 y) in
-    of_model names m root asked a b s t x moved
+    ap Done (h.count_is ∙ ap (λ (s : Scenario). length s.actions) same ∙ sym moved.count_is)
+of_units laws command arguments component action names units _ _ _ _ (IsRun unit count text _ served is h) (IsUnbuilt _ none) = absurd (none unit served is h.actions h.scenario h.straight)
+of_units laws command arguments component action names units _ _ _ _ (IsUnbuilt h _) (BreaksRule q u k) = absurd (laws.judged.no_breach units names component action q u h k)
+of_units laws command arguments component action names units _ _ _ _ (IsUnbuilt h _) (HasManyInstances k) = absurd (laws.judged.not_many units names component action h k)
+of_units laws command arguments component action names units _ _ _ _ (IsUnbuilt _ none) (IsRun unit count text _ served is k) = absurd (none unit served is k.actions k.scenario k.straight)
+of_units laws command arguments component action names units _ _ _ _ (IsUnbuilt _ _) (IsUnbuilt _ _) = refl
 
 -- ---- tokens
 
-of_tokens : Laws → (command : Command) (arguments : List (List ℕ)) (component action : List ℕ) (asked : Asked) (names : List (List ℕ)) (tokens : List (List Token)) (a b : Answer) (s t : List ℕ)
-    → OfTokens command arguments component action asked names tokens a s → OfTokens command arguments component action asked names tokens b t → Agree a b
-of_tokens laws command arguments component action asked names tokens _ _ _ _ (IsSyntaxFault d p h) (IsSyntaxFault e q k) = inl (one_syntax_fault laws.agree tokens d e p q h k)
-of_tokens laws command arguments component action asked names tokens _ _ _ _ (IsSyntaxFault d p h) (HasUnits units b t k _) = absurd (no_syntax_fault tokens units d p k h)
-of_tokens laws command arguments component action asked names tokens _ _ _ _ (HasUnits units a s h _) (IsSyntaxFault e q k) = absurd (no_syntax_fault tokens units e q h k)
-of_tokens laws command arguments component action asked names tokens _ _ _ _ (HasUnits units a s h x) (HasUnits others b t k y) =
+of_tokens : Laws → (command : Command) (arguments : List (List ℕ)) (component action : List ℕ) (names : List (List ℕ)) (tokens : List (List Token)) (a b : Answer) (s t : List ℕ)
+    → OfTokens command arguments component action names tokens a s → OfTokens command arguments component action names tokens b t → a ≡ b
+of_tokens laws command arguments component action names tokens _ _ _ _ (IsSyntaxFault d p h) (IsSyntaxFault e q k) = one_syntax_fault laws.agree tokens d e p q h k
+of_tokens laws command arguments component action names tokens _ _ _ _ (IsSyntaxFault d p h) (HasUnits units b t k _) = absurd (no_syntax_fault tokens units d p k h)
+of_tokens laws command arguments component action names tokens _ _ _ _ (HasUnits units a s h _) (IsSyntaxFault e q k) = absurd (no_syntax_fault tokens units e q h k)
+of_tokens laws command arguments component action names tokens _ _ _ _ (HasUnits units a s h x) (HasUnits others b t k y) =
     let same : others ≡ units = one_units laws.trees tokens others units k h in
-    of_units laws command arguments component action asked names units a b s t x (subst (λ (us : List UnitTree). OfUnits command arguments component action asked names us b t) same y)
+    of_units laws command arguments component action names units a b s t x (subst (λ (us : List UnitTree). OfUnits command arguments component action names us b t) same y)
 
 -- ---- texts
 
@@ -123,23 +100,23 @@ answered : (wide : Bool) (place : Place) → answer_to (lexical_fault wide place
 answered true place = refl
 answered false place = refl
 
-of_texts : Laws → (command : Command) (arguments : List (List ℕ)) (component action : List ℕ) (asked : Asked) (texts : List (List ℕ)) (a b : Answer) (s t : List ℕ)
-    → OfTexts command arguments component action asked texts a s → OfTexts command arguments component action asked texts b t → Agree a b
-of_texts laws command arguments component action asked texts _ _ _ _ (IsLexicalFault w p h) (IsLexicalFault v q k) =
-    inl (sym (answered w p) ∙ ap answer_to (one_text_fault laws.readings laws.outcomes texts (lexical_fault w p) (lexical_fault v q) h k) ∙ answered v q)
-of_texts laws command arguments component action asked texts _ _ _ _ (IsLexicalFault w p h) (HasManyTokens k) =
-    inl (sym (answered w p) ∙ ap answer_to (one_text_fault laws.readings laws.outcomes texts (lexical_fault w p) fault.Many h k))
-of_texts laws command arguments component action asked texts _ _ _ _ (IsLexicalFault w p h) (HasTokens names tokens b t k _) = absurd (no_text_fault laws.readings laws.outcomes texts names tokens (lexical_fault w p) k h)
-of_texts laws command arguments component action asked texts _ _ _ _ (HasManyTokens h) (IsLexicalFault v q k) =
-    inl (ap answer_to (one_text_fault laws.readings laws.outcomes texts fault.Many (lexical_fault v q) h k) ∙ answered v q)
-of_texts laws command arguments component action asked texts _ _ _ _ (HasManyTokens h) (HasManyTokens k) = inl refl
-of_texts laws command arguments component action asked texts _ _ _ _ (HasManyTokens h) (HasTokens names tokens b t k _) = absurd (no_text_fault laws.readings laws.outcomes texts names tokens fault.Many k h)
-of_texts laws command arguments component action asked texts _ _ _ _ (HasTokens names tokens a s h _) (IsLexicalFault v q k) = absurd (no_text_fault laws.readings laws.outcomes texts names tokens (lexical_fault v q) h k)
-of_texts laws command arguments component action asked texts _ _ _ _ (HasTokens names tokens a s h _) (HasManyTokens k) = absurd (no_text_fault laws.readings laws.outcomes texts names tokens fault.Many h k)
-of_texts laws command arguments component action asked texts _ _ _ _ (HasTokens names tokens a s h x) (HasTokens others more b t k y) =
+of_texts : Laws → (command : Command) (arguments : List (List ℕ)) (component action : List ℕ) (texts : List (List ℕ)) (a b : Answer) (s t : List ℕ)
+    → OfTexts command arguments component action texts a s → OfTexts command arguments component action texts b t → a ≡ b
+of_texts laws command arguments component action texts _ _ _ _ (IsLexicalFault w p h) (IsLexicalFault v q k) =
+    sym (answered w p) ∙ ap answer_to (one_text_fault laws.readings laws.outcomes texts (lexical_fault w p) (lexical_fault v q) h k) ∙ answered v q
+of_texts laws command arguments component action texts _ _ _ _ (IsLexicalFault w p h) (HasManyTokens k) =
+    sym (answered w p) ∙ ap answer_to (one_text_fault laws.readings laws.outcomes texts (lexical_fault w p) fault.Many h k)
+of_texts laws command arguments component action texts _ _ _ _ (IsLexicalFault w p h) (HasTokens names tokens b t k _) = absurd (no_text_fault laws.readings laws.outcomes texts names tokens (lexical_fault w p) k h)
+of_texts laws command arguments component action texts _ _ _ _ (HasManyTokens h) (IsLexicalFault v q k) =
+    ap answer_to (one_text_fault laws.readings laws.outcomes texts fault.Many (lexical_fault v q) h k) ∙ answered v q
+of_texts laws command arguments component action texts _ _ _ _ (HasManyTokens h) (HasManyTokens k) = refl
+of_texts laws command arguments component action texts _ _ _ _ (HasManyTokens h) (HasTokens names tokens b t k _) = absurd (no_text_fault laws.readings laws.outcomes texts names tokens fault.Many k h)
+of_texts laws command arguments component action texts _ _ _ _ (HasTokens names tokens a s h _) (IsLexicalFault v q k) = absurd (no_text_fault laws.readings laws.outcomes texts names tokens (lexical_fault v q) h k)
+of_texts laws command arguments component action texts _ _ _ _ (HasTokens names tokens a s h _) (HasManyTokens k) = absurd (no_text_fault laws.readings laws.outcomes texts names tokens fault.Many h k)
+of_texts laws command arguments component action texts _ _ _ _ (HasTokens names tokens a s h x) (HasTokens others more b t k y) =
     let same = laws.texts texts others names more tokens k.are h.are in
-    of_tokens laws command arguments component action asked names tokens a b s t x
-    (subst (λ (ts : List (List Token)). OfTokens command arguments component action asked names ts b t) same.1 (subst (λ (ns : List (List ℕ)). OfTokens command arguments component action asked ns more b t) same.0 y))
+    of_tokens laws command arguments component action names tokens a b s t x
+    (subst (λ (ts : List (List Token)). OfTokens command arguments component action names ts b t) same.1 (subst (λ (ns : List (List ℕ)). OfTokens command arguments component action ns more b t) same.0 y))
 
 -- ---- files
 
@@ -182,59 +159,57 @@ not_read f arguments _ texts trace (TraceGone v m xs h is x) read traced = trace
 not_read f arguments _ texts trace (TraceBig v m xs text h is x long) read traced = trace_not_read f arguments v m trace is (inr (text, x, long)) traced
 
 -- where no call failed
-data Case (f : Files) (command : Command) (arguments : List (List ℕ)) (component action : List ℕ) (asked : Asked) (a : Answer) : Type 0 where
-  Stopped : Stop f arguments a → Case f command arguments component action asked a
+data Case (f : Files) (command : Command) (arguments : List (List ℕ)) (component action : List ℕ) (a : Answer) : Type 0 where
+  Stopped : Stop f arguments a → Case f command arguments component action a
   Read : (texts : List (List ℕ)) (trace : Option (List ℕ)) (t : List ℕ) → AreRead (Some f) (sources_in arguments) texts → IsTraceRead (Some f) arguments trace
-      → OfTexts command arguments component action asked texts a t → Case f command arguments component action asked a
+      → OfTexts command arguments component action texts a t → Case f command arguments component action a
 
 not_risen : (faults : ℕ) → faults < last_count → HasRisen faults faults → ⊥
 not_risen faults below (_, inl more) = omega (arith, more)
 not_risen faults below (_, inr last) = omega (arith, last, below)
 
-case_of : (f : Files) (faults : ℕ) (command : Command) (arguments : List (List ℕ)) (component action : List ℕ) (asked : Asked) (a : Answer) (t : List ℕ) → faults < last_count
-    → OfFiles (Some f) faults faults command arguments component action asked a t → Case f command arguments component action asked a
-case_of f faults command arguments component action asked _ _ below (IsNoFile word name _ (ASource texts reached) gone) = Stopped (Gone word name texts reached (gone f refl))
-case_of f faults command arguments component action asked _ _ below (IsNoFile word name _ (TheTrace texts read is) gone) = Stopped (TraceGone word name texts read is (gone f refl))
-case_of f faults command arguments component action asked _ _ below (IsUnread word name risen _) = absurd (not_risen faults below risen)
-case_of f faults command arguments component action asked _ _ below (HasManyBytes word name texts _ reached long) = let l = long f refl in Stopped (Big word name texts l.0 reached l.1 l.2)
-case_of f faults command arguments component action asked _ _ below (HasLongTrace word name texts _ read is long) = let l = long f refl in Stopped (TraceBig word name texts l.0 read is l.1 l.2)
-case_of f faults command arguments component action asked _ _ below (HasTexts texts trace a t _ read traced of_texts) = Read texts trace t read traced of_texts
+case_of : (f : Files) (faults : ℕ) (command : Command) (arguments : List (List ℕ)) (component action : List ℕ) (a : Answer) (t : List ℕ) → faults < last_count
+    → OfFiles (Some f) faults faults command arguments component action a t → Case f command arguments component action a
+case_of f faults command arguments component action _ _ below (IsNoFile word name _ (ASource texts reached) gone) = Stopped (Gone word name texts reached (gone f refl))
+case_of f faults command arguments component action _ _ below (IsNoFile word name _ (TheTrace texts read is) gone) = Stopped (TraceGone word name texts read is (gone f refl))
+case_of f faults command arguments component action _ _ below (IsUnread word name risen _) = absurd (not_risen faults below risen)
+case_of f faults command arguments component action _ _ below (HasManyBytes word name texts _ reached long) = let l = long f refl in Stopped (Big word name texts l.0 reached l.1 l.2)
+case_of f faults command arguments component action _ _ below (HasLongTrace word name texts _ read is long) = let l = long f refl in Stopped (TraceBig word name texts l.0 read is l.1 l.2)
+case_of f faults command arguments component action _ _ below (HasTexts texts trace a t _ read traced of_texts) = Read texts trace t read traced of_texts
 
-one_case : Laws → (f : Files) (command : Command) (arguments : List (List ℕ)) (component action : List ℕ) (asked : Asked) (a b : Answer) → Case f command arguments component action asked a → Case f command arguments component action asked b → Agree a b
-one_case laws f command arguments component action asked a b (Stopped h) (Stopped k) = inl (one_stop_answer f arguments a b h k)
-one_case laws f command arguments component action asked a b (Stopped h) (Read texts trace t read traced k) = absurd (not_read f arguments a texts trace h read traced)
-one_case laws f command arguments component action asked a b (Read texts trace s read traced h) (Stopped k) = absurd (not_read f arguments b texts trace k read traced)
-one_case laws f command arguments component action asked a b (Read texts trace s read traced h) (Read others other t read_too traced_too k) =
+one_case : Laws → (f : Files) (command : Command) (arguments : List (List ℕ)) (component action : List ℕ) (a b : Answer) → Case f command arguments component action a → Case f command arguments component action b → a ≡ b
+one_case laws f command arguments component action a b (Stopped h) (Stopped k) = one_stop_answer f arguments a b h k
+one_case laws f command arguments component action a b (Stopped h) (Read texts trace t read traced k) = absurd (not_read f arguments a texts trace h read traced)
+one_case laws f command arguments component action a b (Read texts trace s read traced h) (Stopped k) = absurd (not_read f arguments b texts trace k read traced)
+one_case laws f command arguments component action a b (Read texts trace s read traced h) (Read others other t read_too traced_too k) =
     let same : others ≡ texts = one_texts f (sources_in arguments) others texts (read_too.each f refl) (read.each f refl) in
-    of_texts laws command arguments component action asked texts a b s t h (subst (λ (ts : List (List ℕ)). OfTexts command arguments component action asked ts b t) same k)
+    of_texts laws command arguments component action texts a b s t h (subst (λ (ts : List (List ℕ)). OfTexts command arguments component action ts b t) same k)
 
 -- ---- words
 
 of_words : Laws → (lines : Lines) (have : ℕ) (words : List (List ℕ)) (f : Files) (faults : ℕ) (a b : Answer) (s t : List ℕ) → faults < last_count
-    → IsOwed lines have words (Some f) faults faults a s → IsOwed lines have words (Some f) faults faults b t → Agree a b
-of_words laws lines have words f faults _ _ _ _ below (IsUsage v _ h) (IsUsage w _ k) = inl (ap Usage (one_wrong lines have words v w h k))
+    → IsOwed lines have words (Some f) faults faults a s → IsOwed lines have words (Some f) faults faults b t → a ≡ b
+of_words laws lines have words f faults _ _ _ _ below (IsUsage v _ h) (IsUsage w _ k) = ap Usage (one_wrong lines have words v w h k)
 of_words laws lines have words f faults _ _ _ _ below (IsUsage v _ h) (IsRootless d ys _ k _) = absurd (not_wrong lines have words d ys v k h)
-of_words laws lines have words f faults _ _ _ _ below (IsUsage v _ h) (IsRooted d ys n y r b t k _ _ _) = absurd (not_wrong lines have words d ys v k h)
+of_words laws lines have words f faults _ _ _ _ below (IsUsage v _ h) (IsRooted d ys n y b t k _ _) = absurd (not_wrong lines have words d ys v k h)
 of_words laws lines have words f faults _ _ _ _ below (IsRootless c xs _ h _) (IsUsage w _ k) = absurd (not_wrong lines have words c xs w h k)
-of_words laws lines have words f faults _ _ _ _ below (IsRootless c xs _ h _) (IsRootless d ys _ k _) = inl refl
-of_words laws lines have words f faults _ _ _ _ below (IsRootless c xs _ h none) (IsRooted d ys n y r b t k root _ _) =
+of_words laws lines have words f faults _ _ _ _ below (IsRootless c xs _ h _) (IsRootless d ys _ k _) = refl
+of_words laws lines have words f faults _ _ _ _ below (IsRootless c xs _ h none) (IsRooted d ys n y b t k root _) =
     let same = (one_line lines have words c d xs ys h k).1 in
     absurd (none n y (subst (λ (ws : List (List ℕ)). HasRoot ws n y) (sym same) root))
-of_words laws lines have words f faults _ _ _ _ below (IsRooted c xs m x q a s h _ _ _) (IsUsage w _ k) = absurd (not_wrong lines have words c xs w h k)
-of_words laws lines have words f faults _ _ _ _ below (IsRooted c xs m x q a s h root _ _) (IsRootless d ys _ k none) =
+of_words laws lines have words f faults _ _ _ _ below (IsRooted c xs m x a s h _ _) (IsUsage w _ k) = absurd (not_wrong lines have words c xs w h k)
+of_words laws lines have words f faults _ _ _ _ below (IsRooted c xs m x a s h root _) (IsRootless d ys _ k none) =
     let same = (one_line lines have words c d xs ys h k).1 in
     absurd (none m x (subst (λ (ws : List (List ℕ)). HasRoot ws m x) same root))
-of_words laws lines have words f faults _ _ _ _ below (IsRooted c xs m x q a s h root asks of_files) (IsRooted d ys n y r b t k root_too asks_too of_files_too) =
+of_words laws lines have words f faults _ _ _ _ below (IsRooted c xs m x a s h root of_files) (IsRooted d ys n y b t k root_too of_files_too) =
     let same = one_line lines have words d c ys xs k h in
     let roots = one_root xs n m y x (subst (λ (ws : List (List ℕ)). HasRoot ws n y) same.1 root_too) root in
-    let asked = one_asked lines have words c xs r q h (subst (λ (ws : List (List ℕ)). AsksFor ws r) same.1 asks_too) asks in
-    let moved : OfFiles (Some f) faults faults c xs m x q b t =
-    subst (λ z. OfFiles (Some f) faults faults c xs m x z b t) asked
-    (subst (λ z. OfFiles (Some f) faults faults c xs m z r b t) roots.1
-    (subst (λ z. OfFiles (Some f) faults faults c xs z y r b t) roots.0
-    (subst (λ (z : List (List ℕ)). OfFiles (Some f) faults faults c z n y r b t) same.1 (subst (λ (z : Command). OfFiles (Some f) faults faults z ys n y r b t) same.0 of_files_too)))) in
-    one_case laws f c xs m x q a b (case_of f faults c xs m x q a s below of_files) (case_of f faults c xs m x q b t below moved)
+    let moved : OfFiles (Some f) faults faults c xs m x b t =
+    subst (λ z. OfFiles (Some f) faults faults c xs m z b t) roots.1
+    (subst (λ z. OfFiles (Some f) faults faults c xs z y b t) roots.0
+    (subst (λ (z : List (List ℕ)). OfFiles (Some f) faults faults c z n y b t) same.1 (subst (λ (z : Command). OfFiles (Some f) faults faults z ys n y b t) same.0 of_files_too))) in
+    one_case laws f c xs m x a b (case_of f faults c xs m x a s below of_files) (case_of f faults c xs m x b t below moved)
 
-pub one_answer : EachTextHasOneReading → EachTextHasOneOutcome → TokensOfTextsAreOne → AtMostOneTree TheUnit → AnswersAgree → JudgementsAreApart → FirstBreachesAreOne → ScenariosAreOne → AnswersAreApart → AnswersAreOne
-one_answer readings outcomes texts trees agree judged breaches scenarios apart lines have words files faults a b s t below h k =
-    of_words (record { readings = readings; outcomes = outcomes; texts = texts; trees = trees; agree = agree; judged = judged; breaches = breaches; scenarios = scenarios; apart = apart }) lines have words files faults a b s t below h k
+pub one_answer : EachTextHasOneReading → EachTextHasOneOutcome → TokensOfTextsAreOne → AtMostOneTree TheUnit → AnswersAgree → JudgementsAreApart → FirstBreachesAreOne → ScenariosAreOne → AnswersAreOne
+one_answer readings outcomes texts trees agree judged breaches scenarios lines have words files faults a b s t below h k =
+    of_words (record { readings = readings; outcomes = outcomes; texts = texts; trees = trees; agree = agree; judged = judged; breaches = breaches; scenarios = scenarios }) lines have words files faults a b s t below h k

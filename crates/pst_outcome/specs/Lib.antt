@@ -3,5 +3,3 @@ pub mod Texts
 pub mod Outcome
 pub mod Delivered
 pub mod Laws
-pub mod Asking
-pub mod Sought

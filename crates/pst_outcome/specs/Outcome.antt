@@ -11,12 +11,11 @@ use Rattle.pst_lexer.specs.declared.fault.LexFault.{LexFault}
 use Rattle.pst_lexer.specs.declared.fault.LexFault.TheVariants as fault
 use Rattle.pst_ast.specs.DeclarationTree.{UnitTree}
 use Rattle.pst_model.specs.Limits.{most_instances}
-use Rattle.pst_model.specs.ModelTree.{ModelTree}
-use Rattle.pst_elab_rules.specs.Ends.{IsFirstBreach, HasMany, IsElaborated}
+use Rattle.pst_elab_rules.specs.Ends.{IsFirstBreach, HasMany}
 use Rattle.pst_judged.specs.Kept.{AreKept}
 use Rattle.pst_straight.specs.Shown.{ShowsRun, IsNotStraight}
 use Rattle.pst_words.specs.declared.command.Command.{Command}
-use Rattle.pst_words.specs.declared.command.Command.TheVariants.{Run, Solve}
+use Rattle.pst_words.specs.declared.command.Command.TheVariants.{Run}
 use Rattle.pst_words.specs.declared.command.Lines.{Lines}
 use Rattle.pst_words.specs.declared.key.Key.TheVariants.{Root}
 use Rattle.pst_words.specs.Lines.{IsLine, IsWrongWord, given}
@@ -28,9 +27,6 @@ use Rattle.pst_sources_read.specs.Parsed.{AreParsed, HasSyntaxFault}
 use Rattle.pst_outcome.specs.declared.answer.Answer.{Answer}
 use Rattle.pst_outcome.specs.declared.answer.Answer.TheVariants.{Done, Usage, NoFile, ReadFault, Large, Lexical, Syntax, Rule, Unbuilt}
 use Rattle.pst_outcome.specs.declared.answer.What.TheVariants as what
-use Rattle.pst_outcome.specs.declared.asked.Asked.{Asked}
-use Rattle.pst_outcome.specs.Asking.{AsksFor}
-use Rattle.pst_outcome.specs.Sought.{OfModel}
 use Rattle.pst_outcome.specs.Texts.{source_name, usage_text, no_file_text, read_fault_text, large_text, lexical_text, syntax_text, rule_text, unbuilt_text}
 
 -- ---- units
@@ -41,30 +37,27 @@ pub record IsServed (command : Command) (arguments : List (List ℕ)) (component
   pub alone : length arguments ≡ 2
   pub top : component ≡ codes "pss_top"
 
--- The units break a rule, have too many instances, or keep all rules: then `solve` finds the first legal scenario of their model, a unit
--- of the straight form is run, and all else isn't built.
-pub data OfUnits (command : Command) (arguments : List (List ℕ)) (component action : List ℕ) (asked : Asked) (names : List (List ℕ)) (units : List UnitTree) : Answer → List ℕ → Type 0 where
+-- The units break a rule, have too many instances, or keep all rules: then a unit of the straight form is run, and all else isn't built.
+pub data OfUnits (command : Command) (arguments : List (List ℕ)) (component action : List ℕ) (names : List (List ℕ)) (units : List UnitTree) : Answer → List ℕ → Type 0 where
   BreaksRule : (place : Place) (rule : ℕ) → IsFirstBreach units names component action place rule
-      → OfUnits command arguments component action asked names units (Rule place rule) (rule_text (source_name arguments place.file) place rule)
+      → OfUnits command arguments component action names units (Rule place rule) (rule_text (source_name arguments place.file) place rule)
   HasManyInstances : HasMany units names
-      → OfUnits command arguments component action asked names units (Large what.Instances (most_instances + 1)) (large_text what.Instances (most_instances + 1))
+      → OfUnits command arguments component action names units (Large what.Instances (most_instances + 1)) (large_text what.Instances (most_instances + 1))
   IsRun : (unit : UnitTree) (count : ℕ) (text : List ℕ) → AreKept units names component action
       → IsServed command arguments component → units ≡ unit ∷ [] → ShowsRun names unit action count text
-      → OfUnits command arguments component action asked names units (Done count) text
-  IsSolved : (m : ModelTree) (root : ℕ) (answer : Answer) (text : List ℕ) → command ≡ Solve → IsElaborated units names component action m root
-      → OfModel names m root asked answer text → OfUnits command arguments component action asked names units answer text
-  IsUnbuilt : AreKept units names component action → (command ≡ Solve → ⊥)
+      → OfUnits command arguments component action names units (Done count) text
+  IsUnbuilt : AreKept units names component action
       → ((unit : UnitTree) → IsServed command arguments component → units ≡ unit ∷ [] → IsNotStraight names unit action)
-      → OfUnits command arguments component action asked names units Unbuilt unbuilt_text
+      → OfUnits command arguments component action names units Unbuilt unbuilt_text
 
 -- ---- tokens
 
 -- A source is no unit, or all are.
-pub data OfTokens (command : Command) (arguments : List (List ℕ)) (component action : List ℕ) (asked : Asked) (names : List (List ℕ)) (tokens : List (List Token)) : Answer → List ℕ → Type 0 where
+pub data OfTokens (command : Command) (arguments : List (List ℕ)) (component action : List ℕ) (names : List (List ℕ)) (tokens : List (List Token)) : Answer → List ℕ → Type 0 where
   IsSyntaxFault : (deep : Bool) (place : Place) → HasSyntaxFault tokens deep place
-      → OfTokens command arguments component action asked names tokens (Syntax deep place) (syntax_text (source_name arguments place.file) deep place)
-  HasUnits : (units : List UnitTree) (answer : Answer) (text : List ℕ) → AreParsed tokens units → OfUnits command arguments component action asked names units answer text
-      → OfTokens command arguments component action asked names tokens answer text
+      → OfTokens command arguments component action names tokens (Syntax deep place) (syntax_text (source_name arguments place.file) deep place)
+  HasUnits : (units : List UnitTree) (answer : Answer) (text : List ℕ) → AreParsed tokens units → OfUnits command arguments component action names units answer text
+      → OfTokens command arguments component action names tokens answer text
 
 -- ---- texts
 
@@ -74,14 +67,14 @@ lexical_fault true place = fault.Wide place
 lexical_fault false place = fault.Bad place
 
 -- A text is no list of tokens, there are too many, or all texts are lists of tokens.
-pub data OfTexts (command : Command) (arguments : List (List ℕ)) (component action : List ℕ) (asked : Asked) (texts : List (List ℕ)) : Answer → List ℕ → Type 0 where
+pub data OfTexts (command : Command) (arguments : List (List ℕ)) (component action : List ℕ) (texts : List (List ℕ)) : Answer → List ℕ → Type 0 where
   IsLexicalFault : (wide : Bool) (place : Place) → HasTextFault texts (lexical_fault wide place)
-      → OfTexts command arguments component action asked texts (Lexical wide place) (lexical_text (source_name arguments place.file) wide place)
+      → OfTexts command arguments component action texts (Lexical wide place) (lexical_text (source_name arguments place.file) wide place)
   HasManyTokens : HasTextFault texts fault.Many
-      → OfTexts command arguments component action asked texts (Large what.Tokens (most_tokens + 1)) (large_text what.Tokens (most_tokens + 1))
+      → OfTexts command arguments component action texts (Large what.Tokens (most_tokens + 1)) (large_text what.Tokens (most_tokens + 1))
   HasTokens : (names : List (List ℕ)) (tokens : List (List Token)) (answer : Answer) (text : List ℕ) → AreLexed texts names tokens
-      → OfTokens command arguments component action asked names tokens answer text
-      → OfTexts command arguments component action asked texts answer text
+      → OfTokens command arguments component action names tokens answer text
+      → OfTexts command arguments component action texts answer text
 
 -- ---- files
 
@@ -91,18 +84,18 @@ pub data IsNext (files : Option Files) (arguments : List (List ℕ)) (word : ℕ
   TheTrace : (texts : List (List ℕ)) → AreRead files (sources_in arguments) texts → IsTraceWord arguments word name → IsNext files arguments word name
 
 -- A file isn't there, can't be read or is too large, or all are read. The shelf's count of faults was and is that.
-pub data OfFiles (files : Option Files) (old new : ℕ) (command : Command) (arguments : List (List ℕ)) (component action : List ℕ) (asked : Asked) : Answer → List ℕ → Type 0 where
+pub data OfFiles (files : Option Files) (old new : ℕ) (command : Command) (arguments : List (List ℕ)) (component action : List ℕ) : Answer → List ℕ → Type 0 where
   IsNoFile : (word : ℕ) (name : List ℕ) → new ≡ old → IsNext files arguments word name → IsMissing files name
-      → OfFiles files old new command arguments component action asked (NoFile word) (no_file_text name)
+      → OfFiles files old new command arguments component action (NoFile word) (no_file_text name)
   IsUnread : (word : ℕ) (name : List ℕ) → HasRisen old new → IsNext files arguments word name
-      → OfFiles files old new command arguments component action asked (ReadFault word) (read_fault_text name)
+      → OfFiles files old new command arguments component action (ReadFault word) (read_fault_text name)
   HasManyBytes : (word : ℕ) (name : List ℕ) (texts : List (List ℕ)) → new ≡ old → IsReached files arguments word name texts → IsLonger files name (most_bytes - sum_by length texts)
-      → OfFiles files old new command arguments component action asked (Large what.Bytes (most_bytes + 1)) (large_text what.Bytes (most_bytes + 1))
+      → OfFiles files old new command arguments component action (Large what.Bytes (most_bytes + 1)) (large_text what.Bytes (most_bytes + 1))
   HasLongTrace : (word : ℕ) (name : List ℕ) (texts : List (List ℕ)) → new ≡ old → AreRead files (sources_in arguments) texts → IsTraceWord arguments word name → IsLonger files name most_trace
-      → OfFiles files old new command arguments component action asked (Large what.Trace (most_trace + 1)) (large_text what.Trace (most_trace + 1))
+      → OfFiles files old new command arguments component action (Large what.Trace (most_trace + 1)) (large_text what.Trace (most_trace + 1))
   HasTexts : (texts : List (List ℕ)) (trace : Option (List ℕ)) (answer : Answer) (text : List ℕ) → new ≡ old → AreRead files (sources_in arguments) texts → IsTraceRead files arguments trace
-      → OfTexts command arguments component action asked texts answer text
-      → OfFiles files old new command arguments component action asked answer text
+      → OfTexts command arguments component action texts answer text
+      → OfFiles files old new command arguments component action answer text
 
 -- ---- words
 
@@ -120,7 +113,7 @@ pub data IsOwed (lines : Lines) (have : ℕ) (words : List (List ℕ)) (files : 
   IsRootless : (command : Command) (arguments : List (List ℕ)) → new ≡ old → IsLine lines have words command arguments
       → ((component action : List ℕ) → HasRoot arguments component action → ⊥)
       → IsOwed lines have words files old new Unbuilt unbuilt_text
-  IsRooted : (command : Command) (arguments : List (List ℕ)) (component action : List ℕ) (asked : Asked) (answer : Answer) (text : List ℕ)
-      → IsLine lines have words command arguments → HasRoot arguments component action → AsksFor arguments asked
-      → OfFiles files old new command arguments component action asked answer text
+  IsRooted : (command : Command) (arguments : List (List ℕ)) (component action : List ℕ) (answer : Answer) (text : List ℕ)
+      → IsLine lines have words command arguments → HasRoot arguments component action
+      → OfFiles files old new command arguments component action answer text
       → IsOwed lines have words files old new answer text

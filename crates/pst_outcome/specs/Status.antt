@@ -1,13 +1,10 @@
 -- The exit status of each answer.
 use Rattle.std.specs.Prelude.{ℕ}
 use Rattle.pst_outcome.specs.declared.answer.Answer.{Answer}
-use Rattle.pst_outcome.specs.declared.answer.Answer.TheVariants.{Done, Solved, NoScenario, Budget, Usage, NoFile, ReadFault, Large, Lexical, Syntax, Rule, WriteFault, NoMemory, Unbuilt}
+use Rattle.pst_outcome.specs.declared.answer.Answer.TheVariants.{Done, Usage, NoFile, ReadFault, Large, Lexical, Syntax, Rule, WriteFault, NoMemory, Unbuilt}
 
 abbrev pub status_of : Answer → ℕ
 status_of (Done actions) = 0
-status_of (Solved actions) = 0
-status_of NoScenario = 3
-status_of (Budget level) = 4
 status_of (Lexical wide place) = 1
 status_of (Syntax deep place) = 1
 status_of (Rule place rule) = 1

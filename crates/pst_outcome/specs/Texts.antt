@@ -41,11 +41,5 @@ syntax_text name deep place = line (codes "syntax " ++ (if deep then codes "deep
 abbrev pub rule_text : List ℕ → Place → ℕ → List ℕ
 rule_text name place rule = line (codes "rule " ++ decimal rule ++ codes " " ++ place_text name place)
 
-abbrev pub no_scenario_text : ℕ → List ℕ
-no_scenario_text infer = line (codes "noscenario " ++ decimal infer)
-
-abbrev pub budget_text : ℕ → List ℕ
-budget_text level = line (codes "budget " ++ decimal level)
-
 abbrev pub unbuilt_text : List ℕ
 unbuilt_text = line (codes "unbuilt")

@@ -25,18 +25,6 @@ pub enum Answer {
         /// How many actions it has.
         actions: u32,
     },
-    /// The first legal scenario was found, and its header was printed.
-    Solved {
-        /// How many actions it has.
-        actions: u32,
-    },
-    /// No legal scenario infers so few actions.
-    NoScenario,
-    /// The budget of live lists of choices was spent.
-    Budget {
-        /// The number of inferred actions of the level in which it was.
-        level: u32,
-    },
     /// The words are no line of a command.
     Usage {
         /// The index of the first wrong word, or the number of words where something is missing.
@@ -86,8 +74,7 @@ pub enum Answer {
     WriteFault,
     /// Memory ran out; nothing was written.
     NoMemory,
-    /// The line has no answer yet: its sources keep all rules and its command is served no further, or it has
-    /// none.
+    /// The line has no answer yet: its sources keep all rules, or it has none.
     Unbuilt,
 }
 
@@ -97,11 +84,9 @@ impl Answer {
         ensures { result ≡ status_of self.now }
     {
         match self {
-            Answer::Done { .. } | Answer::Solved { .. } => 0,
+            Answer::Done { .. } => 0,
             Answer::Lexical { .. } | Answer::Syntax { .. } | Answer::Rule { .. } => 1,
             Answer::Usage { .. } | Answer::NoFile { .. } => 2,
-            Answer::NoScenario => 3,
-            Answer::Budget { .. } => 4,
             Answer::ReadFault { .. } => 6,
             Answer::WriteFault => 7,
             Answer::NoMemory => 8,

@@ -4,9 +4,7 @@
 #![tactic(auto)]
 
 mod answer;
-mod asked;
 mod laws;
 
 pub use answer::{Answer, What};
-pub use asked::Asked;
 pub use laws::answers_are_one;

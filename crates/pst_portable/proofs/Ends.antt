@@ -20,7 +20,6 @@ use Rattle.pst_outcome.specs.declared.answer.Answer.{Answer}
 use Rattle.pst_outcome.specs.declared.answer.Answer.TheVariants as answer
 use Rattle.pst_outcome.specs.declared.answer.What.TheVariants as what
 use Rattle.pst_outcome.specs.Texts.{no_file_text, read_fault_text, large_text}
-use Rattle.pst_outcome.specs.declared.asked.Asked.{Asked}
 use Rattle.pst_outcome.specs.Outcome.{OfFiles, OfTexts, ASource, TheTrace, IsNoFile, IsUnread, HasManyBytes, HasLongTrace, HasTexts}
 use Rattle.pst_portable.specs.declared.replies.Reply.{Reply}
 use Rattle.pst_portable.specs.Replies.{Says, SaysEnd}
@@ -61,44 +60,44 @@ trace_name arguments word name is =
 named_as : (a : Answer) (text_of : List ℕ → List ℕ) (given name : List ℕ) (r : Result Reply NoMemory) → given ≡ name → IfOk r (Says a (text_of given)) → IfOk r (Says a (text_of name))
 named_as a text_of given name r same h = subst (λ n. IfOk r (Says a (text_of n))) same h
 
-pub sources_ended : (files : Option Files) (old new : ℕ) (command : Command) (arguments : List (List ℕ)) (component action : List ℕ) (asked : Asked) (e : FileEnd) (r : Result Reply NoMemory)
-    → IsSourcesEnd files old new arguments e → IfOk r (SaysEnd arguments what.Bytes (most_bytes + 1) e) → IfOk r (λ reply. OfFiles files old new command arguments component action asked reply.answer (string_bytes reply.text))
-sources_ended files old new command arguments component action asked (end.Missing word) r (same, (name, texts, reached, gone)) says =
-    said (OfFiles files old new command arguments component action asked) (answer.NoFile word) (no_file_text name) r (IsNoFile word name same (ASource texts reached) gone)
+pub sources_ended : (files : Option Files) (old new : ℕ) (command : Command) (arguments : List (List ℕ)) (component action : List ℕ) (e : FileEnd) (r : Result Reply NoMemory)
+    → IsSourcesEnd files old new arguments e → IfOk r (SaysEnd arguments what.Bytes (most_bytes + 1) e) → IfOk r (λ reply. OfFiles files old new command arguments component action reply.answer (string_bytes reply.text))
+sources_ended files old new command arguments component action (end.Missing word) r (same, (name, texts, reached, gone)) says =
+    said (OfFiles files old new command arguments component action) (answer.NoFile word) (no_file_text name) r (IsNoFile word name same (ASource texts reached) gone)
     (named_as (answer.NoFile word) no_file_text (given_name (get_or arguments (word - 1) [])) name r (source_name files arguments word name texts reached) says)
-sources_ended files old new command arguments component action asked (end.Failed word) r (risen, (name, texts, reached)) says =
-    said (OfFiles files old new command arguments component action asked) (answer.ReadFault word) (read_fault_text name) r (IsUnread word name risen (ASource texts reached))
+sources_ended files old new command arguments component action (end.Failed word) r (risen, (name, texts, reached)) says =
+    said (OfFiles files old new command arguments component action) (answer.ReadFault word) (read_fault_text name) r (IsUnread word name risen (ASource texts reached))
     (named_as (answer.ReadFault word) read_fault_text (given_name (get_or arguments (word - 1) [])) name r (source_name files arguments word name texts reached) says)
-sources_ended files old new command arguments component action asked end.TooLarge r (same, (word, name, texts, reached, long)) says =
-    said (OfFiles files old new command arguments component action asked) (answer.Large what.Bytes (most_bytes + 1)) (large_text what.Bytes (most_bytes + 1)) r (HasManyBytes word name texts same reached long) says
-sources_ended files old new command arguments component action asked end.NoMemory (Ok reply) h says = absurd says
-sources_ended files old new command arguments component action asked end.NoMemory (Err e) h says = tt
+sources_ended files old new command arguments component action end.TooLarge r (same, (word, name, texts, reached, long)) says =
+    said (OfFiles files old new command arguments component action) (answer.Large what.Bytes (most_bytes + 1)) (large_text what.Bytes (most_bytes + 1)) r (HasManyBytes word name texts same reached long) says
+sources_ended files old new command arguments component action end.NoMemory (Ok reply) h says = absurd says
+sources_ended files old new command arguments component action end.NoMemory (Err e) h says = tt
 
-pub trace_ended : (files : Option Files) (old new : ℕ) (command : Command) (arguments : List (List ℕ)) (component action : List ℕ) (asked : Asked) (texts : List (List ℕ)) (e : FileEnd) (r : Result Reply NoMemory)
+pub trace_ended : (files : Option Files) (old new : ℕ) (command : Command) (arguments : List (List ℕ)) (component action : List ℕ) (texts : List (List ℕ)) (e : FileEnd) (r : Result Reply NoMemory)
     → AreRead files (sources_in arguments) texts → IsTraceEnd files old new arguments e → IfOk r (SaysEnd arguments what.Trace (most_trace + 1) e)
-    → IfOk r (λ reply. OfFiles files old new command arguments component action asked reply.answer (string_bytes reply.text))
-trace_ended files old new command arguments component action asked texts (end.Missing word) r read (same, (name, is, gone)) says =
-    said (OfFiles files old new command arguments component action asked) (answer.NoFile word) (no_file_text name) r (IsNoFile word name same (TheTrace texts read is) gone)
+    → IfOk r (λ reply. OfFiles files old new command arguments component action reply.answer (string_bytes reply.text))
+trace_ended files old new command arguments component action texts (end.Missing word) r read (same, (name, is, gone)) says =
+    said (OfFiles files old new command arguments component action) (answer.NoFile word) (no_file_text name) r (IsNoFile word name same (TheTrace texts read is) gone)
     (named_as (answer.NoFile word) no_file_text (given_name (get_or arguments (word - 1) [])) name r (trace_name arguments word name is) says)
-trace_ended files old new command arguments component action asked texts (end.Failed word) r read (risen, (name, is)) says =
-    said (OfFiles files old new command arguments component action asked) (answer.ReadFault word) (read_fault_text name) r (IsUnread word name risen (TheTrace texts read is))
+trace_ended files old new command arguments component action texts (end.Failed word) r read (risen, (name, is)) says =
+    said (OfFiles files old new command arguments component action) (answer.ReadFault word) (read_fault_text name) r (IsUnread word name risen (TheTrace texts read is))
     (named_as (answer.ReadFault word) read_fault_text (given_name (get_or arguments (word - 1) [])) name r (trace_name arguments word name is) says)
-trace_ended files old new command arguments component action asked texts end.TooLarge r read (same, (word, name, is, long)) says =
-    said (OfFiles files old new command arguments component action asked) (answer.Large what.Trace (most_trace + 1)) (large_text what.Trace (most_trace + 1)) r (HasLongTrace word name texts same read is long) says
-trace_ended files old new command arguments component action asked texts end.NoMemory (Ok reply) read h says = absurd says
-trace_ended files old new command arguments component action asked texts end.NoMemory (Err e) read h says = tt
+trace_ended files old new command arguments component action texts end.TooLarge r read (same, (word, name, is, long)) says =
+    said (OfFiles files old new command arguments component action) (answer.Large what.Trace (most_trace + 1)) (large_text what.Trace (most_trace + 1)) r (HasLongTrace word name texts same read is long) says
+trace_ended files old new command arguments component action texts end.NoMemory (Ok reply) read h says = absurd says
+trace_ended files old new command arguments component action texts end.NoMemory (Err e) read h says = tt
 
 -- all files are read
-pub all_texts : (files : Option Files) (old new : ℕ) (command : Command) (arguments : List (List ℕ)) (component action : List ℕ) (asked : Asked) (texts : List (List ℕ)) (trace : Option (List ℕ)) (r : Result Reply NoMemory)
-    → new ≡ old → AreRead files (sources_in arguments) texts → IsTraceRead files arguments trace → IfOk r (λ reply. OfTexts command arguments component action asked texts reply.answer (string_bytes reply.text))
-    → IfOk r (λ reply. OfFiles files old new command arguments component action asked reply.answer (string_bytes reply.text))
-all_texts files old new command arguments component action asked texts trace r same read traced h =
-    carried (OfTexts command arguments component action asked texts) (OfFiles files old new command arguments component action asked) r (λ a t right. HasTexts texts trace a t same read traced right) h
+pub all_texts : (files : Option Files) (old new : ℕ) (command : Command) (arguments : List (List ℕ)) (component action : List ℕ) (texts : List (List ℕ)) (trace : Option (List ℕ)) (r : Result Reply NoMemory)
+    → new ≡ old → AreRead files (sources_in arguments) texts → IsTraceRead files arguments trace → IfOk r (λ reply. OfTexts command arguments component action texts reply.answer (string_bytes reply.text))
+    → IfOk r (λ reply. OfFiles files old new command arguments component action reply.answer (string_bytes reply.text))
+all_texts files old new command arguments component action texts trace r same read traced h =
+    carried (OfTexts command arguments component action texts) (OfFiles files old new command arguments component action) r (λ a t right. HasTexts texts trace a t same read traced right) h
 
 -- files and a count that are the same
-pub same_shelf : (files others : Option Files) (old other new : ℕ) (command : Command) (arguments : List (List ℕ)) (component action : List ℕ) (asked : Asked) (r : Result Reply NoMemory) → others ≡ files → other ≡ old
-    → IfOk r (λ reply. OfFiles others other new command arguments component action asked reply.answer (string_bytes reply.text))
-    → IfOk r (λ reply. OfFiles files old new command arguments component action asked reply.answer (string_bytes reply.text))
-same_shelf files others old other new command arguments component action asked r same count h =
-    subst (λ n. IfOk r (λ reply. OfFiles files n new command arguments component action asked reply.answer (string_bytes reply.text))) count
-    (subst (λ (fs : Option Files). IfOk r (λ reply. OfFiles fs other new command arguments component action asked reply.answer (string_bytes reply.text))) same h)
+pub same_shelf : (files others : Option Files) (old other new : ℕ) (command : Command) (arguments : List (List ℕ)) (component action : List ℕ) (r : Result Reply NoMemory) → others ≡ files → other ≡ old
+    → IfOk r (λ reply. OfFiles others other new command arguments component action reply.answer (string_bytes reply.text))
+    → IfOk r (λ reply. OfFiles files old new command arguments component action reply.answer (string_bytes reply.text))
+same_shelf files others old other new command arguments component action r same count h =
+    subst (λ n. IfOk r (λ reply. OfFiles files n new command arguments component action reply.answer (string_bytes reply.text))) count
+    (subst (λ (fs : Option Files). IfOk r (λ reply. OfFiles fs other new command arguments component action reply.answer (string_bytes reply.text))) same h)

@@ -3,4 +3,3 @@ mod Ends
 mod SourceNames
 mod Served
 mod Kept
-mod Seeking

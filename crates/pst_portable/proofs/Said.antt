@@ -16,11 +16,7 @@ use Rattle.pst_words.specs.Lines.{IsLine, IsWrongWord, given}
 use Rattle.pst_outcome.specs.Texts.{usage_text, unbuilt_text}
 use Rattle.pst_outcome.specs.declared.answer.Answer.{Answer}
 use Rattle.pst_outcome.specs.declared.answer.Answer.TheVariants as answer
-use Rattle.pst_model.specs.ModelTree.{ModelTree}
-use Rattle.pst_outcome.specs.declared.asked.Asked.{Asked}
-use Rattle.pst_outcome.specs.Asking.{AsksFor}
-use Rattle.pst_outcome.specs.Sought.{OfModel, HasNone, IsSpent, IsFound}
-use Rattle.pst_outcome.specs.Outcome.{HasRoot, IsOwed, IsUsage, IsRootless, IsRooted, OfFiles, OfTexts, OfTokens, OfUnits, BreaksRule, HasManyInstances, IsRun, IsSolved, IsUnbuilt, IsSyntaxFault, HasUnits, IsLexicalFault, HasManyTokens, HasTokens, IsNoFile, IsUnread, HasManyBytes, HasLongTrace, HasTexts}
+use Rattle.pst_outcome.specs.Outcome.{HasRoot, IsOwed, IsUsage, IsRootless, IsRooted, OfFiles, OfTexts, OfTokens, OfUnits, BreaksRule, HasManyInstances, IsRun, IsUnbuilt, IsSyntaxFault, HasUnits, IsLexicalFault, HasManyTokens, HasTokens, IsNoFile, IsUnread, HasManyBytes, HasLongTrace, HasTexts}
 use Rattle.pst_outcome.specs.Delivered.{Answers, Writing, Writes}
 use Rattle.pst_portable.specs.declared.replies.Reply.{Reply}
 use Rattle.pst_portable.specs.Replies.{Says, Delivers}
@@ -41,38 +37,32 @@ IsSaid answer.WriteFault = ⊥
 IsSaid answer.NoMemory = ⊥
 IsSaid a = Unit {0}
 
-model_said : (names : List (List ℕ)) (m : ModelTree) (root : ℕ) (asked : Asked) (a : Answer) (t : List ℕ) → OfModel names m root asked a t → IsSaid a
-model_said names m root asked _ _ (HasNone _) = tt
-model_said names m root asked _ _ (IsSpent _ _ _) = tt
-model_said names m root asked _ _ (IsFound _ _) = tt
+units_said : (command : Command) (arguments : List (List ℕ)) (component action : List ℕ) (names : List (List ℕ)) (units : List UnitTree) (a : Answer) (t : List ℕ) → OfUnits command arguments component action names units a t → IsSaid a
+units_said command arguments component action names units _ _ (BreaksRule _ _ _) = tt
+units_said command arguments component action names units _ _ (HasManyInstances _) = tt
+units_said command arguments component action names units _ _ (IsRun _ _ _ _ _ _ _) = tt
+units_said command arguments component action names units _ _ (IsUnbuilt _ _) = tt
 
-units_said : (command : Command) (arguments : List (List ℕ)) (component action : List ℕ) (asked : Asked) (names : List (List ℕ)) (units : List UnitTree) (a : Answer) (t : List ℕ) → OfUnits command arguments component action asked names units a t → IsSaid a
-units_said command arguments component action asked names units _ _ (BreaksRule _ _ _) = tt
-units_said command arguments component action asked names units _ _ (HasManyInstances _) = tt
-units_said command arguments component action asked names units _ _ (IsRun _ _ _ _ _ _ _) = tt
-units_said command arguments component action asked names units _ _ (IsSolved m root a t _ _ h) = model_said names m root asked a t h
-units_said command arguments component action asked names units _ _ (IsUnbuilt _ _ _) = tt
+tokens_said : (command : Command) (arguments : List (List ℕ)) (component action : List ℕ) (names : List (List ℕ)) (tokens : List (List Token)) (a : Answer) (t : List ℕ) → OfTokens command arguments component action names tokens a t → IsSaid a
+tokens_said command arguments component action names tokens _ _ (IsSyntaxFault _ _ _) = tt
+tokens_said command arguments component action names tokens _ _ (HasUnits units a t _ h) = units_said command arguments component action names units a t h
 
-tokens_said : (command : Command) (arguments : List (List ℕ)) (component action : List ℕ) (asked : Asked) (names : List (List ℕ)) (tokens : List (List Token)) (a : Answer) (t : List ℕ) → OfTokens command arguments component action asked names tokens a t → IsSaid a
-tokens_said command arguments component action asked names tokens _ _ (IsSyntaxFault _ _ _) = tt
-tokens_said command arguments component action asked names tokens _ _ (HasUnits units a t _ h) = units_said command arguments component action asked names units a t h
+texts_said : (command : Command) (arguments : List (List ℕ)) (component action : List ℕ) (texts : List (List ℕ)) (a : Answer) (t : List ℕ) → OfTexts command arguments component action texts a t → IsSaid a
+texts_said command arguments component action texts _ _ (IsLexicalFault _ _ _) = tt
+texts_said command arguments component action texts _ _ (HasManyTokens _) = tt
+texts_said command arguments component action texts _ _ (HasTokens names tokens a t _ h) = tokens_said command arguments component action names tokens a t h
 
-texts_said : (command : Command) (arguments : List (List ℕ)) (component action : List ℕ) (asked : Asked) (texts : List (List ℕ)) (a : Answer) (t : List ℕ) → OfTexts command arguments component action asked texts a t → IsSaid a
-texts_said command arguments component action asked texts _ _ (IsLexicalFault _ _ _) = tt
-texts_said command arguments component action asked texts _ _ (HasManyTokens _) = tt
-texts_said command arguments component action asked texts _ _ (HasTokens names tokens a t _ h) = tokens_said command arguments component action asked names tokens a t h
-
-files_said : (files : Option Files) (old new : ℕ) (command : Command) (arguments : List (List ℕ)) (component action : List ℕ) (asked : Asked) (a : Answer) (t : List ℕ) → OfFiles files old new command arguments component action asked a t → IsSaid a
-files_said files old new command arguments component action asked _ _ (IsNoFile _ _ _ _ _) = tt
-files_said files old new command arguments component action asked _ _ (IsUnread _ _ _ _) = tt
-files_said files old new command arguments component action asked _ _ (HasManyBytes _ _ _ _ _ _) = tt
-files_said files old new command arguments component action asked _ _ (HasLongTrace _ _ _ _ _ _ _) = tt
-files_said files old new command arguments component action asked _ _ (HasTexts texts _ a t _ _ _ h) = texts_said command arguments component action asked texts a t h
+files_said : (files : Option Files) (old new : ℕ) (command : Command) (arguments : List (List ℕ)) (component action : List ℕ) (a : Answer) (t : List ℕ) → OfFiles files old new command arguments component action a t → IsSaid a
+files_said files old new command arguments component action _ _ (IsNoFile _ _ _ _ _) = tt
+files_said files old new command arguments component action _ _ (IsUnread _ _ _ _) = tt
+files_said files old new command arguments component action _ _ (HasManyBytes _ _ _ _ _ _) = tt
+files_said files old new command arguments component action _ _ (HasLongTrace _ _ _ _ _ _ _) = tt
+files_said files old new command arguments component action _ _ (HasTexts texts _ a t _ _ _ h) = texts_said command arguments component action texts a t h
 
 owed_said : (lines : Lines) (have : ℕ) (words : List (List ℕ)) (files : Option Files) (old new : ℕ) (a : Answer) (t : List ℕ) → IsOwed lines have words files old new a t → IsSaid a
 owed_said lines have words files old new _ _ (IsUsage _ _ _) = tt
 owed_said lines have words files old new _ _ (IsRootless _ _ _ _ _) = tt
-owed_said lines have words files old new _ _ (IsRooted command arguments component action asked a t _ _ _ h) = files_said files old new command arguments component action asked a t h
+owed_said lines have words files old new _ _ (IsRooted command arguments component action a t _ _ h) = files_said files old new command arguments component action a t h
 
 -- what was delivered is the answer
 pub answered : (lines : Lines) (have : ℕ) (words : List (List ℕ)) (files : Option Files) (old new : ℕ) (w : Writing) (reply : Reply) (result : Answer)
@@ -81,9 +71,6 @@ answered lines have words files old new w reply result owed (inl d) = subst (Ans
   where
     by_answer : (a : Answer) → IsOwed lines have words files old new a (string_bytes reply.text) → Answers lines have words files old new w a
     by_answer (answer.Done count) o = record { text = string_bytes reply.text; owed = o; writes = d.1 }
-    by_answer (answer.Solved count) o = record { text = string_bytes reply.text; owed = o; writes = d.1 }
-    by_answer answer.NoScenario o = record { text = string_bytes reply.text; owed = o; writes = d.1 }
-    by_answer (answer.Budget level) o = record { text = string_bytes reply.text; owed = o; writes = d.1 }
     by_answer (answer.Usage word) o = record { text = string_bytes reply.text; owed = o; writes = d.1 }
     by_answer (answer.NoFile word) o = record { text = string_bytes reply.text; owed = o; writes = d.1 }
     by_answer (answer.ReadFault word) o = record { text = string_bytes reply.text; owed = o; writes = d.1 }
@@ -101,11 +88,11 @@ answered lines have words files old new w reply result owed (inr (inr d)) = subs
 -- ---- lines
 
 -- a line with a root
-pub rooted : (files : Option Files) (old new : ℕ) (command : Command) (arguments : List (List ℕ)) (component action : List ℕ) (asked : Asked) (r : Result Reply NoMemory) → HasRoot arguments component action → AsksFor arguments asked
-    → IfOk r (λ reply. OfFiles files old new command arguments component action asked reply.answer (string_bytes reply.text))
+pub rooted : (files : Option Files) (old new : ℕ) (command : Command) (arguments : List (List ℕ)) (component action : List ℕ) (r : Result Reply NoMemory) → HasRoot arguments component action
+    → IfOk r (λ reply. OfFiles files old new command arguments component action reply.answer (string_bytes reply.text))
     → IfOk r (λ reply. (lines : Lines) (have : ℕ) (words : List (List ℕ)) → IsLine lines have words command arguments → IsOwed lines have words files old new reply.answer (string_bytes reply.text))
-rooted files old new command arguments component action asked (Ok reply) root asks h = λ lines have words line. IsRooted command arguments component action asked reply.answer (string_bytes reply.text) line root asks h
-rooted files old new command arguments component action asked (Err e) root asks h = tt
+rooted files old new command arguments component action (Ok reply) root h = λ lines have words line. IsRooted command arguments component action reply.answer (string_bytes reply.text) line root h
+rooted files old new command arguments component action (Err e) root h = tt
 
 -- a line without one
 pub rootless : (files : Option Files) (old new : ℕ) (command : Command) (arguments : List (List ℕ)) (r : Result Reply NoMemory) → new ≡ old

@@ -9,7 +9,7 @@ use crate::units::reply_to_texts;
 use pst_base::{Items, NoMemory};
 use pst_files_read::{FileEnd, MOST_BYTES, MOST_TRACE, name_given, read_sources, read_trace};
 use pst_io::Shelf;
-use pst_outcome::{Asked, What};
+use pst_outcome::What;
 use pst_words::{Line, Root};
 use std::alloc::Global;
 
@@ -48,17 +48,16 @@ fn reply_behind_sources<S: Shelf>(
     alloc: Global,
     line: &Line<'_>,
     root: &Root<'_>,
-    asked: Asked,
     shelf: &mut S,
     texts: &[Items<u8>],
 ) -> Result<Reply, NoMemory>
     requires { AreRead (S.files shelf.old) (sources_in (map string_bytes line.now.arguments.now)) texts.now }
     ensures same_files { S.files shelf.new ≡ S.files shelf.old }
     ensures owed { IfOk result (λ reply. OfFiles (S.files shelf.old) (S.faults shelf.old) (S.faults shelf.new) line.now.command (map string_bytes line.now.arguments.now)
-        root.now.component.now root.now.action.now asked reply.answer (string_bytes reply.text)) }
+        root.now.component.now root.now.action.now reply.answer (string_bytes reply.text)) }
 {
     match read_trace(alloc, shelf, line.arguments) {
-        Ok(_trace) => reply_to_texts(alloc, line, root, asked, texts),
+        Ok(_trace) => reply_to_texts(alloc, line, root, texts),
         Err(end) => {
             let number = MOST_TRACE as u64 + 1;
             reply_to_end(alloc, line.arguments, What::Trace, number, end)
@@ -71,15 +70,14 @@ pub(crate) fn reply_to_files<S: Shelf>(
     alloc: Global,
     line: &Line<'_>,
     root: &Root<'_>,
-    asked: Asked,
     shelf: &mut S,
 ) -> Result<Reply, NoMemory>
     ensures same_files { S.files shelf.new ≡ S.files shelf.old }
     ensures owed { IfOk result (λ reply. OfFiles (S.files shelf.old) (S.faults shelf.old) (S.faults shelf.new) line.now.command (map string_bytes line.now.arguments.now)
-        root.now.component.now root.now.action.now asked reply.answer (string_bytes reply.text)) }
+        root.now.component.now root.now.action.now reply.answer (string_bytes reply.text)) }
 {
     match read_sources(alloc, shelf, line.arguments) {
-        Ok(texts) => reply_behind_sources(alloc, line, root, asked, shelf, texts.as_slice()),
+        Ok(texts) => reply_behind_sources(alloc, line, root, shelf, texts.as_slice()),
         Err(end) => {
             let number = MOST_BYTES as u64 + 1;
             reply_to_end(alloc, line.arguments, What::Bytes, number, end)

@@ -5,7 +5,6 @@
 mod files;
 mod printing;
 mod replies;
-mod sought;
 mod top;
 mod units;
 mod words;

@@ -108,20 +108,6 @@ pub(crate) fn rule_text(
     Ok(format!(in alloc; "rule {rule} {name}:{line}:{column}\n")?)
 }
 
-/// `noscenario INFER`.
-pub(crate) fn no_scenario_text(alloc: Global, infer: u32) -> Result<String, NoMemory>
-    ensures { IfOk result (λ text. string_bytes text ≡ Texts.no_scenario_text infer) }
-{
-    Ok(format!(in alloc; "noscenario {infer}\n")?)
-}
-
-/// `budget LEVEL`.
-pub(crate) fn budget_text(alloc: Global, level: u32) -> Result<String, NoMemory>
-    ensures { IfOk result (λ text. string_bytes text ≡ Texts.budget_text level) }
-{
-    Ok(format!(in alloc; "budget {level}\n")?)
-}
-
 /// `unbuilt`.
 pub(crate) fn unbuilt_text(alloc: Global) -> Result<String, NoMemory>
     ensures { IfOk result (λ text. string_bytes text ≡ Texts.unbuilt_text) }

@@ -4,8 +4,8 @@ ghost use Rattle.pst_outcome.specs.Texts;
 ghost use Rattle.pst_portable.specs.Replies.{Says};
 
 use crate::printing::{
-    budget_text, large_text, lexical_text, no_file_text, no_scenario_text, read_fault_text,
-    rule_text, source_name, syntax_text, unbuilt_text, usage_text,
+    large_text, lexical_text, no_file_text, read_fault_text, rule_text, source_name, syntax_text,
+    unbuilt_text, usage_text,
 };
 use pst_base::{NoMemory, Place};
 use pst_outcome::{Answer, What};
@@ -109,28 +109,6 @@ pub(crate) fn broken(
     let text = rule_text(alloc, name, place, rule)?;
     Ok(Reply {
         answer: Answer::Rule { place, rule },
-        text,
-    })
-}
-
-/// The reply where no legal scenario infers so few actions.
-pub(crate) fn no_scenario(alloc: Global, infer: u32) -> Result<Reply, NoMemory>
-    ensures { IfOk result (Says Answer.NoScenario (Texts.no_scenario_text infer)) }
-{
-    let text = no_scenario_text(alloc, infer)?;
-    Ok(Reply {
-        answer: Answer::NoScenario,
-        text,
-    })
-}
-
-/// The reply where the budget is spent in a level.
-pub(crate) fn spent_budget(alloc: Global, level: u32) -> Result<Reply, NoMemory>
-    ensures { IfOk result (Says (Answer.Budget level) (Texts.budget_text level)) }
-{
-    let text = budget_text(alloc, level)?;
-    Ok(Reply {
-        answer: Answer::Budget { level },
         text,
     })
 }

@@ -3,42 +3,28 @@ ghost use Rattle.std.specs.Prelude.{◌≡◌, ◌≤◌, ◌^◌, ◌∷◌, []
 ghost use Rattle.std.specs.List.{sum_by};
 ghost use Rattle.pst_ast.specs.DeclarationTree.{UnitTree};
 ghost use Rattle.pst_ast.specs.DeclarationView.{view_unit};
-ghost use Rattle.pst_elab_rules.specs.Ends.{IsElaborated};
 ghost use Rattle.pst_judged.specs.Kept.{AreKept};
-ghost use Rattle.pst_model.specs.ModelTree.{ModelTree};
-ghost use Rattle.pst_model.specs.Sound.{IsSound};
 ghost use Rattle.pst_sources_read.specs.Lexed.{AreLexed};
 ghost use Rattle.pst_outcome.specs.Outcome.{IsServed, OfUnits, OfTokens, OfTexts};
 
 use crate::replies::{Reply, broken, large, lexical, syntax, unbuilt};
-use crate::sought::reply_to_model;
 use pst_ast::Unit;
 use pst_base::{Items, Names, NoMemory};
-use pst_elab::{ElabEnd, elaborate};
+use pst_elab_rules::ElabEnd;
 use pst_judged::judge;
 use pst_lexer::LexFault;
-use pst_outcome::{Answer, Asked, What};
-use pst_sound_model::models_of_texts_are_sound;
-use pst_sound_root::roots_are_concrete;
+use pst_outcome::{Answer, What};
 use pst_sources_read::{MOST_TOKENS, UnitsEnd, lex_texts, parse_units};
 use pst_straight::{Run, run_straight};
 use pst_token::Token;
 use pst_words::{Command, Line, Root};
 use std::alloc::Global;
-use std::str;
 
 // Whether the command is `run`.
 fn is_run(command: Command) -> bool
     ensures { MatchBool result (command ≡ Command.Run) (command ≡ Command.Run → ⊥) }
 {
     command == Command::Run
-}
-
-// Whether the command is `solve`.
-fn is_solve(command: Command) -> bool
-    ensures { MatchBool result (command ≡ Command.Solve) (command ≡ Command.Solve → ⊥) }
-{
-    command == Command::Solve
 }
 
 // Whether there are two words.
@@ -91,17 +77,15 @@ fn reply_to_served(
     alloc: Global,
     line: &Line<'_>,
     root: &Root<'_>,
-    asked: Asked,
     names: &Names,
     unit: &Unit,
 ) -> Result<Reply, NoMemory>
     requires kept { AreKept (view_unit unit.now ∷ []) names.now root.now.component.now root.now.action.now }
     requires served { IsServed line.now.command (map string_bytes line.now.arguments.now) root.now.component.now }
-    requires other { line.now.command ≡ Command.Solve → ⊥ }
-    ensures { IfOk result (λ reply. OfUnits line.now.command (map string_bytes line.now.arguments.now) root.now.component.now root.now.action.now asked names.now (view_unit unit.now ∷ [])
+    ensures { IfOk result (λ reply. OfUnits line.now.command (map string_bytes line.now.arguments.now) root.now.component.now root.now.action.now names.now (view_unit unit.now ∷ [])
         reply.answer (string_bytes reply.text)) }
 {
-    let (_line, _asked) = (line, asked);
+    let _line = line;
     match run_straight(alloc, root.action, names, unit) {
         Ok(Some(Run { actions, text })) => Ok(Reply {
             answer: Answer::Done { actions },
@@ -117,13 +101,11 @@ fn reply_to_kept(
     alloc: Global,
     line: &Line<'_>,
     root: &Root<'_>,
-    asked: Asked,
     names: &Names,
     units: &[Unit],
 ) -> Result<Reply, NoMemory>
-    requires kept { AreKept (map view_unit units.now) names.now root.now.component.now root.now.action.now }
-    requires other { line.now.command ≡ Command.Solve → ⊥ }
-    ensures { IfOk result (λ reply. OfUnits line.now.command (map string_bytes line.now.arguments.now) root.now.component.now root.now.action.now asked names.now (map view_unit units.now)
+    requires { AreKept (map view_unit units.now) names.now root.now.component.now root.now.action.now }
+    ensures { IfOk result (λ reply. OfUnits line.now.command (map string_bytes line.now.arguments.now) root.now.component.now root.now.action.now names.now (map view_unit units.now)
         reply.answer (string_bytes reply.text)) }
 {
     let Some(unit) = only_unit(units) else {
@@ -132,57 +114,7 @@ fn reply_to_kept(
     if !is_served(line, root) {
         return unbuilt(alloc);
     }
-    reply_to_served(alloc, line, root, asked, names, unit)
-}
-
-// The reply to the units of a line of another command than `solve`.
-fn reply_to_judged(
-    alloc: Global,
-    line: &Line<'_>,
-    root: &Root<'_>,
-    asked: Asked,
-    names: &Names,
-    units: &[Unit],
-) -> Result<Reply, NoMemory>
-    requires other { line.now.command ≡ Command.Solve → ⊥ }
-    ensures { IfOk result (λ reply. OfUnits line.now.command (map string_bytes line.now.arguments.now) root.now.component.now root.now.action.now asked names.now (map view_unit units.now)
-        reply.answer (string_bytes reply.text)) }
-{
-    match judge(alloc, units, names, root.component, root.action) {
-        Ok(()) => reply_to_kept(alloc, line, root, asked, names, units),
-        Err(ElabEnd::Broken { place, rule }) => broken(alloc, line.arguments, place, rule),
-        Err(ElabEnd::Many { count }) => large(alloc, What::Instances, count as u64),
-        Err(ElabEnd::NoMemory) => Err(NoMemory),
-    }
-}
-
-// The reply to the units of a line of `solve`.
-fn reply_to_sought(
-    alloc: Global,
-    line: &Line<'_>,
-    root: &Root<'_>,
-    asked: Asked,
-    names: &Names,
-    units: &[Unit],
-) -> Result<Reply, NoMemory>
-    requires solves { line.now.command ≡ Command.Solve }
-    requires sound { (m : ModelTree) (number : ℕ) → IsElaborated (map view_unit units.now) names.now root.now.component.now root.now.action.now m number → IsSound m }
-    ensures { IfOk result (λ reply. OfUnits line.now.command (map string_bytes line.now.arguments.now) root.now.component.now root.now.action.now asked names.now (map view_unit units.now)
-        reply.answer (string_bytes reply.text)) }
-{
-    roots_are_concrete();
-    let Ok(component) = str::from_utf8(root.component) else {
-        return Err(NoMemory);
-    };
-    let Ok(action) = str::from_utf8(root.action) else {
-        return Err(NoMemory);
-    };
-    match elaborate(alloc, units, names, component, action) {
-        Ok((model, number)) => reply_to_model(alloc, names, &model, number, asked),
-        Err(ElabEnd::Broken { place, rule }) => broken(alloc, line.arguments, place, rule),
-        Err(ElabEnd::Many { count }) => large(alloc, What::Instances, count as u64),
-        Err(ElabEnd::NoMemory) => Err(NoMemory),
-    }
+    reply_to_served(alloc, line, root, names, unit)
 }
 
 // The reply to units.
@@ -190,18 +122,18 @@ fn reply_to_units(
     alloc: Global,
     line: &Line<'_>,
     root: &Root<'_>,
-    asked: Asked,
     names: &Names,
     units: &[Unit],
 ) -> Result<Reply, NoMemory>
-    requires sound { (m : ModelTree) (number : ℕ) → IsElaborated (map view_unit units.now) names.now root.now.component.now root.now.action.now m number → IsSound m }
-    ensures { IfOk result (λ reply. OfUnits line.now.command (map string_bytes line.now.arguments.now) root.now.component.now root.now.action.now asked names.now (map view_unit units.now)
+    ensures { IfOk result (λ reply. OfUnits line.now.command (map string_bytes line.now.arguments.now) root.now.component.now root.now.action.now names.now (map view_unit units.now)
         reply.answer (string_bytes reply.text)) }
 {
-    if is_solve(line.command) {
-        return reply_to_sought(alloc, line, root, asked, names, units);
+    match judge(alloc, units, names, root.component, root.action) {
+        Ok(()) => reply_to_kept(alloc, line, root, names, units),
+        Err(ElabEnd::Broken { place, rule }) => broken(alloc, line.arguments, place, rule),
+        Err(ElabEnd::Many { count }) => large(alloc, What::Instances, count as u64),
+        Err(ElabEnd::NoMemory) => Err(NoMemory),
     }
-    reply_to_judged(alloc, line, root, asked, names, units)
 }
 
 // The reply to the tokens of sources.
@@ -209,17 +141,15 @@ fn reply_to_tokens(
     alloc: Global,
     line: &Line<'_>,
     root: &Root<'_>,
-    asked: Asked,
     names: &Names,
     tokens: &[Items<Token>],
 ) -> Result<Reply, NoMemory>
     requires { (texts : List (List ℕ)) × AreLexed texts names.now tokens.now }
-    ensures { IfOk result (λ reply. OfTokens line.now.command (map string_bytes line.now.arguments.now) root.now.component.now root.now.action.now asked names.now tokens.now
+    ensures { IfOk result (λ reply. OfTokens line.now.command (map string_bytes line.now.arguments.now) root.now.component.now root.now.action.now names.now tokens.now
         reply.answer (string_bytes reply.text)) }
 {
-    models_of_texts_are_sound();
     match parse_units(alloc, tokens) {
-        Ok(units) => reply_to_units(alloc, line, root, asked, names, units.as_slice()),
+        Ok(units) => reply_to_units(alloc, line, root, names, units.as_slice()),
         Err(UnitsEnd::Faulty { deep, place }) => syntax(alloc, line.arguments, deep, place),
         Err(UnitsEnd::NoMemory) => Err(NoMemory),
     }
@@ -230,16 +160,15 @@ pub(crate) fn reply_to_texts(
     alloc: Global,
     line: &Line<'_>,
     root: &Root<'_>,
-    asked: Asked,
     texts: &[Items<u8>],
 ) -> Result<Reply, NoMemory>
     requires { sum_by length texts.now ≤ 2 ^ 31 }
-    ensures { IfOk result (λ reply. OfTexts line.now.command (map string_bytes line.now.arguments.now) root.now.component.now root.now.action.now asked texts.now
+    ensures { IfOk result (λ reply. OfTexts line.now.command (map string_bytes line.now.arguments.now) root.now.component.now root.now.action.now texts.now
         reply.answer (string_bytes reply.text)) }
 {
     let mut names = Names::new(alloc);
     match lex_texts(alloc, texts, &mut names) {
-        Ok(tokens) => reply_to_tokens(alloc, line, root, asked, &names, tokens.as_slice()),
+        Ok(tokens) => reply_to_tokens(alloc, line, root, &names, tokens.as_slice()),
         Err(LexFault::Bad(place)) => lexical(alloc, line.arguments, false, place),
         Err(LexFault::Wide(place)) => lexical(alloc, line.arguments, true, place),
         Err(LexFault::Many) => large(alloc, What::Tokens, MOST_TOKENS as u64 + 1),

@@ -3,33 +3,14 @@ ghost use Rattle.std.specs.Prelude.{◌≡◌, List, ℕ, map, string_bytes, IfO
 ghost use Rattle.pst_words.specs.declared.command.Command.{Command as AnyCommand};
 ghost use Rattle.pst_words.specs.declared.command.Lines.{Lines as AnyLines};
 ghost use Rattle.pst_words.specs.Lines.{IsLine};
-ghost use Rattle.pst_outcome.specs.Asking.{AsksFor};
 ghost use Rattle.pst_outcome.specs.Outcome.{IsOwed};
 
 use crate::files::reply_to_files;
 use crate::replies::{Reply, unbuilt, usage};
 use pst_base::NoMemory;
 use pst_io::Shelf;
-use pst_outcome::Asked;
-use pst_words::{Key, Line, Lines, read_words};
+use pst_words::{Line, Lines, read_words};
 use std::alloc::Global;
-
-// What a line asks of the search. Where a number doesn't fit, which no line has, the answer is
-// `NoMemory`.
-fn asked_by(line: &Line<'_>) -> Result<Asked, NoMemory>
-    ensures { IfOk result (AsksFor (map string_bytes line.now.arguments.now)) }
-{
-    let seed = line.number(Key::Seed, 1);
-    let budget = line.number(Key::Budget, 100_000);
-    match u32::try_from(line.number(Key::Infer, 2)) {
-        Ok(infer) => Ok(Asked {
-            seed,
-            infer,
-            budget,
-        }),
-        Err(_) => Err(NoMemory),
-    }
-}
 
 // The reply to a line.
 fn reply_to_line<S: Shelf>(alloc: Global, line: &Line<'_>, shelf: &mut S) -> Result<Reply, NoMemory>
@@ -38,10 +19,7 @@ fn reply_to_line<S: Shelf>(alloc: Global, line: &Line<'_>, shelf: &mut S) -> Res
         → IsOwed lines have words (S.files shelf.old) (S.faults shelf.old) (S.faults shelf.new) reply.answer (string_bytes reply.text)) }
 {
     match line.root() {
-        Some(root) => {
-            let asked = asked_by(line)?;
-            reply_to_files(alloc, line, &root, asked, shelf)
-        }
+        Some(root) => reply_to_files(alloc, line, &root, shelf),
         None => unbuilt(alloc),
     }
 }

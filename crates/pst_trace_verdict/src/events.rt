@@ -78,7 +78,8 @@ pub(crate) fn fits(scenario: &Scenario, events: &[Event], last: LastLine, whole:
     ensures { IsTrue result ↔ spec.Fits scenario.now events.now last }
 {
     match last {
-        LastLine::Done { actions } => whole && actions as usize == scenario.actions.as_slice().len(),
+        LastLine::Done { actions } => whole
+            && actions as usize == scenario.actions.as_slice().len(),
         LastLine::Fault { lane, action, .. } => runs_on(events, action, lane),
         LastLine::Trap { lane, action, .. } => runs_on(events, action, lane),
     }

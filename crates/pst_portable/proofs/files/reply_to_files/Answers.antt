@@ -13,10 +13,10 @@ reply_behind_sources-requires g c =
 pub returns-in-Ok-clause-owed : goal.returns-in-Ok-clause-owed
 returns-in-Ok-clause-owed g c =
     same_shelf (g.S.Shelf.files c.args.shelf.now) (g.S.Shelf.files c.read_sources.new.shelf) (g.S.Shelf.faults c.args.shelf.now) (g.S.Shelf.faults c.read_sources.new.shelf) (g.S.Shelf.faults c.reply_behind_sources.new.shelf)
-    c.args.line.now.command (map string_bytes c.args.line.now.arguments.now) c.args.root.now.component.now c.args.root.now.action.now c.args.asked c.reply_behind_sources.result
+    c.args.line.now.command (map string_bytes c.args.line.now.arguments.now) c.args.root.now.component.now c.args.root.now.action.now c.reply_behind_sources.result
     c.in-Ok.ensures.same_files c.in-Ok.ensures.count c.reply_behind_sources.ensures.owed
 
 pub returns-in-Err-clause-owed : goal.returns-in-Err-clause-owed
 returns-in-Err-clause-owed g c =
     sources_ended (g.S.Shelf.files c.args.shelf.now) (g.S.Shelf.faults c.args.shelf.now) (g.S.Shelf.faults c.read_sources.new.shelf) c.args.line.now.command (map string_bytes c.args.line.now.arguments.now)
-    c.args.root.now.component.now c.args.root.now.action.now c.args.asked c.in-Err.end c.reply_to_end.result c.in-Err.ensures.end c.reply_to_end.ensures
+    c.args.root.now.component.now c.args.root.now.action.now c.in-Err.end c.reply_to_end.result c.in-Err.ensures.end c.reply_to_end.ensures

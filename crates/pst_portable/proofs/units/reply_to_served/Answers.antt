@@ -15,7 +15,7 @@ returns-in-Ok-Some c =
 
 pub returns-in-Ok-None : goal.returns-in-Ok-None
 returns-in-Ok-None c =
-    not_straight c.args.line.now.command (map string_bytes c.args.line.now.arguments.now) c.args.root.now.component.now c.args.root.now.action.now c.args.asked c.args.names.now (view_unit c.args.unit.now) c.unbuilt.result
-    c.requires.kept c.requires.other
+    not_straight c.args.line.now.command (map string_bytes c.args.line.now.arguments.now) c.args.root.now.component.now c.args.root.now.action.now c.args.names.now (view_unit c.args.unit.now) c.unbuilt.result
+    c.requires.kept
     (subst (λ (o : Option Run). MatchOption o (IsNotStraight c.args.names.now (view_unit c.args.unit.now) c.args.root.now.action.now)
     (λ run. ShowsRun c.args.names.now (view_unit c.args.unit.now) c.args.root.now.action.now run.actions (string_bytes run.text))) c.in-Ok-None.field-0-is c.in-Ok-None.ensures) c.unbuilt.ensures

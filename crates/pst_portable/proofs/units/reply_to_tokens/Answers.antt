@@ -13,11 +13,11 @@ parse_units-requires c = (c.requires.0, c.args.names.now, c.requires.1)
 
 pub returns-in-Ok : goal.returns-in-Ok
 returns-in-Ok c =
-    parsed_units c.args.line.now.command (map string_bytes c.args.line.now.arguments.now) c.args.root.now.component.now c.args.root.now.action.now c.args.asked c.args.names.now c.args.tokens.now
+    parsed_units c.args.line.now.command (map string_bytes c.args.line.now.arguments.now) c.args.root.now.component.now c.args.root.now.action.now c.args.names.now c.args.tokens.now
     c.in-Ok.units.items c.as_slice.result.now c.reply_to_units.result c.as_slice.ensures.value c.in-Ok.ensures.parsed c.reply_to_units.ensures
 
 pub returns-in-Err-Faulty : goal.returns-in-Err-Faulty
 returns-in-Err-Faulty c =
-    said (OfTokens c.args.line.now.command (map string_bytes c.args.line.now.arguments.now) c.args.root.now.component.now c.args.root.now.action.now c.args.asked c.args.names.now c.args.tokens.now)
+    said (OfTokens c.args.line.now.command (map string_bytes c.args.line.now.arguments.now) c.args.root.now.component.now c.args.root.now.action.now c.args.names.now c.args.tokens.now)
     (Syntax c.in-Err-Faulty.deep c.in-Err-Faulty.place) (syntax_text (source_name (map string_bytes c.args.line.now.arguments.now) c.in-Err-Faulty.place.file) c.in-Err-Faulty.deep c.in-Err-Faulty.place) c.syntax.result
     (IsSyntaxFault c.in-Err-Faulty.deep c.in-Err-Faulty.place (subst (IsUnitsEnd c.args.tokens.now) c.in-Err-Faulty.field-0-is c.in-Err-Faulty.ensures.end)) c.syntax.ensures
