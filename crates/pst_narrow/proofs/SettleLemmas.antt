@@ -123,8 +123,8 @@ pub record IsRowLooked (xs : List Expr) (row : List ℕ) (k : ℕ) (a b : List (
   pub step : IsStep (AreMet (map view xs)) a b t u (Ok true)
   pub looked : AreLookedAt (IsOfFirst k row a) (map view xs) t u b
 
-pub none_of_row : (xs : List Expr) (row : List ℕ) (a : List (Option Span)) (t : List Former) → AreUpright a → IsRowLooked xs row 0 a a t t
-none_of_row xs row a t upright =
+pub none_of_row : (xs : List Expr) (numbers : List ℕ) (a : List (Option Span)) (t : List Former) → AreUpright a → IsRowLooked xs numbers 0 a a t t
+none_of_row xs numbers a t upright =
     record {
       step = step_self (AreMet (map view xs)) a t (Ok true) upright (λ e. absurd cc);
       looked = λ c e is p q. elim p [ inl (j, small, at) ↦ absurd (omega arith) | inr kept ↦ kept ];
