@@ -8,7 +8,7 @@ use Rattle.pst_scen.specs.declared.event.Event.{Event}
 use Rattle.pst_scen.specs.declared.event.Event.TheVariants.{Start, End}
 use Rattle.pst_scen.specs.Trace.{Started, starts_of}
 use Rattle.pst_lanes.specs.Lanes.{is_start}
-use Rattle.pst_lanes.proofs.Elements.{none_in, cons_first, cons_rest, Distinct, distinct_tail, distinct_head}
+use Rattle.pst_lanes.proofs.Elements.{cons_first, cons_rest, Distinct, distinct_tail, distinct_head}
 use Rattle.pst_lanes.proofs.Events.{starts_member}
 
 pub count_append : (a : ℕ) (t u : List Event) → count_by (is_start a) (t ++ u) ≡ count_by (is_start a) t + count_by (is_start a) u

@@ -1,10 +1,10 @@
 -- Events of a trace, and of a block of starts.
-use Rattle.std.proofs.Common.{◌≡◌, ◌⊎◌, ℕ, List, [], ◌∷◌, ◌++◌, length, Bool, true, false, subst, inl, inr, ⊎_elim, arith}
+use Rattle.std.proofs.Common.{◌≡◌, ◌⊎◌, ℕ, List, [], ◌∷◌, ◌++◌, Bool, true, false, subst, inl, inr, ⊎_elim}
 use Rattle.std.specs.Prelude.{Contains}
 use Rattle.std.proofs.lemmas.List.Elements.{Contains-append_left, Contains-append_right, Contains-append_cases}
 use Rattle.pst_scen.specs.declared.event.Event.{Event}
 use Rattle.pst_scen.specs.declared.event.Event.TheVariants.{Start, End}
-use Rattle.pst_scen.specs.Trace.{StartsOn, Started, Ended, Runs, starts_of}
+use Rattle.pst_scen.specs.Trace.{StartsOn, Started, Ended, starts_of}
 use Rattle.pst_lanes.proofs.Elements.{none_in, cons_cases, cons_first, cons_rest}
 
 -- MORE EVENTS

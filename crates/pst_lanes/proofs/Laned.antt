@@ -1,17 +1,16 @@
 -- What a legal trace keeps of its lanes.
-use Rattle.std.proofs.Common.{◌≡◌, ◌⊎◌, ℕ, ◌+◌, ◌<◌, ◌≤◌, List, [], ◌∷◌, ◌++◌, length, get_or, true, false, refl, sym, ap, ap₂, ◌∙◌, subst, inl, inr, ⊎_elim, arith, append_assoc, append-nil}
-use Rattle.std.specs.Prelude.{Contains, nat_eq, Option, None, Some, MatchOption}
+use Rattle.std.proofs.Common.{◌≡◌, ℕ, ◌≤◌, List, [], ◌∷◌, ◌++◌, length, refl, sym, ap, ◌∙◌, subst, ⊎_elim, arith, append-nil}
+use Rattle.std.specs.Prelude.{Contains, nat_eq, Option, None, Some}
 use Rattle.std.specs.List.{count_by, list_any}
 use Rattle.std.specs.Option.{option_to_list}
-use Rattle.std.proofs.lemmas.List.Elements.{Contains-append_left, Contains-append_right, Contains-append_cases}
-use Rattle.std.proofs.lemmas.Bool.{cases_eq}
+use Rattle.std.proofs.lemmas.List.Elements.{Contains-append_right, Contains-append_cases}
 use Rattle.pst_scen.specs.declared.scenario.Scenario.{Scenario}
 use Rattle.pst_scen.specs.declared.event.Event.{Event}
 use Rattle.pst_scen.specs.declared.event.Event.TheVariants.{Start, End}
-use Rattle.pst_scen.specs.Trace.{StartsOn, Started, Ended, Runs, IsHeld, AreFree, AreLegal, IsLegalTrace, Block, Starts, Ends, starts_of, events}
+use Rattle.pst_scen.specs.Trace.{StartsOn, Started, Ended, Runs, IsHeld, AreLegal, IsLegalTrace, Block, Starts, Ends, starts_of, events}
 use Rattle.pst_lanes.specs.Lanes.{only_if, starts_on, ends_among, ends_on, is_start, IsRunning}
 use Rattle.pst_lanes.proofs.Elements.{none_in, cons_first, one_in, contains_or, Distinct, ascending_distinct}
-use Rattle.pst_lanes.proofs.Events.{ended_cases, ended_more, ended_new, starts_on_cases, starts_on_more, started_cases, started_more, starts_no_end, starts_member, starts_lane, end_is, end_no_start}
+use Rattle.pst_lanes.proofs.Events.{ended_cases, ended_more, ended_new, starts_on_cases, starts_on_more, started_more, starts_no_end, starts_member, starts_lane, end_is, end_no_start}
 use Rattle.pst_lanes.proofs.Lists.{starts_append, ends_append, in_starts, starts_in, any_false, true_any, ends_in, ends_same}
 use Rattle.pst_lanes.proofs.Starting.{no_ends, starts_else, starts_here, starts_one_lane}
 use Rattle.pst_lanes.proofs.Counting.{count_append, count_none, count_block}

@@ -1,13 +1,13 @@
 -- The starts and the ends of a lane, as lists.
-use Rattle.std.proofs.Common.{◌≡◌, ◌⊎◌, ℕ, List, [], ◌∷◌, ◌++◌, Bool, true, false, refl, sym, ap, ap₂, ◌∙◌, subst, inl, inr, ⊎_elim, append_assoc, append-nil}
+use Rattle.std.proofs.Common.{◌≡◌, ℕ, List, [], ◌∷◌, ◌++◌, Bool, true, false, refl, sym, ap, ap₂, ◌∙◌, subst, ⊎_elim, append_assoc}
 use Rattle.std.specs.Prelude.{Contains, nat_eq, ◌||◌}
 use Rattle.std.specs.List.{list_any}
-use Rattle.std.proofs.lemmas.Bool.{eqb-true, eq-eqb, ne_eqb}
+use Rattle.std.proofs.lemmas.Bool.{eqb-true, eq-eqb}
 use Rattle.std.proofs.lemmas.List.Elements.{Contains-append_left, Contains-append_right, Contains-append_cases}
 use Rattle.pst_scen.specs.declared.event.Event.{Event}
 use Rattle.pst_scen.specs.declared.event.Event.TheVariants.{Start, End}
-use Rattle.pst_scen.specs.Trace.{StartsOn, Started, Ended}
-use Rattle.pst_lanes.specs.Lanes.{only_if, starts_on, ends_among, ends_on}
+use Rattle.pst_scen.specs.Trace.{StartsOn, Ended}
+use Rattle.pst_lanes.specs.Lanes.{only_if, starts_on, ends_among}
 use Rattle.pst_lanes.proofs.Elements.{none_in, cons_cases, cons_first, cons_rest, one_in, contains_or}
 use Rattle.pst_lanes.proofs.Events.{same_act, same_lane}
 

@@ -1,10 +1,9 @@
 -- What a block of starts says of a lane.
-use Rattle.std.proofs.Common.{◌≡◌, ◌⊎◌, ℕ, List, [], ◌∷◌, ◌++◌, length, min, true, false, refl, sym, ap, ◌∙◌, subst, inl, inr, ⊎_elim, arith}
-use Rattle.std.specs.Prelude.{Contains, nat_eq}
+use Rattle.std.proofs.Common.{◌≡◌, ℕ, List, [], ◌∷◌, ◌++◌, length, min, true, false, refl, sym, ap, ◌∙◌, subst, ⊎_elim, arith}
+use Rattle.std.specs.Prelude.{Contains}
 use Rattle.std.proofs.lemmas.Bool.{eq-eqb, ne_eqb, cases_eq}
-use Rattle.pst_scen.specs.declared.event.Event.{Event}
-use Rattle.pst_scen.specs.declared.event.Event.TheVariants.{Start, End}
-use Rattle.pst_scen.specs.Trace.{StartsOn, Started, starts_of}
+use Rattle.pst_scen.specs.declared.event.Event.TheVariants.{Start}
+use Rattle.pst_scen.specs.Trace.{StartsOn, starts_of}
 use Rattle.pst_lanes.specs.Lanes.{only_if, starts_on, ends_among}
 use Rattle.pst_lanes.proofs.Elements.{none_in, cons_cases, cons_first, cons_rest, one_in, Distinct, distinct_tail, distinct_head}
 use Rattle.pst_lanes.proofs.Events.{same_act, same_lane, starts_member}

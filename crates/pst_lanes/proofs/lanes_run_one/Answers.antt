@@ -1,5 +1,5 @@
 use Rattle.std.proofs.Common.{◌≡◌, ◌∙◌, ◌++◌, ℕ, sym, ap}
-use Rattle.std.specs.Prelude.{Option, Some}
+use Rattle.std.specs.Prelude.{Some}
 use Rattle.std.specs.Option.{option_to_list}
 use Rattle.pst_lanes.specs.Lanes.{ends_on}
 use Rattle.pst_lanes.proofs.Laned.{laned_trace, runs_alone, same_running}
