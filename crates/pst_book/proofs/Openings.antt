@@ -1,5 +1,5 @@
 -- What the book finds is what the core opens.
-use Rattle.std.proofs.Common.{◌≡◌, ℕ, ◌<◌, ◌≤◌, List, [], ◌∷◌, length, get_or, take, refl, sym, ap, ◌∙◌, subst, ⊎_elim, arith, length-take-le, get_or-take, zero, suc}
+use Rattle.std.proofs.Common.{◌≡◌, ℕ, ◌+◌, ◌<◌, ◌≤◌, List, [], ◌∷◌, length, get_or, take, drop, refl, sym, ap, ◌∙◌, subst, ⊎_elim, arith, length-take-le, get_or-take, zero, suc}
 use Rattle.std.specs.Prelude.{Contains}
 use Rattle.std.proofs.lemmas.List.Elements.{Contains-get_or}
 use Rattle.std.proofs.lemmas.Bool.{cases_lt, cases_eq}
@@ -12,14 +12,15 @@ use Rattle.pst_scen.specs.Flows.{Refers}
 use Rattle.pst_scen.specs.Order.{Must}
 use Rattle.pst_scen.specs.Conflicts.{Conflict, Clash, Resource, FirstWrites, SecondWrites, Uses}
 use Rattle.pst_scen.specs.Trace.{IsWholeGroup}
-use Rattle.pst_scen.specs.Plan.{Entries, members}
+use Rattle.pst_scen.specs.Plan.{Entries, AreGroupsNumbered, places_from, members}
 use Rattle.pst_scen.specs.Plans.{IsPlanOf}
 use Rattle.pst_scen.specs.Core.{IsStartable, Opens}
 use Rattle.pst_order.specs.Laws.{MembersAreThose, PlanGroupsAreWhole, WholeGroupsAreOne}
-use Rattle.pst_book.specs.Books.{MayJoin, AreIdle, CanStart, StartsFirst, NoneStarts}
+use Rattle.pst_book.specs.Books.{MayJoin, AreIdle, AreSoMany, CanStart, StartsFirst, NoneStarts}
 use Rattle.pst_book.proofs.Elements.{cons_first, cons_rest, place_of}
 use Rattle.pst_book.proofs.Lists.{Ascending, ascending_distinct, no_longer, contains_taken}
 use Rattle.pst_book.proofs.Idle.{idle_one, idle_of}
+use Rattle.pst_book.proofs.Starting.{members_begin, places_yes}
 
 contains_take : (xs : List ℕ) (k i : ℕ) → i < k → i < length xs → Contains (take k xs) (get_or xs i 0)
 contains_take xs zero i l m = absurd (omega (arith, l))
@@ -157,3 +158,14 @@ module _ (these : MembersAreThose) (whole : PlanGroupsAreWhole) (one : WholeGrou
         ascending = least.up;
         least_lanes = λ v x m c f. least.least v x m c (are.all v (omega arith) (let b = are.below x (contains_taken k idle x c) in omega (arith, m, b)) f);
       }
+
+-- nothing can start where no lane is idle
+pub none_starts_idle : (p : Entries) (lanes : ℕ) (t : List Event) (idle : ℕ) → AreSoMany t lanes idle → idle ≡ 0 → AreGroupsNumbered p.groups → NoneStarts p lanes t
+none_starts_idle p lanes t idle are none numbered g l can =
+    let e = ap (λ (xs : List ℕ). length xs) (idle_one t 0 lanes can.idle.idle are.idle can.idle.are are.are) in
+    let first : length (members p.groups g) ≡ length (g ∷ places_from (drop (g + 1) p.groups) (g + 1) g) =
+    ap (λ (xs : List ℕ). length xs) (members_begin p.groups g numbered l ∙ places_yes p.groups g g l can.number) in
+    let room = can.room in
+    let a = can.idle.count_is in
+    let b = are.count_is in
+    omega (arith, e, first, room, a, b, none)

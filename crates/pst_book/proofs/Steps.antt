@@ -50,10 +50,15 @@ module _ (by_rule : CoreIsByRule) (rule_fits : RuleFits) (b : Inside) (kept : Is
   after : (r : RunView) (t : List Event) → GoesOn b.run r t → IsByCore b.scenario.now b.run.lanes t → IsKept (record b { run = r })
   after r t on core =
       let wide = kept.wide in
+      let some = kept.some in
+      let few = kept.few in
+      let same = on.lanes in
       let room = on.room in
       record {
         links = kept.links;
         plan = subst (λ (p : Entries). IsPlanOf b.scenario.now p) (sym on.plan) kept.plan;
+        some = omega (arith, some, same);
+        few = omega (arith, few, same);
         wide = subst (λ (p : Entries). widest p.groups ≤ r.lanes) (sym on.plan) (subst (λ n. widest b.run.plan.groups ≤ n) (sym on.lanes) wide);
         core = subst (λ n. IsByCore b.scenario.now n r.trace) (sym on.lanes) (subst (λ u. IsByCore b.scenario.now b.run.lanes u) (sym on.trace_is) core);
         small = kept.small;

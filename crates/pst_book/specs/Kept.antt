@@ -14,6 +14,8 @@ view_of b = record { scenario = b.scenario.now; plan = b.run.plan; lanes = b.run
 pub record IsKept (b : Inside) : Type 0 where
   pub links : LinksStates b.scenario.now
   pub plan : IsPlanOf b.scenario.now b.run.plan
+  pub some : 1 ≤ b.run.lanes
+  pub few : b.run.lanes ≤ 16
   pub wide : widest b.run.plan.groups ≤ b.run.lanes
   pub core : IsByCore b.scenario.now b.run.lanes b.run.trace
   pub small : length b.scenario.now.actions < 2 ^ 31

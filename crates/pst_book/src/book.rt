@@ -78,6 +78,15 @@ impl<'a> Book<'a> {
         self.run.lanes()
     }
 
+    /// Shows its caller's proof how many lanes and actions there are. It does nothing.
+    pub fn show_limits(&self)
+        ensures lanes { (1 ≤ self.now.lanes) × (self.now.lanes ≤ 16) }
+        ensures wide { widest self.now.plan.groups ≤ self.now.lanes }
+        ensures small { length self.now.scenario.actions < 2 ^ 31 }
+    {
+        let _ = &self.run;
+    }
+
     /// The trace. It begins a whole legal trace on the book's lanes, has at most two events for each
     /// action, and the core makes it of its own commands, of which no more open, and no more end,
     /// than there are actions. Actions start on the book's lanes alone.

@@ -67,12 +67,17 @@ fn can_start(run: &Run<'_>, group: u32, idle: u32) -> bool
     count_members(run, group) <= idle
 }
 
-/// The least group that can start. Those below the run's first number have started.
+/// The least group that can start. None can where no lane is idle. Those below the run's first
+/// number have started.
 pub(crate) fn candidate(run: &Run<'_>) -> Option<u32>
     ensures { MatchOption result (NoneStarts run.now.plan run.now.lanes run.now.trace) (StartsFirst run.now.plan run.now.lanes run.now.trace) }
 {
     let idle = count_idle(run);
-    for group in run.first()..run.plan().len() {
+    let count = run.plan().len();
+    if idle == 0 {
+        return None;
+    }
+    for group in run.first()..count {
         if can_start(run, group, idle) {
             return Some(group);
         }

@@ -1,4 +1,4 @@
-use Rattle.std.proofs.Common.{◌≡◌, ◌+◌, ◌*◌, ◌/◌, ◌^◌, ◌<◌, ◌≤◌, length, sym, subst, arith}
+use Rattle.std.proofs.Common.{◌+◌, ◌<◌, sym, subst, arith}
 use Rattle.pst_book.proofs.Parting.{words_none, lowered_on, lowered_skip}
 use Rattle.pst_book.proofs.rows.lower.Goals as goal
 

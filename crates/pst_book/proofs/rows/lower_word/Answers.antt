@@ -1,4 +1,4 @@
-use Rattle.std.proofs.Common.{◌+◌, ◌*◌, ◌<◌, refl, arith}
+use Rattle.std.proofs.Common.{◌*◌, refl, arith}
 use Rattle.pst_book.proofs.Parting.{lowered_word, in_word}
 use Rattle.pst_book.proofs.rows.lower_word.Goals as goal
 

@@ -1,4 +1,4 @@
-use Rattle.std.proofs.Common.{◌≡◌, ◌/◌, ◌%◌, ◌<◌, ◌≤◌, ⊎_elim, arith}
+use Rattle.std.proofs.Common.{◌/◌, ◌%◌, ⊎_elim, arith}
 use Rattle.std.proofs.lemmas.Bool.{cases_eq}
 use Rattle.pst_book.proofs.Parting.{no_bit}
 use Rattle.pst_book.proofs.rows.next_word.Goals as goal

@@ -1,4 +1,4 @@
-use Rattle.std.proofs.Common.{◌≡◌, ◌+◌, ◌*◌, ◌/◌, ◌^◌, ◌<◌, ◌≤◌, length, sym, subst, arith}
+use Rattle.std.proofs.Common.{◌+◌, ◌^◌, ◌<◌, sym, subst, arith}
 use Rattle.pst_book.proofs.Parting.{words_none, raised_on, raised_skip}
 use Rattle.pst_book.proofs.rows.raise.Goals as goal
 

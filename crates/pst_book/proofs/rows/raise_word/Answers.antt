@@ -1,4 +1,4 @@
-use Rattle.std.proofs.Common.{◌+◌, ◌*◌, ◌<◌, refl, arith}
+use Rattle.std.proofs.Common.{◌*◌, refl, arith}
 use Rattle.pst_book.proofs.Parting.{raised_word, in_word}
 use Rattle.pst_book.proofs.rows.raise_word.Goals as goal
 

@@ -1,4 +1,4 @@
-use Rattle.std.proofs.Common.{◌≡◌, ◌+◌, ◌*◌, ◌/◌, ◌%◌, ◌↔◌, ◌∙◌, ℕ, List, get_or, sym, ap, subst}
+use Rattle.std.proofs.Common.{◌≡◌, ◌+◌, ◌*◌, ◌/◌, ◌%◌, ◌∙◌, ℕ, List, get_or, sym, ap, subst}
 use Rattle.std.specs.Prelude.{IsBitSet}
 use Rattle.pst_scen.specs.Rows.{row_words}
 use Rattle.pst_book.proofs.rows.word_at.Goals as goal

@@ -1,0 +1,4 @@
+pub mod Desks
+pub mod Names
+pub mod Turning
+pub mod Ended
