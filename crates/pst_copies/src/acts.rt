@@ -54,8 +54,8 @@ fn copy_claims(alloc: Global, claims: &[Claimed]) -> Result<Items<Claimed>, NoMe
     Ok(Items::from_vec(copy))
 }
 
-// The same action.
-fn copy_act(alloc: Global, act: &Act) -> Result<Act, NoMemory>
+/// The same action.
+pub fn copy_act(alloc: Global, act: &Act) -> Result<Act, NoMemory>
     ensures { IfOk result (λ copy. copy ≡ act.now) }
 {
     let fields = copy_values(alloc, act.fields.as_slice())?;

@@ -5,5 +5,5 @@ mod acts;
 mod nodes;
 mod values;
 
-pub use acts::copy_acts;
+pub use acts::{copy_act, copy_acts};
 pub use nodes::copy_nodes;

@@ -44,7 +44,7 @@ read_more Dead P Q each h = tt
 read_more (Whole s) P Q each h = each s h
 
 module _ (m : Model) (root seed level : ℕ) where
-  abbrev kept_at : List ℕ → Kept
+  abbrev pub kept_at : List ℕ → Kept
   kept_at choices = record { model = m; root = root; seed = seed; level = level; choices = choices }
 
   pub none_stands : (xs : List ℕ) (supply : Option Supply) → supply ≡ None → Stands m root seed level xs supply → IsInside (tree_reading m root seed level xs)
@@ -90,7 +90,7 @@ same_nodes_of m s need Initially = refl
 same_nodes_of m s need (From b q) = refl
 same_nodes_of m s need (New action instance q) = refl
 
-supply_nodes : (m : ModelTree) (seed : ℕ) (t : Scenario) (q : ℕ) (ys : List ℕ) → Relates SameNodes t (read_supply m seed t q ys)
+pub supply_nodes : (m : ModelTree) (seed : ℕ) (t : Scenario) (q : ℕ) (ys : List ℕ) → Relates SameNodes t (read_supply m seed t q ys)
 supply_nodes m seed t q ys =
     stands SameNodes t (read_supply m seed t q ys) (λ more. read_supply m seed t q (ys ++ more))
     (goes_supply SameNodes (λ s. refl) (λ s t u a b. b ∙ a) m seed (λ s need source k is there. same_nodes_of m s need source) ys t q)

@@ -7,3 +7,6 @@ pub mod Ends
 pub mod Answering
 pub mod Choosing
 pub mod Back
+pub mod Grown
+pub mod News
+pub mod Sizes

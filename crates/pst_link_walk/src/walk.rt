@@ -1,14 +1,16 @@
 //! Walks through the choices of an activity and of its sources.
-ghost use Rattle.std.specs.Prelude.{◌≡◌, ℕ, ◌+◌, ◌<◌, IfOk, OnOk, OnErr, length, []};
+ghost use Rattle.std.specs.Prelude.{◌≡◌, ℕ, ◌+◌, ◌++◌, ◌<◌, IfOk, OnOk, OnErr, length, slice_get, []};
+ghost use Rattle.pst_model.specs.ModelView.{view_model};
 ghost use Rattle.pst_legal.specs.ValueReading.{answer_of};
 ghost use Rattle.pst_shape.specs.Walks.{next_of, IfRead, HasDigit};
 ghost use Rattle.pst_link_walk.specs.Walks.{with_choice, tree_reading, reading, answer, IsUsed, AtEnd};
 ghost use Rattle.pst_link_walk.specs.Made.{shape_of, IsInside, Begins, Goes};
+ghost use Rattle.pst_link_walk.specs.News.{IsSize, IsNews, OpensFrom, AreChanged, act_of, far_act};
 
 use pst_base::NoMemory;
-use pst_copies::copy_acts;
+use pst_copies::{copy_act, copy_acts};
 use pst_model::Model;
-use pst_open_ends::open_acts;
+use pst_open_ends::{Change, Relinked, open_acts};
 use pst_scen::{Act, Next, Node};
 use pst_shape::Walk;
 use pst_supply::SupplyWalk;
@@ -83,6 +85,66 @@ fn choose_shape<'a>(
             Err(error)
         }
     }
+}
+
+// The leaves from a number on, with open references.
+fn growth(
+    alloc: Global,
+    model: &Model,
+    leaves: &[Act],
+    size: Option<usize>,
+) -> Result<Option<Vec<Act>>, NoMemory>
+    ensures { IfOk result (λ acts. OpensFrom (view_model model.now) leaves.now size acts) }
+{
+    let Some(size) = size else {
+        return Ok(None);
+    };
+    if size > leaves.len() {
+        return Ok(None);
+    }
+    let acts = open_acts(alloc, model, &leaves[size..])?;
+    Ok(Some(acts))
+}
+
+// Adds a copy of the action of that number.
+fn add_act(alloc: Global, found: &mut Vec<Act>, acts: &[Act], number: usize) -> Result<(), NoMemory>
+    ensures { OnOk result (found.new.items ≡ found.old.items ++ act_of (slice_get acts.now number)) }
+{
+    match acts.get(number) {
+        None => Ok(()),
+        Some(act) => {
+            found.push(copy_act(alloc, act)?)?;
+            Ok(())
+        }
+    }
+}
+
+// Adds a copy of the action at the other end of a stream.
+fn add_far(
+    alloc: Global,
+    found: &mut Vec<Act>,
+    acts: &[Act],
+    far: Option<Relinked>,
+) -> Result<(), NoMemory>
+    ensures { OnOk result (found.new.items ≡ found.old.items ++ far_act acts.now far) }
+{
+    match far {
+        None => Ok(()),
+        Some(far) => add_act(alloc, found, acts, far.act),
+    }
+}
+
+// Copies of all actions that a change made or linked.
+fn changed(alloc: Global, acts: &[Act], change: &Change) -> Result<Option<Vec<Act>>, NoMemory>
+    ensures { IfOk result (λ found. AreChanged change.now acts.now found) }
+{
+    if change.count > acts.len() {
+        return Ok(None);
+    }
+    let mut found = copy_acts(alloc, &acts[change.count..])?;
+    add_act(alloc, &mut found, acts, change.ends.need.act)?;
+    add_far(alloc, &mut found, acts, change.ends.far)?;
+    Ok(Some(found))
 }
 
 /// A walk through the lists of choices that fill an activity and give its needs their sources. Contracts
@@ -190,6 +252,39 @@ impl<'a> LinkWalk<'a> {
                 let acts = copy_acts(self.alloc, supply.actions())?;
                 Ok(acts)
             }
+        }
+    }
+
+    /// How many actions there are so far, while the activity is being read.
+    pub fn size(&self) -> Option<usize>
+        ensures { IsSize self.now result }
+    {
+        match &self.supply {
+            None => Some(self.shape.leaves().len()),
+            Some(_) => None,
+        }
+    }
+
+    /// The actions that the last choice made or linked, in a copy; `size` is how many there were before,
+    /// while the activity was being read. Nothing where they aren't known.
+    pub fn news(&self, size: Option<usize>) -> Result<Option<Vec<Act>>, NoMemory>
+        ensures { IfOk result (λ acts. IsNews self.now size acts) }
+    {
+        match &self.supply {
+            None => {
+                let acts = growth(self.alloc, self.model, self.shape.leaves(), size)?;
+                Ok(acts)
+            }
+            Some(supply) => match supply.change() {
+                None => {
+                    let acts = growth(self.alloc, self.model, self.shape.leaves(), size)?;
+                    Ok(acts)
+                }
+                Some(change) => {
+                    let acts = changed(self.alloc, supply.actions(), &change)?;
+                    Ok(acts)
+                }
+            },
         }
     }
 

@@ -3,3 +3,6 @@ pub mod Seen
 pub mod Answering
 pub mod Choosing
 pub mod Refusing
+pub mod Growing
+pub mod Free
+pub mod Going

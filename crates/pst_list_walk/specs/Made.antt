@@ -1,19 +1,21 @@
 -- The invariant of a walk.
-use Rattle.std.specs.Prelude.{◌≡◌, ℕ, List, [], ◌∷◌, ◌++◌, length, Option, Some, None}
+use Rattle.std.specs.Prelude.{◌≡◌, ℕ, List, [], ◌∷◌, ◌++◌, length, true, false, Option, Some, None}
 use Rattle.pst_model.specs.declared.model.Model.{Model}
+use Rattle.pst_model.specs.ModelView.{view_model}
+use Rattle.pst_model.specs.Sound.{IsSound}
 use Rattle.pst_scen.specs.declared.scenario.Scenario.{Scenario}
 use Rattle.pst_legal.specs.Reading.{Reads}
 use Rattle.pst_value_walk.specs.Walks.{Kept as Values}
 use Rattle.pst_link_walk.specs.Walks.{Kept, reading}
 use Rattle.pst_link_walk.specs.Made.{IsInside}
+use Rattle.pst_new_refusals.specs.Far.{has_far}
+pub use Rattle.pst_list_walk.specs.Free.{kept_at}
+use Rattle.pst_list_walk.specs.Free.{IsFree}
 use Rattle.pst_list_walk.specs.declared.walk.ListWalk.TheInside.{Inside}
 
 abbrev pub choices_of : Option Values → List ℕ
 choices_of None = []
 choices_of (Some k) = k.choices
-
-abbrev pub kept_at : Model → ℕ → ℕ → ℕ → List ℕ → Kept
-kept_at m root seed level choices = record { model = m; root = root; seed = seed; level = level; choices = choices }
 
 -- the same, with that level and without first objects
 abbrev pub linked_of : ℕ → Scenario → Scenario
@@ -48,6 +50,10 @@ abbrev pub kept_by : Inside → Kept
 kept_by w = kept_at w.model.now w.root w.seed w.level (w.links.choices ++ choices_of w.values)
 
 pub record IsKept (w : Inside) : Type 0 where
+  pub sound : IsSound (view_model w.model.now)
+  pub near : w.near ≡ true → has_far (view_model w.model.now) ≡ false
+  pub linked : w.linked ≡ length w.links.choices
+  pub free : IsFree w.model.now w.root w.seed w.level w.links.choices w.free
   pub links : w.links ≡ kept_at w.model.now w.root w.seed w.level w.links.choices
   pub valued : w.valued ≡ length (choices_of w.values)
   pub stands : Stands w.model.now w.root w.seed w.level w.links.choices w.values

@@ -1,5 +1,5 @@
 //! Walks through whole lists of choices.
-ghost use Rattle.std.specs.Prelude.{◌≡◌, ℕ, ◌+◌, ◌<◌, IfOk, IfSome, OnOk, OnErr, length, []};
+ghost use Rattle.std.specs.Prelude.{◌≡◌, ℕ, ◌+◌, ◌<◌, ◌≤◌, true, false, IfOk, IfSome, OnOk, OnErr, length, []};
 ghost use Rattle.pst_model.specs.ModelView.{view_model};
 ghost use Rattle.pst_model.specs.Sound.{IsSound};
 ghost use Rattle.pst_shape.specs.Walks.{next_of, IfRead, HasDigit};
@@ -7,8 +7,12 @@ ghost use Rattle.pst_link_walk.specs.Walks.{Kept, with_choice};
 ghost use Rattle.pst_link_walk.specs.Walks.{answer as link_answer};
 ghost use Rattle.pst_plan_so_far.specs.Laws.{ReadsSources};
 ghost use Rattle.pst_refusals.specs.Answers.{StandEarlier, TellsRefusals};
+ghost use Rattle.pst_legal.specs.First.{NoneRefused};
+ghost use Rattle.pst_new_refusals.specs.Far.{has_far};
+ghost use Rattle.pst_new_refusals.specs.Newly.{StaysFree};
 ghost use Rattle.pst_list_walk.specs.Walks.{answer, IsRead};
 ghost use Rattle.pst_list_walk.specs.Made.{kept_at, linked_of, Begins, Goes};
+ghost use Rattle.pst_list_walk.specs.Free.{IfPlace, IsFreed, Frees};
 
 use pst_base::{Items, NoMemory};
 use pst_blanks::Blank;
@@ -16,6 +20,7 @@ use pst_copies::copy_nodes;
 use pst_known::Scene;
 use pst_link_walk::LinkWalk;
 use pst_model::Model;
+use pst_new_refusals::{has_far, some_newly_refused};
 use pst_read_nodes::nodes_stand_for_pieces;
 use pst_refusals::some_refused;
 use pst_scen::{Act, First, Next, Node, Scenario};
@@ -141,6 +146,105 @@ fn choose_link<'a>(
     }
 }
 
+// Whether the constraints of a model look at no action but their own.
+fn is_near(model: &Model) -> bool
+    ensures { result ≡ true → has_far (view_model model.now) ≡ false }
+{
+    !has_far(model)
+}
+
+// Whether nothing is read yet, so that no constraint is refused.
+fn is_nothing(links: &LinkWalk<'_>) -> bool
+    ensures { result ≡ true → IfPlace (link_answer links.now) (NoneRefused (view_model links.now.model)) }
+{
+    let Some(size) = links.size() else {
+        return false;
+    };
+    if size > 0 {
+        return false;
+    }
+    let nodes = links.nodes().len();
+    if nodes > 0 {
+        return false;
+    }
+    true
+}
+
+// How many beginnings of the list without a choice are known to refuse no constraint.
+fn first_free(links: &LinkWalk<'_>) -> u64
+    ensures few { result ≤ 1 }
+    ensures free { 0 < result → IfPlace (link_answer links.now) (NoneRefused (view_model links.now.model)) }
+{
+    if is_nothing(links) { 1 } else { 0 }
+}
+
+// Whether nothing new is refused, as far as there is memory to tell.
+fn is_unrefused(alloc: Global, model: &Model, nodes: &[Node], from: usize, fresh: &[Act]) -> bool
+    requires sound { IsSound (view_model model.now) }
+    requires near { has_far (view_model model.now) ≡ false }
+    ensures { result ≡ true → StaysFree (view_model model.now) nodes.now from fresh.now }
+{
+    match some_newly_refused(alloc, model, nodes, from, fresh) {
+        Ok(refused) => !refused,
+        Err(_) => false,
+    }
+}
+
+// Whether the list refuses no constraint, where it is known that the one without the last choice
+// refused none, of so many choices, and so many nodes and actions. Only what is new is looked at.
+fn is_freed(
+    alloc: Global,
+    model: &Model,
+    links: &LinkWalk<'_>,
+    near: bool,
+    free: u64,
+    count: u64,
+    size: Option<usize>,
+    nodes: usize,
+) -> bool
+    requires sound { IsSound (view_model model.now) }
+    requires near { near ≡ true → has_far (view_model model.now) ≡ false }
+    ensures { result ≡ true → (root seed level digit : ℕ) → IsFreed model.now root seed level digit size nodes links.now }
+{
+    if !near {
+        return false;
+    }
+    if free <= count {
+        return false;
+    }
+    let Ok(news) = links.news(size) else {
+        return false;
+    };
+    let Some(fresh) = news else {
+        return false;
+    };
+    is_unrefused(alloc, model, links.nodes(), nodes.saturating_sub(1), &fresh)
+}
+
+// How many beginnings are known to refuse no constraint behind one choice more than `count`.
+fn free_behind(free: u64, count: u64, is_freed: bool) -> u64
+    ensures { Frees free count is_freed result }
+{
+    if !is_freed {
+        return free;
+    }
+    if free <= count {
+        return free;
+    }
+    match count.checked_add(2) {
+        Some(more) => more,
+        None => free,
+    }
+}
+
+// The lesser of two numbers.
+fn least(a: u64, b: u64) -> u64
+    ensures first { result ≤ a }
+    ensures second { result ≤ b }
+{
+    if a < b { a } else { b }
+}
+
 // Whether the blank is the instance of a claim.
 fn is_instance(blank: Option<Blank>) -> bool {
     match blank {
@@ -159,8 +263,11 @@ pub struct ListWalk<'a> {
     seed: u64,
     level: u32,
     links: LinkWalk<'a>,
+    linked: u64,
     values: Option<ValueWalk<'a>>,
     valued: u64,
+    near: bool,
+    free: u64,
 }
 
 impl<'a> std::marker::Model for ListWalk<'a> {
@@ -190,10 +297,13 @@ impl<'a> ListWalk<'a> {
         seed: u64,
         level: u32,
     ) -> Result<ListWalk<'a>, NoMemory>
+        requires { IsSound (view_model model.now) }
         ensures { IfOk result (λ w. w ≡ kept_at model.now root seed level []) }
     {
         let links = LinkWalk::new(alloc, model, root, seed, level)?;
         let values = begin(alloc, model, &links, root, seed, level)?;
+        let near = is_near(model);
+        let free = first_free(&links);
         Ok(ListWalk {
             alloc,
             model,
@@ -201,8 +311,11 @@ impl<'a> ListWalk<'a> {
             seed,
             level,
             links,
+            linked: 0,
             values,
             valued: 0,
+            near,
+            free,
         })
     }
 
@@ -257,6 +370,9 @@ impl<'a> ListWalk<'a> {
                 Ok(())
             }
             None => {
+                let linked = sum(self.linked, 1)?;
+                let size = self.links.size();
+                let nodes = self.links.nodes().len();
                 let values = choose_link(
                     self.alloc,
                     self.model,
@@ -267,6 +383,18 @@ impl<'a> ListWalk<'a> {
                     digit,
                 )?;
                 self.values = values;
+                let is_freed = is_freed(
+                    self.alloc,
+                    self.model,
+                    &self.links,
+                    self.near,
+                    self.free,
+                    self.linked,
+                    size,
+                    nodes,
+                );
+                self.free = free_behind(self.free, self.linked, is_freed);
+                self.linked = linked;
                 Ok(())
             }
         }
@@ -287,6 +415,8 @@ impl<'a> ListWalk<'a> {
         }
         self.links.back();
         self.values = None;
+        self.free = least(self.free, self.linked);
+        self.linked = self.linked.saturating_sub(1);
     }
 
     /// Whether the sources have just been read through, or the last claim has.
@@ -319,6 +449,9 @@ impl<'a> ListWalk<'a> {
         nodes_stand_for_pieces();
         match &self.values {
             None => {
+                if self.linked < self.free {
+                    return Ok(false);
+                }
                 self.links.ends();
                 let acts = self.links.acts()?;
                 let nodes = self.links.nodes();

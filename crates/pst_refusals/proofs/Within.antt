@@ -44,3 +44,12 @@ module _ (m : ModelTree) (nodes : List Node) where
       → ((action instance : ℕ) (fields : List _) → f ≡ fill.Compound action instance fields → ⊥) → ((index : ℕ) → f ≡ fill.Turn index → ⊥)
       → option_and_then (λ above. option_and_then (part_at f above) (place_in nodes parent n)) (stated_within m nodes (levels - 1) parent) ≡ stated_within m nodes levels n
   within_part levels n parent node f some in_it is of one other = sym (up levels n parent node f some in_it is of ∙ part_is (stated_within m nodes (levels - 1)) n parent f one other)
+
+  no_part : (above : Option Stated) (place : Option ℕ) → option_and_then (λ x. option_and_then (part_at fill.Repeat x) place) above ≡ None
+  no_part None place = refl
+  no_part (Some x) None = refl
+  no_part (Some x) (Some index) = refl
+
+  -- what stands in a repetition are its turns
+  pub within_repeat : (levels n parent : ℕ) (node : Node) → 0 < levels → parent_of nodes n ≡ Some parent → slice_get nodes parent ≡ Some node → node.fill ≡ fill.Repeat → stated_within m nodes levels n ≡ None
+  within_repeat levels n parent node some in_it is of = up levels n parent node fill.Repeat some in_it is of ∙ no_part (stated_within m nodes (levels - 1) parent) (place_in nodes parent n)

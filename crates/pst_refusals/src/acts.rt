@@ -159,8 +159,8 @@ fn claims_of(model: &Model, action: u32) -> &[Claim]
     }
 }
 
-// Of an action, of what it writes and of what it claims.
-fn of_act(
+/// Of an action, of what it writes and of what it claims.
+pub(crate) fn of_act(
     alloc: Global,
     scene: &Scene<'_>,
     number: usize,
@@ -197,8 +197,8 @@ pub(crate) fn of_acts(alloc: Global, scene: &Scene<'_>, by_values: bool) -> Resu
     Ok(false)
 }
 
-// Whether a pool is one of states.
-fn is_state_pool(model: &Model, pool: u32) -> bool
+/// Whether a pool is one of states.
+pub(crate) fn is_state_pool(model: &Model, pool: u32) -> bool
     ensures { result ≡ is_state_pool (view_model model.now) pool }
 {
     match pool_object(model, pool) {
@@ -234,8 +234,13 @@ fn is_used(actions: &[Act], pool: u32) -> bool
     false
 }
 
-// Whether a constraint of the first object of a pool fails.
-fn of_first(alloc: Global, scene: &Scene<'_>, pool: u32, by_values: bool) -> Result<bool, NoMemory>
+/// Whether a constraint of the first object of a pool fails.
+pub(crate) fn of_first(
+    alloc: Global,
+    scene: &Scene<'_>,
+    pool: u32,
+    by_values: bool,
+) -> Result<bool, NoMemory>
     requires { IsSound (view_model scene.now.model.now) }
     ensures { IfOk result (λ r. r ≡ list_any (fails by_values) (of_first_object (view_model scene.now.model.now) (seen scene.now) pool)) }
 {

@@ -5,8 +5,10 @@ mod acts;
 mod fails;
 mod listed;
 mod places;
+mod single;
 mod site;
 mod statement;
 mod whole;
 
+pub use single::{is_act_refused, is_compound_refused, is_first_refused};
 pub use whole::{some_refused, some_unmet};

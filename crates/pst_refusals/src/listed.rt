@@ -17,8 +17,8 @@ use pst_model::Step;
 use pst_scen::{Fill, Node};
 use std::alloc::Global;
 
-// Of the compound action of a node of this fill.
-fn of_fill(
+/// Of the compound action of a node of this fill.
+pub(crate) fn of_fill(
     alloc: Global,
     scene: &Scene<'_>,
     n: usize,

@@ -277,6 +277,7 @@ fn stated_within<'a>(
     match &node.fill {
         Fill::Compound { action, .. } => Ok(at_top(alloc, model, nodes, parent, *action, n)),
         Fill::Turn { index } => in_turn(alloc, model, nodes, levels - 1, parent, *index),
+        Fill::Repeat => Ok(None),
         fill => in_part(alloc, model, nodes, levels - 1, n, parent, fill),
     }
 }

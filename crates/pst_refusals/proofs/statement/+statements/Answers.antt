@@ -5,7 +5,7 @@ use Rattle.pst_model.specs.ModelView.{view_model}
 use Rattle.pst_statements.specs.Stated.{parent_of}
 use Rattle.pst_refusals.specs.Founds.{stated_of}
 use Rattle.pst_refusals.proofs.Steps.{got}
-use Rattle.pst_refusals.proofs.Within.{within_turn, within_part}
+use Rattle.pst_refusals.proofs.Within.{within_turn, within_part, within_repeat}
 use Rattle.pst_refusals.proofs.statement.+statements.Goals as goal
 
 pub stated_within-returns-in-Turn : goal.stated_within-returns-in-Turn
@@ -16,6 +16,13 @@ stated_within-returns-in-Turn t c =
     subst (λ o. IfOk c.in_turn.result (λ found. option_map stated_of found ≡ o))
     (within_turn m c.args.nodes.now c.args.levels c.args.n c.in-Some.parent c.in-Turn.index c.in-Some-get.node.now some (sym c.parent_of.ensures ∙ c.in-Some.is) at c.in-Turn.is)
     c.in_turn.ensures
+
+pub stated_within-returns-in-Repeat : goal.stated_within-returns-in-Repeat
+stated_within-returns-in-Repeat t c =
+    let m = view_model c.args.model.now in
+    let some : 0 < c.args.levels = omega arith in
+    let at : slice_get c.args.nodes.now c.in-Some.parent ≡ Some c.in-Some-get.node.now = got c.args.nodes.now c.in-Some.parent c.get.result c.in-Some-get.node c.get.ensures.lookup.0 c.get.ensures.lookup.1 c.in-Some-get.is in
+    sym (within_repeat m c.args.nodes.now c.args.levels c.args.n c.in-Some.parent c.in-Some-get.node.now some (sym c.parent_of.ensures ∙ c.in-Some.is) at c.in-Repeat.is)
 
 pub stated_within-returns-in_default-fill : goal.stated_within-returns-in_default-fill
 stated_within-returns-in_default-fill t c =

@@ -3,6 +3,7 @@ use Rattle.pst_list_walk.specs.Made.{choices_of}
 use Rattle.pst_list_walk.proofs.Parts.{behind_back}
 use Rattle.pst_list_walk.proofs.Answering.{some_stands}
 use Rattle.pst_list_walk.proofs.Choosing.{valued_more, one_unvalued, values_before, links_some, no_values, link_before, link_inside, link_back}
+use Rattle.pst_list_walk.proofs.Free.{free_before, linked_before}
 use Rattle.pst_list_walk.proofs.walk.ListWalk.back.Goals as goal
 
 pub back-requires : goal.back-requires
@@ -18,6 +19,10 @@ invariant_of-self c =
     let d = c.back.ensures.0 in
     let e = c.back.ensures.1 in
     record {
+      sound = c.self.invariant.sound;
+      near = c.self.invariant.near;
+      linked = c.self.invariant.linked;
+      free = c.self.invariant.free;
       links = c.self.invariant.links;
       valued = one_unvalued w.values k l d w.valued c.in-Some.is c.self.invariant.valued e;
       stands = behind_back w.model.now w.root w.seed w.level w.links.choices k l d (some_stands w.model.now w.root w.seed w.level w.links.choices w.values k c.in-Some.is c.self.invariant.stands) e;
@@ -42,6 +47,10 @@ invariant_of-self-2 c =
     let d = c.back-2.ensures.0 in
     let e = c.back-2.ensures.1 in
     record {
+      sound = c.self.invariant.sound;
+      near = c.self.invariant.near;
+      linked = c.saturating_sub-self-inside.ensures ∙ linked_before w.model.now w.root w.seed w.level w.links new d w.linked e c.self.invariant.linked;
+      free = free_before w.model.now w.root w.seed w.level w.links new d w.free w.linked c.least-self-inside.result e c.self.invariant.linked c.least-self-inside.ensures.first c.least-self-inside.ensures.second c.self.invariant.free;
       links = link_before w.model.now w.root w.seed w.level w.links new d c.self.invariant.links e;
       valued = c.self.invariant.valued ∙ no_values w.values w.valued c.self.invariant.valued c.if-self-gt0.false;
       stands = link_inside w.model.now w.root w.seed w.level w.links new d w.values e c.self.invariant.stands;

@@ -1,4 +1,4 @@
-use Rattle.std.proofs.Common.{◌∙◌, length, ap, sym, subst}
+use Rattle.std.proofs.Common.{◌∙◌, length, ap, sym, subst, refl}
 use Rattle.pst_shape.specs.Walks.{HasDigit}
 use Rattle.pst_value_walk.specs.Walks.{answer as value_answer}
 use Rattle.pst_link_walk.specs.Walks.{with_choice}
@@ -6,6 +6,7 @@ use Rattle.pst_list_walk.specs.Walks.{answer}
 use Rattle.pst_list_walk.specs.Made.{choices_of}
 use Rattle.pst_list_walk.proofs.Parts.{behind_next}
 use Rattle.pst_list_walk.proofs.Answering.{digit_same, some_stands, some_answers, one_valued}
+use Rattle.pst_list_walk.proofs.Going.{goes_linked, goes_free}
 use Rattle.pst_list_walk.proofs.Choosing.{goes_self, goes_values, goes_stands, link_value, link_digit, values_more}
 use Rattle.pst_list_walk.proofs.walk.ListWalk.choose.Goals as goal
 
@@ -24,6 +25,10 @@ invariant_of-self-in-Some c =
     let l = c.choose.new.self in
     let e = c.in_ok-choose-in-Some.ensures.ok in
     record {
+      sound = c.self.invariant.sound;
+      near = c.self.invariant.near;
+      linked = c.self.invariant.linked;
+      free = c.self.invariant.free;
       links = c.self.invariant.links;
       valued = c.in_ok-valued-in-Some.ensures ∙ one_valued w.model.now w.root w.seed w.level k l c.args.digit w.valued (c.self.invariant.valued ∙ ap (λ o. length (choices_of o)) c.in-Some.is) e;
       stands = behind_next w.model.now w.root w.seed w.level w.links.choices k l c.args.digit (some_stands w.model.now w.root w.seed w.level w.links.choices w.values k c.in-Some.is c.self.invariant.stands) e;
@@ -52,6 +57,12 @@ invariant_of-self-in-None c =
     let after = c.in_ok-values-in-None.values in
     let goes = c.in_ok-values-in-None.ensures.ok in
     record {
+      sound = c.self.invariant.sound;
+      near = c.self.invariant.near;
+      linked = c.in_ok-linked-in-None.ensures ∙ goes_linked w.model.now w.root w.seed w.level w.links.choices new c.args.digit w.linked after c.self.invariant.linked goes;
+      free = goes_free w.model.now w.root w.seed w.level w.links w.values new c.args.digit w.free w.linked c.free_behind-self-inside.result c.size-size.result (length c.nodes-nodes.result.now) c.nodes-nodes.result.now after c.is_freed-is_freed.result c.self.invariant.links
+          c.self.invariant.linked c.self.invariant.free goes (link_digit w.model.now w.root w.seed w.level w.links w.values c.args.digit c.self.invariant.links c.in-None.is c.self.invariant.stands (subst (λ x. HasDigit (answer x) c.args.digit) (sym c.self.view_is) c.requires))
+          c.size-size.ensures c.nodes-nodes.ensures refl c.free_behind-self-inside.ensures c.is_freed-is_freed.ensures;
       links = goes_self w.model.now w.root w.seed w.level w.links.choices new c.args.digit after goes;
       valued = goes_values w.model.now w.root w.seed w.level w.links.choices new c.args.digit w.valued w.values after c.in-None.is c.self.invariant.valued goes;
       stands = goes_stands w.model.now w.root w.seed w.level w.links.choices new c.args.digit after goes;

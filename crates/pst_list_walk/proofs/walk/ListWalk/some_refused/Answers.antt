@@ -1,4 +1,4 @@
-use Rattle.std.proofs.Common.{◌≡◌, [], sym, subst, refl}
+use Rattle.std.proofs.Common.{◌≡◌, [], sym, subst, refl, false}
 use Rattle.pst_model.specs.ModelView.{view_model}
 use Rattle.pst_model.specs.Sound.{IsSound}
 use Rattle.pst_shape.specs.Walks.{IfRead}
@@ -6,7 +6,14 @@ use Rattle.pst_refusals.specs.Answers.{TellsRefusals}
 use Rattle.pst_link_walk.specs.Walks.{answer as link_answer}
 use Rattle.pst_list_walk.specs.Walks.{answer, IsRead}
 use Rattle.pst_list_walk.proofs.Refusing.{inside_earlier, inside_tells, behind_read, earlier_of, tells_same}
+use Rattle.pst_list_walk.proofs.Going.{free_told}
 use Rattle.pst_list_walk.proofs.walk.ListWalk.some_refused.Goals as goal
+
+pub returns-then-self : goal.returns-then-self
+returns-then-self c =
+    let w = c.self.inside in
+    subst (λ k. IfRead (answer k) (λ s. TellsRefusals (view_model k.model) s false)) c.self.view_is
+    (free_told w.model.now w.root w.seed w.level w.links w.values w.free w.linked c.self.invariant.links c.in-None.is c.self.invariant.stands c.self.invariant.linked c.self.invariant.free c.if-self.true)
 
 pub refused_in-requires-clause-sound : goal.refused_in-requires-clause-sound
 refused_in-requires-clause-sound c = subst (λ k. IsSound (view_model k.model)) (sym c.self.view_is) c.requires.sound

@@ -1,0 +1,5 @@
+pub mod Rows
+pub mod Inlines
+pub mod Same
+pub mod Nodes
+pub mod Kept

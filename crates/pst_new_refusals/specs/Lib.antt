@@ -1,0 +1,3 @@
+pub mod Far
+pub mod Since
+pub mod Newly
