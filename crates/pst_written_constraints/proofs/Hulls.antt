@@ -1,5 +1,5 @@
 -- The spans of blanks hold the values of all options.
-use Rattle.std.proofs.Common.{◌≡◌, ℕ, zero, suc, ◌-◌, ◌<◌, ℤ, pos, ◌≤ℤ◌, List, [], ◌∷◌, ◌++◌, map, length, get_or, All, IfSome, Bool, true, false, nat_eq, if◌then◌else◌, Option, Some, None, refl, sym, ap, ap₂, ◌∙◌, subst, arith, append-nil}
+use Rattle.std.proofs.Common.{◌≡◌, ℕ, zero, suc, ◌-◌, ◌<◌, ℤ, pos, ◌≤ℤ◌, List, [], ◌∷◌, map, get_or, IfSome, Bool, true, false, nat_eq, if◌then◌else◌, Option, Some, None, refl, sym, ap, ap₂, ◌∙◌, subst, arith, append-nil}
 use Rattle.std.specs.Prelude.{slice_get, flat_map, option_to_list}
 use Rattle.std.specs.Option.{option_map, option_and_then}
 use Rattle.std.proofs.lemmas.Int.{ints}
@@ -10,7 +10,7 @@ use Rattle.pst_expr.specs.Spans.{values, size_of}
 use Rattle.pst_expr.specs.Value.{variable_value}
 use Rattle.pst_expr.specs.Laws.{DomainsListValues}
 use Rattle.pst_expr.specs.Spans.{IsDomain}
-use Rattle.pst_domain.specs.Bounds.{Holds, AreUpright, AreWithin, bound_of as bound_at}
+use Rattle.pst_domain.specs.Bounds.{Holds, AreUpright, bound_of as bound_at}
 use Rattle.pst_model.specs.declared.action.Field.{Field}
 use Rattle.pst_model.specs.declared.action.Claim.{Claim}
 use Rattle.pst_model.specs.declared.model.Pool.{Pool}
@@ -23,18 +23,18 @@ use Rattle.pst_scen.specs.declared.act.Claimed.{Claimed}
 use Rattle.pst_scen.specs.declared.scenario.Scenario.{Scenario}
 use Rattle.pst_scen.specs.Scenarios.{reference_at}
 use Rattle.pst_legal.specs.Types.{action_field, object_field, action_claim, served_claim}
-use Rattle.pst_legal.specs.Blanks.{Blank, Instance, OfFirst, OfAct, OfOutput, OfClaim, instances_in, claim_instances, pool_field, claim_field, domain_in, domain_of, options, option_value, used_state_pools}
+use Rattle.pst_legal.specs.Blanks.{Blank, Instance, OfFirst, OfAct, OfOutput, OfClaim, instances_in, claim_instances, pool_field, claim_field, domain_in, domain_of, options, used_state_pools}
 use Rattle.pst_legal.specs.Slots.{first_values, claim_values, pool_span, maybe_act_slot}
-use Rattle.pst_legal.specs.Standing.{Standing, bound_of, value_or, open_value, hull, field_span}
+use Rattle.pst_legal.specs.Standing.{bound_of, value_or, open_value, hull, field_span}
 use Rattle.pst_legal.specs.ValueReading.{empty_first, with_firsts}
 use Rattle.pst_built.proofs.SoundActs.{all_get}
 use Rattle.pst_more_known.specs.Known.{Allows}
 use Rattle.pst_read_fits.proofs.Went.{value_of}
 use Rattle.pst_refusals_stay.proofs.Hulls.{in_hull}
-use Rattle.pst_few_places.specs.Fillings.{all_blanks, AreOptions}
+use Rattle.pst_few_places.specs.Fillings.{all_blanks}
 use Rattle.pst_blank_values.specs.Values.{value_of_option, blank_values, IsBareAct, AreBare}
-use Rattle.pst_constraint_sites.specs.Sites.{maybe_output_slot, maybe_resource_slot, slot_at}
-use Rattle.pst_written_constraints.specs.Spans.{blank_standing, blank_bound, blank_hulls, HoldOptions}
+use Rattle.pst_constraint_sites.specs.Sites.{maybe_output_slot, maybe_resource_slot}
+use Rattle.pst_written_constraints.specs.Spans.{blank_bound, blank_hulls, HoldOptions}
 
 -- ---- of a bare scenario the slot of a blank has the span of its domain
 

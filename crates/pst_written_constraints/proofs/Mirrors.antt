@@ -17,7 +17,7 @@ use Rattle.pst_domain.specs.Element.{joined_all, elements, element_span}
 use Rattle.pst_domain.specs.Interval.{interval, unary_span, binary_span}
 use Rattle.pst_written_constraints.specs.declared.term.Term.{Term}
 use Rattle.pst_written_constraints.specs.declared.term.Term.TheVariants as term
-use Rattle.pst_written_constraints.specs.Terms.{HasTerm, Agree, HasBound, AgreeWithin, AreBelow, IsMirror, AreInRow, without_value, term_or_unknown}
+use Rattle.pst_written_constraints.specs.Terms.{HasTerm, Agree, HasBound, AgreeWithin, IsMirror, AreInRow, without_value, term_or_unknown}
 
 by_le : (a b : ℤ) → int_le a b ≡ true → a ≤ℤ b
 by_le a b e = omega (arith, ints, e)

@@ -1,26 +1,23 @@
 -- Where no constraint over the blanks is refused, none of the scenario is.
-use Rattle.std.proofs.Common.{◌≡◌, ℕ, zero, suc, ◌<◌, ℤ, pos, ◌≤ℤ◌, List, [], ◌∷◌, ◌++◌, map, length, get_or, Contains, All, Bool, true, false, Option, Some, None, IfSome, refl, sym, ap, ap₂, ◌∙◌, subst, arith}
+use Rattle.std.proofs.Common.{◌≡◌, ℕ, zero, suc, pos, List, [], ◌∷◌, ◌++◌, map, Contains, true, false, Option, Some, None, IfSome, refl, sym, ap, ap₂, ◌∙◌, subst, arith}
 use Rattle.std.specs.Prelude.{slice_get, flat_map, option_to_list}
 use Rattle.std.specs.Option.{option_and_then}
 use Rattle.std.specs.Ordering.{int_eq}
 use Rattle.std.proofs.lemmas.Bool.{and_parts, and_from, false≢true, false_from_ne_true}
 use Rattle.std.proofs.lemmas.Bool.Decides.{Decides-int_eq}
 use Rattle.std.proofs.lemmas.Int.{ints}
-use Rattle.std.proofs.lemmas.Option.{none-some, same_Some}
+use Rattle.std.proofs.lemmas.Option.{none-some, same_Some, slice_get-get_or}
 use Rattle.pst_expr.specs.declared.ranges.Span.{Span}
 use Rattle.pst_expr.specs.Tree.{Expression}
 use Rattle.pst_expr.specs.Value.{variable_value}
-use Rattle.pst_domain.specs.Bounds.{IsInside, AreInside, bound_of as bound_at}
+use Rattle.pst_domain.specs.Bounds.{IsInside, bound_of as bound_at}
 use Rattle.pst_domain.specs.Truth.{is_zero}
 use Rattle.pst_domain.specs.Interval.{interval, is_refused}
 use Rattle.pst_domain.specs.Laws.{IsSane, SpansAreSane}
-use Rattle.pst_narrow.specs.Narrowing.{AreOpen}
-use Rattle.pst_model.specs.declared.model.Pool.{Pool}
-use Rattle.pst_model.specs.ConstraintTree.{SlotTree, ConstraintTree}
+use Rattle.pst_model.specs.ConstraintTree.{SlotTree}
 use Rattle.pst_model.specs.ModelTree.{ModelTree}
 use Rattle.pst_scen.specs.declared.act.Act.{Act}
 use Rattle.pst_scen.specs.declared.act.Filled.{Filled}
-use Rattle.pst_scen.specs.declared.act.Link.TheVariants as link
 use Rattle.pst_scen.specs.declared.scenario.Scenario.{Scenario}
 use Rattle.pst_scen.specs.Scenarios.{reference_at}
 use Rattle.pst_legal.specs.Types.{action_field, served_claim}
@@ -31,15 +28,14 @@ use Rattle.pst_legal.specs.Constraints.{is_refused_at}
 use Rattle.pst_few_places.specs.Fillings.{all_blanks, filled}
 use Rattle.pst_more_known.specs.Onward.{Both}
 use Rattle.pst_refusals.specs.Answers.{StandEarlier}
-use Rattle.pst_blank_values.specs.Rows.{stands_in}
-use Rattle.pst_blank_values.specs.Values.{value_of_option, blank_values, AreBare, IsSameReference, IsSameAct, IsSameButValues, IsWithValues}
+use Rattle.pst_blank_values.specs.Values.{blank_values, AreBare, IsSameReference, IsSameAct, IsSameButValues}
 use Rattle.pst_blank_values.specs.Laws.{FilledBlanksStand}
 use Rattle.pst_constraint_sites.specs.Sites.{SiteTree, slot_at}
 use Rattle.pst_constraint_sites.specs.Senses.{LinksJoin}
-use Rattle.pst_constraint_sites.specs.Groups.{GroupTree, groups}
+use Rattle.pst_constraint_sites.specs.Groups.{groups}
 use Rattle.pst_constraint_sites.specs.Laws.{ConstraintsAreGrouped}
-use Rattle.pst_written_constraints.specs.Written.{slot_bounds, bound_in, LieInBlanks, IsWriting}
-use Rattle.pst_written_constraints.specs.Open.{blank_bounds, AreAllWritten, OpenTogether}
+use Rattle.pst_written_constraints.specs.Written.{slot_bounds, bound_in, LieInBlanks}
+use Rattle.pst_written_constraints.specs.Open.{blank_bounds, IsAllWritten, OpenTogether}
 use Rattle.pst_written_constraints.proofs.Sites.{has_firsts}
 
 -- ---- the same domains
@@ -147,15 +143,18 @@ same_bounds : (m : ModelTree) (t : Scenario) (site : SiteTree) (standing : SlotT
 same_bounds m t site standing same [] = refl
 same_bounds m t site standing same (slot ∷ slots) = λ i. bound_of (same slot i) ∷ same_bounds m t site standing same slots i
 
+in_list : {A : Type 0} (xs : List A) (x : A) (has : Contains xs x) → slice_get xs has.0 ≡ Some x
+in_list xs x has = slice_get-get_or xs has.0 x has.1 ∙ ap Some has.2
+
 pub open_all : FilledBlanksStand → ConstraintsAreGrouped → SpansAreSane → (m : ModelTree) (u : Scenario) (es : List Expression) → AreBare u.actions
-    → ((group : GroupTree) → Contains (groups m (with_firsts m u)) group → AreAllWritten m (with_firsts m u) (all_blanks m u) es group) → OpenTogether m u es
+    → IsAllWritten m (with_firsts m u) (all_blanks m u) es → OpenTogether m u es
 open_all stand grouped sane m u es bare all chosen bounds joins earlier long inside fit k standing has =
     let start = with_firsts m u in
     let t = filled m (all_blanks m u) chosen start in
     let w = stand m u chosen bare in
     let same : IsSameButValues start t = record { nodes = w.same.nodes; acts = w.same.acts } in
     let g = grouped m start t (has_firsts m u) (subst StandEarlier (sym w.same.nodes) earlier) same k standing has in
-    let one = all g.group g.is k g.has in
+    let one = all g.is.0 g.group (in_list (groups m start) g.group g.is) g.has.0 k (in_list g.group.constraints k g.has) in
     let lie : LieInBlanks m t (all_blanks m u) bounds = record {
       long = long;
       each = λ i blank at.

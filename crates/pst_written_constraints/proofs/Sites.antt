@@ -1,7 +1,6 @@
 -- Constraints that are written at their sites.
-use Rattle.std.proofs.Common.{◌≡◌, ℕ, zero, suc, ◌<◌, ℤ, pos, List, [], ◌∷◌, ◌++◌, map, length, get_or, Contains, All, Bool, true, false, not, Option, Some, None, IfSome, refl, sym, ap, ◌∙◌, subst, arith}
+use Rattle.std.proofs.Common.{◌≡◌, ℕ, zero, suc, ◌<◌, ℤ, pos, List, [], ◌∷◌, ◌++◌, map, length, get_or, Contains, All, true, Option, Some, None, IfSome, refl, sym, ap, ◌∙◌, subst, arith}
 use Rattle.std.specs.Prelude.{slice_get}
-use Rattle.std.specs.Ordering.{int_eq}
 use Rattle.std.proofs.lemmas.Bool.{false≢true, not-true}
 use Rattle.std.proofs.lemmas.Bool.Decides.{Decides-int_eq}
 use Rattle.std.proofs.lemmas.Int.{ints}
@@ -14,30 +13,28 @@ use Rattle.pst_expr.specs.Value.{value, variable_value, is_false}
 use Rattle.pst_domain.specs.Bounds.{HasVariablesBelow, IsInside, bound_of as bound_at}
 use Rattle.pst_domain.specs.Interval.{interval}
 use Rattle.pst_domain.specs.Laws.{NarrowerBoundsGiveInnerSpans}
-use Rattle.pst_narrow.specs.Solutions.{IsTruth, IsMet}
+use Rattle.pst_narrow.specs.Solutions.{IsTruth}
 use Rattle.pst_model.specs.ConstraintTree.{SlotTree, ConstraintTree}
 use Rattle.pst_model.specs.ModelTree.{ModelTree}
-use Rattle.pst_scen.specs.declared.scenario.First.{First}
 use Rattle.pst_scen.specs.declared.scenario.Scenario.{Scenario}
 use Rattle.pst_legal.specs.Blanks.{Blank, used_state_pools, domain_of}
 use Rattle.pst_legal.specs.Pieces.{is_true}
-use Rattle.pst_legal.specs.Standing.{Standing, Known, Lacking, value_of, bound_of, value_or, open_value, hull}
+use Rattle.pst_legal.specs.Standing.{Standing, Known, value_of, bound_of, value_or, open_value, hull}
 use Rattle.pst_legal.specs.ValueReading.{with_firsts}
-use Rattle.pst_legal.specs.Constraints.{Holds}
-use Rattle.pst_few_places.specs.Fillings.{all_blanks, AreOptions, filled}
+use Rattle.pst_few_places.specs.Fillings.{all_blanks, filled}
 use Rattle.pst_reached.proofs.Lists.{get_below}
 use Rattle.pst_blank_values.specs.Rows.{stands_in}
-use Rattle.pst_blank_values.specs.Values.{blank_values, AreBare, IsSameButValues, IsWithValues}
+use Rattle.pst_blank_values.specs.Values.{blank_values, AreBare, IsSameButValues}
 use Rattle.pst_blank_values.specs.Laws.{FilledBlanksStand}
 use Rattle.pst_blank_values.proofs.Fills.{empty_pools}
 use Rattle.pst_constraint_sites.specs.Sites.{SiteTree, slot_at}
-use Rattle.pst_constraint_sites.specs.Senses.{Sense, Value, InBlank, Nothing, sense_at, LinksJoin, Tells}
+use Rattle.pst_constraint_sites.specs.Senses.{sense_at, LinksJoin, Tells}
 use Rattle.pst_constraint_sites.specs.Groups.{GroupTree, groups}
 use Rattle.pst_constraint_sites.specs.Laws.{SensesTell, HasFirstObjects, GroupsHaveConstraints}
 use Rattle.pst_written_constraints.specs.declared.term.Term.{Term}
 use Rattle.pst_written_constraints.specs.declared.term.Term.TheVariants as term
-use Rattle.pst_written_constraints.specs.Terms.{IsTermOf, AreTermsOf, HasTerm, HasBound, Agree, AgreeWithin, IsMirror}
-use Rattle.pst_written_constraints.specs.Written.{slot_values, slot_bounds, bound_in, LieInBlanks, IsWriting, IsImplied, AreWritten}
+use Rattle.pst_written_constraints.specs.Terms.{IsTermOf, AreTermsOf, HasTerm, HasBound, IsMirror}
+use Rattle.pst_written_constraints.specs.Written.{slot_values, slot_bounds, LieInBlanks, IsWriting, IsImplied, AreWritten}
 
 -- ---- one constraint
 
@@ -67,7 +64,7 @@ term_bounds bounds [] others = []
 term_bounds bounds (x ∷ terms) [] = []
 term_bounds bounds (x ∷ terms) (other ∷ others) = term_bound bounds x other ∷ term_bounds bounds terms others
 
-length_mapped : {A B : Type 0} (f : A → B) (xs : List A) → length (map f xs) ≡ length xs
+pub length_mapped : {A B : Type 0} (f : A → B) (xs : List A) → length (map f xs) ≡ length xs
 length_mapped f [] = refl
 length_mapped f (x ∷ xs) = ap suc (length_mapped f xs)
 

@@ -1,5 +1,5 @@
 //! The constraints of a whole scenario.
-ghost use Rattle.std.specs.Prelude.{◌≡◌, IfOk, OnOk, IfSome, All, Contains, map};
+ghost use Rattle.std.specs.Prelude.{◌≡◌, IfOk, OnOk, IfSome, All, Contains, map, true};
 ghost use Rattle.pst_expr.specs.Tree.{view};
 ghost use Rattle.pst_model.specs.ConstraintTree.{view_constraint};
 ghost use Rattle.pst_model.specs.ModelView.{view_model};
@@ -10,6 +10,7 @@ ghost use Rattle.pst_constraint_sites.specs.Groups.{groups};
 ghost use Rattle.pst_constraint_sites.specs.Laws.{HasFirstObjects};
 ghost use Rattle.pst_constraint_sites.specs.Views.{view_site, view_group};
 ghost use Rattle.pst_model.specs.Sound.{IsSound};
+ghost use Rattle.pst_written_constraints.specs.Open.{AreAllWritten, IsAllWritten, Stay, OpenTogether};
 ghost use Rattle.pst_written_constraints.specs.Spans.{blank_bound, HoldOptions};
 ghost use Rattle.pst_written_constraints.specs.Written.{IsWriting, IsImplied, AreWritten};
 
@@ -20,8 +21,10 @@ use crate::writing::write;
 use pst_base::NoMemory;
 use pst_blank_values::filled_blanks_stand;
 use pst_blanks::{Place, begin};
-use pst_constraint_sites::{Group, Site, groups_have_constraints, groups_of, senses_tell};
-use pst_domain::narrower_bounds_give_inner_spans;
+use pst_constraint_sites::{
+    Group, Site, constraints_are_grouped, groups_have_constraints, groups_of, senses_tell,
+};
+use pst_domain::{narrower_bounds_give_inner_spans, spans_are_sane};
 use pst_expr::{Expr, Span, domains_list_values};
 use pst_known::Scene;
 use pst_model::{Constraint, Model};
@@ -68,6 +71,9 @@ fn write_group(
     requires group { Contains (groups (view_model scene.now.model.now) (seen scene.now)) (view_group group.now) }
     ensures implied { OnOk result (All (IsImplied (view_model scene.now.model.now) (seen scene.now)) (map view written.old.constraints.items) → All (IsImplied (view_model scene.now.model.now) (seen scene.now)) (map view written.new.constraints.items)) }
     ensures spans { OnOk result (written.new.spans ≡ written.old.spans) }
+    ensures stay { OnOk result (Stay (map view written.old.constraints.items) (map view written.new.constraints.items)) }
+    ensures before { OnOk result (written.new.whole ≡ true → written.old.whole ≡ true) }
+    ensures all { OnOk result (written.new.whole ≡ true → AreAllWritten (view_model scene.now.model.now) (seen scene.now) (map blank_of places.now) (map view written.new.constraints.items) (view_group group.now)) }
 {
     groups_have_constraints();
     for constraint in group.constraints {
@@ -86,6 +92,7 @@ fn write_groups(alloc: Global, scene: &Scene<'_>, places: &[Place]) -> Result<Wr
     requires places { map blank_of places.now ≡ all_blanks (view_model scene.now.model.now) (seen scene.now) }
     ensures implied { IfOk result (λ w. All (IsImplied (view_model scene.now.model.now) (seen scene.now)) (map view w.constraints.items)) }
     ensures spans { IfOk result (λ w. w.spans.items ≡ map (blank_bound (view_model scene.now.model.now) (seen scene.now)) (map blank_of places.now)) }
+    ensures all { IfOk result (λ w. w.whole ≡ true → IsAllWritten (view_model scene.now.model.now) (seen scene.now) (map blank_of places.now) (map view w.constraints.items)) }
 {
     let groups = groups_of(alloc, scene)?;
     let spans = spans_of(alloc, scene, places)?;
@@ -112,6 +119,7 @@ fn write_all(
     requires places { map blank_of places.now ≡ all_blanks (view_model model.now) scenario.now }
     ensures implied { IfOk result (λ w. All (IsImplied (view_model model.now) scenario.now) (map view w.constraints.items)) }
     ensures spans { IfOk result (λ w. w.spans.items ≡ map (blank_bound (view_model model.now) scenario.now) (map blank_of places.now)) }
+    ensures all { IfOk result (λ w. w.whole ≡ true → IsAllWritten (view_model model.now) scenario.now (map blank_of places.now) (map view w.constraints.items)) }
 {
     let scene = Scene {
         model,
@@ -134,9 +142,12 @@ pub fn write_constraints(
     requires { IsSound (view_model model.now) }
     ensures written { IfOk result (λ w. AreWritten (view_model model.now) linked (map view w.constraints.items)) }
     ensures spans { IfOk result (λ w. HoldOptions (view_model model.now) linked w.spans.items) }
+    ensures together { IfOk result (λ w. w.whole ≡ true → OpenTogether (view_model model.now) linked (map view w.constraints.items)) }
 {
     filled_blanks_stand();
     domains_list_values();
+    constraints_are_grouped();
+    spans_are_sane();
     let mut scenario = linked;
     let places = begin(alloc, model, &mut scenario)?;
     if !are_bare(scenario.actions.as_slice()) {

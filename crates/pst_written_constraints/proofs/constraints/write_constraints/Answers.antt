@@ -1,14 +1,15 @@
-use Rattle.std.proofs.Common.{◌≡◌, map, All, true, sym, subst, ap, ◌∙◌}
+use Rattle.std.proofs.Common.{◌≡◌, map, All, sym, subst, ap, ◌∙◌}
 use Rattle.std.proofs.lemmas.Result.{IfOk-weaker}
 use Rattle.pst_expr.specs.Tree.{view}
 use Rattle.pst_model.specs.ModelView.{view_model}
 use Rattle.pst_scen.specs.declared.scenario.Scenario.{Scenario}
-use Rattle.pst_legal.specs.ValueReading.{with_firsts}
 use Rattle.pst_blanks.specs.Blanks.{blank_of}
 use Rattle.pst_blank_values.specs.Values.{AreBare}
 use Rattle.pst_constraint_sites.specs.Laws.{HasFirstObjects}
 use Rattle.pst_few_places.specs.Fillings.{all_blanks}
 use Rattle.pst_written_constraints.specs.Spans.{blank_bound}
+use Rattle.pst_written_constraints.specs.Open.{IsAllWritten}
+use Rattle.pst_written_constraints.proofs.Opens.{open_all}
 use Rattle.pst_written_constraints.specs.Written.{IsImplied}
 use Rattle.pst_written_constraints.proofs.Sites.{has_firsts, all_written}
 use Rattle.pst_written_constraints.proofs.Hulls.{hold}
@@ -38,3 +39,15 @@ returns-clause-spans c =
     ∙ ap (λ bs. map (blank_bound m c.begin.new.scenario) bs) c.in_ok-places.ensures.blanks
     ∙ ap (λ (s : Scenario). map (blank_bound m s) (all_blanks m u)) c.in_ok-places.ensures.begun))
     c.write_all.ensures.spans
+
+pub returns-clause-together : goal.returns-clause-together
+returns-clause-together c =
+    let m = view_model c.args.model.now in
+    let u = c.args.linked in
+    let bare : AreBare u.actions = subst AreBare (c.as_slice.ensures ∙ ap (λ (s : Scenario). s.actions) c.in_ok-places.ensures.begun) (c.are_bare.ensures c.if-not-are_bare.false) in
+    let blanks : map blank_of c.as_slice-2.result.now ≡ all_blanks m u = ap (map blank_of) c.as_slice-2.ensures.value ∙ c.in_ok-places.ensures.blanks in
+    IfOk-weaker c.write_all.result _ _
+    (λ w all yes. open_all c.filled_blanks_stand.ensures c.constraints_are_grouped.ensures c.spans_are_sane.ensures m u (map view w.constraints.items) bare
+    (subst (λ (s : Scenario). IsAllWritten m s (all_blanks m u) (map view w.constraints.items)) c.in_ok-places.ensures.begun
+    (subst (λ bs. IsAllWritten m c.begin.new.scenario bs (map view w.constraints.items)) blanks (all yes))))
+    c.write_all.ensures.all

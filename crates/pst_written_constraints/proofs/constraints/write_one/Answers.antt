@@ -1,5 +1,4 @@
-use Rattle.std.proofs.Common.{◌≡◌, map, sym, subst}
-use Rattle.std.specs.Prelude.{IfOk, IfSome}
+use Rattle.std.proofs.Common.{map, subst}
 use Rattle.std.proofs.lemmas.Result.{IfOk-weaker}
 use Rattle.std.proofs.lemmas.Option.{IfSome_then}
 use Rattle.pst_expr.specs.Tree.{view}
@@ -9,7 +8,7 @@ use Rattle.pst_blanks.specs.Blanks.{blank_of}
 use Rattle.pst_known.specs.Known.{seen}
 use Rattle.pst_constraint_sites.specs.Senses.{sense_at}
 use Rattle.pst_constraint_sites.specs.Views.{view_site}
-use Rattle.pst_written_constraints.specs.Terms.{AreTermsOf, Mirrors, IsMirror}
+use Rattle.pst_written_constraints.specs.Terms.{AreTermsOf, IsMirror}
 use Rattle.pst_written_constraints.proofs.Sites.{writing}
 use Rattle.pst_written_constraints.proofs.constraints.write_one.Goals as goal
 
