@@ -1,0 +1,5 @@
+pub mod Mirrors
+pub mod Sites
+pub mod Hulls
+pub mod Opens
+pub mod Whole
