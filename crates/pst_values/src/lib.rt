@@ -6,5 +6,6 @@ mod search;
 mod solver;
 mod tried;
 
+pub use options::{Run, run_at, span_of_run};
 pub use search::ValueSearch;
 pub use tried::Tried;

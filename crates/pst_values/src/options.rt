@@ -6,10 +6,12 @@ ghost use Rattle.pst_values.specs.Options.{IsRun, HoldsRun};
 
 use pst_expr::{Domain, Span, domains_list_values};
 
-/// Places of the seed's order at which values ascend: the index of the first in the domain, and how many there are.
-#[derive(Clone, Copy)]
+/// Places of the seed's order at which values ascend, by their indices in the domain.
+#[derive(Clone, Copy, Debug, PartialEq, Eq)]
 pub struct Run {
+    /// The index of the first of them.
     pub index: u64,
+    /// How many there are.
     pub count: u64,
 }
 
