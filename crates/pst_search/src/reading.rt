@@ -13,7 +13,7 @@ use pst_base::NoMemory;
 use pst_list_walk::ListWalk;
 use pst_model::Model;
 use pst_scen::{Plan, Scenario};
-use pst_search_loop::{Conflict, Judged, Look, Walker};
+use pst_search_loop::{Conflict, Judged, Look, Skipped, Walker};
 use std::alloc::Global;
 
 /// A walker through whole lists of choices. Up to the sources each choice stands for the list that it ends, behind
@@ -79,6 +79,11 @@ impl Walker for Reading<'_> {
 
     fn rests(&self, count: u64) -> Result<Conflict, NoMemory> {
         rests_on(self.alloc, &self.lists, count)
+    }
+
+    // Nothing is skipped.
+    fn skip(&mut self, from: u64, _count: u64) -> Result<Skipped, NoMemory> {
+        Ok(Skipped::nothing(self.alloc, from))
     }
 
     fn choose(&mut self, digit: u64) -> Result<(), NoMemory> {

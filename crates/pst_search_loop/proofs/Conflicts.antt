@@ -1,12 +1,11 @@
 -- Conflicts of a list, of the list without its last choice, and of the options of a place.
-use Rattle.std.proofs.Common.{◌≡◌, ◌⊎◌, ℕ, ◌+◌, ◌<◌, ◌≤◌, List, [], ◌∷◌, ◌++◌, take, length, Bool, true, refl, sym, ap, ◌∙◌, subst, inl, inr, ⊎_elim, arith}
+use Rattle.std.proofs.Common.{◌≡◌, ℕ, ◌+◌, ◌<◌, ◌≤◌, List, [], ◌∷◌, ◌++◌, take, length, true, refl, sym, ap, ◌∙◌, subst, ⊎_elim, arith}
 use Rattle.std.proofs.lemmas.Bool.{cases_lt}
 use Rattle.pst_model.specs.ModelTree.{ModelTree}
 use Rattle.pst_search_loop.specs.declared.conflict.Conflict.{Conflict}
-use Rattle.pst_search_loop.specs.declared.frame.Frame.{Frame}
 use Rattle.pst_search_loop.specs.Conflicts.{Has, IsJoined}
-use Rattle.pst_search_loop.specs.Kept.{Facts, Kept, at_list, with_choice, Sought, Agrees, IsWithin, IsConflict, Rests, SameKept}
-use Rattle.pst_search_loop.specs.Stack.{Excludes, ArePassed, IsRight}
+use Rattle.pst_search_loop.specs.Kept.{Facts, Kept, at_list, with_choice, Agrees, IsWithin, IsConflict, Rests, Excludes, SameKept}
+use Rattle.pst_search_loop.specs.Stack.{ArePassed}
 use Rattle.pst_search_loop.proofs.Lists.{take_front, take_next, length_next}
 
 -- ---- the same walker
@@ -101,6 +100,18 @@ one_more_passed k xs a b r d passed is joined = record {
         let q : e ≡ d = omega (arith, l, m) in
         is.none level other (agrees_last k a b r xs d joined is.within level other agrees (subst (λ x. k.facts k.level (xs ++ x ∷ []) level other ≡ true) q holds)) sought)
         (cases_lt e d);
+  };
+}
+
+-- further options are passed that are skipped
+pub skipped_passed : (k : Kept) (xs : List ℕ) (a b r : Conflict) (from to : ℕ) → ArePassed (at_list k xs) a from → IsWithin (at_list k xs) b → ((d : ℕ) → from ≤ d → d < to → Excludes (at_list k xs) b d) → IsJoined a b (length xs) r → ArePassed (at_list k xs) r to
+skipped_passed k xs a b r from to passed inner each joined = record {
+  within = within_joined k a b r xs joined passed.within;
+  each = λ d l. record {
+    none = λ level other agrees holds sought. ⊎_elim
+        (λ (m : d < from). (passed.each d m).none level other (agrees_own k a b r xs joined passed.within level other agrees) holds sought)
+        (λ (m : from ≤ d). (each d m l).none level other (agrees_other k a b r xs joined inner level other agrees) holds sought)
+        (cases_lt d from);
   };
 }
 

@@ -1,6 +1,5 @@
 -- Lists of choices: their beginnings and their order.
-use Rattle.std.proofs.Common.{◌≡◌, ◌⊎◌, ℕ, zero, suc, ◌+◌, ◌-◌, ◌*◌, ◌^◌, ◌<◌, ◌≤◌, List, [], ◌∷◌, ◌++◌, take, length, length-append, refl, sym, ap, ap₂, ◌∙◌, subst, inl, inr, ⊎_elim, arith}
-use Rattle.std.proofs.lemmas.Bool.{cases_lt}
+use Rattle.std.proofs.Common.{◌≡◌, ◌⊎◌, ℕ, zero, suc, ◌+◌, ◌-◌, ◌*◌, ◌^◌, ◌<◌, List, [], ◌∷◌, ◌++◌, take, length, length-append, refl, sym, ap, ap₂, ◌∙◌, inl, inr, ⊎_elim, arith}
 use Rattle.pst_legal.specs.First.{IsBefore}
 use Rattle.pst_list_order.specs.Passed.{IsPassed}
 use Rattle.pst_search_loop.specs.Search.{rank, last_digit}
@@ -49,13 +48,13 @@ same_front (x ∷ xs) (y ∷ ys) d e h = ap₂ ◌∷◌ (ap head_of h) (same_fr
 
 -- ---- the order
 
-pub passed_next : (xs os : List ℕ) (d : ℕ) → IsPassed (xs ++ d ∷ []) os → IsBefore os (xs ++ (d + 1) ∷ [])
-passed_next [] [] d h = tt
-passed_next [] (o ∷ os) d (inl l) = inl (omega (arith, l))
-passed_next [] (o ∷ os) d (inr e) = let q : o ≡ d = e.0 in inl (omega (arith, q))
-passed_next (x ∷ xs) [] d h = tt
-passed_next (x ∷ xs) (o ∷ os) d (inl l) = inl l
-passed_next (x ∷ xs) (o ∷ os) d (inr e) = inr (e.0, passed_next xs os d e.1)
+pub passed_next : (xs os : List ℕ) (d e : ℕ) → d < e → IsPassed (xs ++ d ∷ []) os → IsBefore os (xs ++ e ∷ [])
+passed_next [] [] d e less h = tt
+passed_next [] (o ∷ os) d e less (inl l) = inl (omega (arith, l, less))
+passed_next [] (o ∷ os) d e less (inr h) = let q : o ≡ d = h.0 in inl (omega (arith, q, less))
+passed_next (x ∷ xs) [] d e less h = tt
+passed_next (x ∷ xs) (o ∷ os) d e less (inl l) = inl l
+passed_next (x ∷ xs) (o ∷ os) d e less (inr h) = inr (h.0, passed_next xs os d e less h.1)
 
 pub passed_up : (xs os : List ℕ) (d : ℕ) → IsPassed (xs ++ d ∷ []) os → IsPassed xs os
 passed_up [] os d h = tt
@@ -67,9 +66,9 @@ pub passed_self : (xs : List ℕ) → IsPassed xs xs
 passed_self [] = tt
 passed_self (x ∷ xs) = inr (refl, passed_self xs)
 
-pub before_longer : (xs : List ℕ) → IsBefore xs (xs ++ 0 ∷ [])
-before_longer [] = tt
-before_longer (x ∷ xs) = inr (refl, before_longer xs)
+pub before_longer : (xs : List ℕ) (d : ℕ) → IsBefore xs (xs ++ d ∷ [])
+before_longer [] d = tt
+before_longer (x ∷ xs) d = inr (refl, before_longer xs d)
 
 pub before_passed : (os xs : List ℕ) → IsBefore os xs → IsPassed xs os
 before_passed os [] h = absurd h
@@ -107,8 +106,8 @@ rank_of xs d = ap (λ n. n * 2 ^ 65 - last_digit (xs ++ d ∷ [])) (length-appen
 pub rank_up : (xs : List ℕ) (d : ℕ) → d < 2 ^ 64 → rank xs < rank (xs ++ d ∷ [])
 rank_up xs d h = let r : rank (xs ++ d ∷ []) ≡ (length xs + 1) * 2 ^ 65 - d = rank_of xs d in omega (arith, r, h)
 
-pub rank_next : (xs : List ℕ) (d : ℕ) → d + 1 < 2 ^ 64 → rank (xs ++ (d + 1) ∷ []) < rank (xs ++ d ∷ [])
-rank_next xs d h =
+pub rank_next : (xs : List ℕ) (d e : ℕ) → d < e → e < 2 ^ 64 → rank (xs ++ e ∷ []) < rank (xs ++ d ∷ [])
+rank_next xs d e less h =
     let r : rank (xs ++ d ∷ []) ≡ (length xs + 1) * 2 ^ 65 - d = rank_of xs d in
-    let s : rank (xs ++ (d + 1) ∷ []) ≡ (length xs + 1) * 2 ^ 65 - (d + 1) = rank_of xs (d + 1) in
-    omega (arith, r, s, h)
+    let s : rank (xs ++ e ∷ []) ≡ (length xs + 1) * 2 ^ 65 - e = rank_of xs e in
+    omega (arith, r, s, less, h)

@@ -1,15 +1,15 @@
 -- The levels that are passed, and what the next one adds.
 use Rattle.std.proofs.Common.{◌≡◌, ◌≢◌, ◌⊎◌, ℕ, zero, suc, ◌+◌, ◌<◌, ◌≤◌, List, [], ◌∷◌, ◌++◌, length, Bool, true, false, refl, sym, ap, ◌∙◌, subst, inl, inr, ⊎_elim, arith, length-append}
-use Rattle.std.specs.Prelude.{Option, None, Some, slice_get, sum_by}
+use Rattle.std.specs.Prelude.{Some, slice_get, sum_by}
 use Rattle.std.proofs.lemmas.Bool.{cases_lt}
 use Rattle.std.proofs.lemmas.Option.{none-some}
 use Rattle.std.proofs.lemmas.List.Sums.{sum_by-append}
 use Rattle.pst_model.specs.ModelTree.{ModelTree}
 use Rattle.pst_model.specs.Sound.{IsSound}
 use Rattle.pst_scen.specs.declared.scenario.Scenario.{Scenario}
-use Rattle.pst_legal.specs.ValueReading.{Whole, read}
+use Rattle.pst_legal.specs.ValueReading.{Whole}
 use Rattle.pst_legal.specs.Legal.{Legal}
-use Rattle.pst_legal.specs.First.{ReadsLegal, NoneBelow, NoneBefore, AreLive, IsFirst, Spent, last_of}
+use Rattle.pst_legal.specs.First.{ReadsLegal, NoneBelow, NoneBefore, AreLive, IsFirst, Spent}
 use Rattle.pst_built.specs.Laws.{WholeReadingsAreBuilt}
 use Rattle.pst_reached.specs.Laws.{LegalScenariosAreRead}
 use Rattle.pst_search_loop.specs.Kept.{Facts, Kept, at_level, answer, Sought, SameKept}

@@ -1,17 +1,17 @@
 -- The live lists of a level so far.
-use Rattle.std.proofs.Common.{◌≡◌, ℕ, ◌+◌, ◌-◌, ◌<◌, List, [], ◌∷◌, ◌++◌, length, Bool, true, refl, sym, ap, ◌∙◌, subst, arith, length-append}
-use Rattle.std.specs.Prelude.{Option, None, Some}
+use Rattle.std.proofs.Common.{◌≡◌, ℕ, ◌+◌, ◌-◌, ◌<◌, List, [], ◌∷◌, ◌++◌, length, refl, sym, ap, ◌∙◌, subst, arith, length-append}
+use Rattle.std.specs.Prelude.{None, Some}
 use Rattle.pst_scen.specs.declared.scenario.Scenario.{Scenario}
-use Rattle.pst_legal.specs.First.{IsBefore, ReadsLegal, IsLive, AreLive, NoneBefore, last_of}
+use Rattle.pst_legal.specs.First.{IsBefore, ReadsLegal, IsLive, NoneBefore, last_of}
 use Rattle.pst_list_order.specs.Laws.{LiveListsRise}
 use Rattle.pst_search_loop.specs.declared.conflict.Conflict.{Conflict}
 use Rattle.pst_search_loop.specs.declared.frame.Frame.{Frame}
 use Rattle.pst_search_loop.specs.declared.walker.Look.{Look}
 use Rattle.pst_search_loop.specs.declared.walker.Look.TheVariants as look
-use Rattle.pst_search_loop.specs.Kept.{Kept, Sought, Shows, FactsHold, IsConflict, SameKept}
+use Rattle.pst_search_loop.specs.Kept.{Kept, Sought, Shows, FactsHold, SameKept}
 use Rattle.pst_search_loop.specs.Stack.{Stands}
 use Rattle.pst_search_loop.specs.Search.{Further, Says, IsLeast, AreCounted, IsSpent, IsEmpty}
-use Rattle.pst_search_loop.proofs.Conflicts.{same_self, same_then, same_turned}
+use Rattle.pst_search_loop.proofs.Conflicts.{same_self, same_then}
 use Rattle.pst_search_loop.proofs.Stack.{stands_first, none_before_here}
 
 -- so many live lists so far, the last of them here

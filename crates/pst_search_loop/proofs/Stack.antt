@@ -1,15 +1,14 @@
 -- The stack of choices: what it keeps, and that no list before the one at hand is sought.
-use Rattle.std.proofs.Common.{◌≡◌, ◌⊎◌, ℕ, suc, ◌+◌, ◌<◌, ◌≤◌, List, [], ◌∷◌, ◌++◌, take, length, reverse, Bool, true, refl, sym, ap, ◌∙◌, subst, inl, inr, ⊎_elim, arith, length-append}
+use Rattle.std.proofs.Common.{◌≡◌, ℕ, suc, ◌+◌, ◌<◌, List, [], ◌∷◌, ◌++◌, length, reverse, true, refl, sym, ap, ◌∙◌, subst, ⊎_elim, arith, length-append}
 use Rattle.std.proofs.lemmas.List.{reverse-append, length-reverse}
 use Rattle.pst_scen.specs.declared.scenario.Scenario.{Scenario}
-use Rattle.pst_legal.specs.ValueReading.{Answer, Options, Dead, Whole, read}
-use Rattle.pst_legal.specs.First.{IsBefore, ReadsLegal, NoneBefore}
+use Rattle.pst_legal.specs.ValueReading.{Options, Whole}
+use Rattle.pst_legal.specs.First.{ReadsLegal, NoneBefore}
 use Rattle.pst_search_loop.specs.declared.conflict.Conflict.{Conflict}
 use Rattle.pst_search_loop.specs.declared.frame.Frame.{Frame}
 use Rattle.pst_search_loop.specs.Conflicts.{Has}
-use Rattle.pst_search_loop.specs.Kept.{Kept, at_list, with_choice, answer, Sought, FactsHold, Agrees, SameKept}
+use Rattle.pst_search_loop.specs.Kept.{Kept, at_list, with_choice, answer, FactsHold, Agrees, SameKept}
 use Rattle.pst_search_loop.specs.Stack.{digits_of, ArePassed, IsRight, AllRight, Stands}
-use Rattle.pst_search_loop.specs.Search.{Took}
 use Rattle.pst_search_loop.proofs.Lists.{take_front, take_next, same_front, PartsAt, before_cases}
 use Rattle.pst_search_loop.proofs.Conflicts.{same_on, same_back, at_same, at_own}
 

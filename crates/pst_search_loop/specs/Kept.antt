@@ -1,15 +1,15 @@
 -- What a walker through lists of choices keeps, and what it shows of it.
-use Rattle.std.specs.Prelude.{◌≡◌, ℕ, ◌+◌, ◌<◌, List, ◌∷◌, [], ◌++◌, length, take, Bool, true}
+use Rattle.std.specs.Prelude.{◌≡◌, ℕ, ◌+◌, ◌<◌, ◌≤◌, List, ◌∷◌, [], ◌++◌, length, take, Bool, true}
 use Rattle.pst_model.specs.ModelTree.{ModelTree}
 use Rattle.pst_scen.specs.declared.scenario.Scenario.{Scenario}
 use Rattle.pst_legal.specs.ValueReading.{Answer, Options, Dead, Whole, read}
-use Rattle.pst_legal.specs.Legal.{Legal}
 use Rattle.pst_legal.specs.First.{ReadsLegal, NoneRefused}
 use Rattle.pst_search_loop.specs.declared.conflict.Conflict.{Conflict}
 use Rattle.pst_search_loop.specs.declared.walker.Look.{Look}
 use Rattle.pst_search_loop.specs.declared.walker.Look.TheVariants as look
 use Rattle.pst_search_loop.specs.declared.walker.Judged.{Judged}
 use Rattle.pst_search_loop.specs.declared.walker.Judged.TheVariants as judged
+use Rattle.pst_search_loop.specs.declared.walker.Skipped.{Skipped}
 use Rattle.pst_search_loop.specs.Conflicts.{Has}
 
 -- The fact for which the last choice of a list of a level stands, as a test of any list of any level.
@@ -66,6 +66,23 @@ pub record Rests (k : Kept) (n : ℕ) (c : Conflict) : Type 0 where
   pub within : IsWithin k c
   pub some : (level : ℕ) (other : List ℕ) → Agrees k c level other → Sought k level other
       → (digit : ℕ) × (digit < n) × (k.facts k.level (k.choices ++ digit ∷ []) level other ≡ true)
+
+-- No list that agrees with the choices at these places, and of which holds what this option stands for, reads a legal scenario.
+pub record Excludes (k : Kept) (c : Conflict) (digit : ℕ) : Type 0 where
+  pub none : (level : ℕ) (other : List ℕ) → Agrees k c level other → k.facts k.level (k.choices ++ digit ∷ []) level other ≡ true → Sought k level other → ⊥
+
+-- ---- options that are skipped
+
+-- each option from one on, to below the one that isn't skipped
+pub record Skips (k : Kept) (from count : ℕ) (skipped : Skipped) : Type 0 where
+  pub least : from ≤ skipped.digit
+  pub most : skipped.digit ≤ count
+  pub within : IsWithin k skipped.conflict
+  pub each : (digit : ℕ) → from ≤ digit → digit < skipped.digit → Excludes k skipped.conflict digit
+
+-- none is skipped, wherever that may be
+abbrev pub SkipsNothing : ℕ → Skipped → Type 0
+SkipsNothing digit skipped = (k : Kept) (count : ℕ) → digit ≤ count → Skips k digit count skipped
 
 -- ---- what is shown
 

@@ -1,5 +1,5 @@
 -- What the steps of a search say.
-use Rattle.std.specs.Prelude.{◌≡◌, ℕ, ◌+◌, ◌-◌, ◌*◌, ◌^◌, ◌<◌, ◌⊎◌, List, [], ◌∷◌, length, Bool, true, Option, None, Some}
+use Rattle.std.specs.Prelude.{◌≡◌, ℕ, ◌+◌, ◌-◌, ◌*◌, ◌^◌, ◌<◌, ◌≤◌, ◌⊎◌, List, [], ◌∷◌, length, Bool, true, Option, None, Some}
 use Rattle.pst_legal.specs.First.{IsBefore, IsLive, AreLive, NoneBefore, last_of}
 use Rattle.pst_list_order.specs.Passed.{IsPassed}
 use Rattle.pst_search_loop.specs.declared.frame.Frame.{Frame}
@@ -8,7 +8,7 @@ use Rattle.pst_search_loop.specs.declared.walker.Look.TheVariants as look
 use Rattle.pst_search_loop.specs.declared.level.Found.{Found}
 use Rattle.pst_search_loop.specs.declared.level.Found.TheVariants as found
 use Rattle.pst_search_loop.specs.Kept.{Kept, with_choice, Sought, Shows, IsConflict, SameKept}
-use Rattle.pst_search_loop.specs.Stack.{Stands}
+use Rattle.pst_search_loop.specs.Stack.{ArePassed, Stands}
 
 abbrev pub IsLiveAt : Kept → Type 0
 IsLiveAt k = IsLive k.model k.root k.seed k.level k.choices
@@ -48,9 +48,18 @@ pub record Took (old new : Kept) (frames : List Frame) (digit : ℕ) : Type 0 wh
   pub is : new ≡ with_choice old digit
   pub small : digit < 2 ^ 64
 
--- from a place on to its next option, or back out of it
-abbrev pub Went : Kept → Kept → List Frame → ℕ → Look → Type 0
-Went old new frames digit shown = (Took old new frames (digit + 1) ⊎ ((new ≡ old) × Stands new frames × IsClosed shown)) × Shows new shown
+-- a place of which further options are passed
+pub record IsOnward (k : Kept) (old new : Frame) : Type 0 where
+  pub count : new.count ≡ old.count
+  pub least : old.digit ≤ new.digit
+  pub most : new.digit ≤ new.count
+  pub passed : ArePassed k new.reasons new.digit
+
+-- from a place on to one of its options, from one of them on, or back out of it
+pub record Went (old new : Kept) (frames : List Frame) (from : ℕ) (shown : Look) : Type 0 where
+  pub stands : Stands new frames
+  pub shows : Shows new shown
+  pub how : ((digit : ℕ) × (from ≤ digit) × Took old new frames digit) ⊎ ((new ≡ old) × IsClosed shown)
 
 -- one turn: on to a live list, or nearer to the end
 abbrev pub Turns : Look → Kept → Kept → List Frame → Type 0

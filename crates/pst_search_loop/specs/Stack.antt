@@ -1,19 +1,15 @@
 -- The choices of the list at hand, and why those before them are passed.
-use Rattle.std.specs.Prelude.{◌≡◌, ℕ, ◌<◌, List, [], ◌∷◌, ◌++◌, reverse, true}
+use Rattle.std.specs.Prelude.{◌≡◌, ℕ, ◌<◌, List, [], ◌∷◌, ◌++◌, reverse}
 use Rattle.pst_scen.specs.declared.scenario.Scenario.{Scenario}
 use Rattle.pst_legal.specs.ValueReading.{Options}
 use Rattle.pst_search_loop.specs.declared.conflict.Conflict.{Conflict}
 use Rattle.pst_search_loop.specs.declared.frame.Frame.{Frame}
-use Rattle.pst_search_loop.specs.Kept.{Kept, at_list, answer, Sought, Agrees, IsWithin}
+use Rattle.pst_search_loop.specs.Kept.{Kept, at_list, answer, IsWithin, Excludes}
 
 -- the choices, where the latest stands first
 abbrev pub digits_of : List Frame → List ℕ
 digits_of [] = []
 digits_of (f ∷ older) = digits_of older ++ f.digit ∷ []
-
--- No list that agrees with the choices at these places, and of which holds what this option stands for, reads a legal scenario.
-pub record Excludes (k : Kept) (c : Conflict) (digit : ℕ) : Type 0 where
-  pub none : (level : ℕ) (other : List ℕ) → Agrees k c level other → k.facts k.level (k.choices ++ digit ∷ []) level other ≡ true → Sought k level other → ⊥
 
 -- why all options of a place before one are passed
 pub record ArePassed (k : Kept) (c : Conflict) (digit : ℕ) : Type 0 where

@@ -1,10 +1,10 @@
 //! The first list of choices of a level that reads a legal scenario, by any walker.
-ghost use Rattle.std.specs.Prelude.{◌≡◌, ℕ, ◌+◌, ◌<◌, [], ◌∷◌, length, reverse, IfOk, OnOk, Option, None, Some};
+ghost use Rattle.std.specs.Prelude.{◌≡◌, ℕ, ◌+◌, ◌<◌, ◌≤◌, [], ◌∷◌, length, reverse, IfOk, OnOk, Option, None, Some};
 ghost use Rattle.pst_scen.specs.declared.scenario.Scenario.{Scenario};
 ghost use Rattle.pst_legal.specs.ValueReading.{Options};
 ghost use Rattle.pst_search_loop.specs.Kept.{Kept, answer, with_choice, Sought, Shows, IsConflict, SameKept, FactsHold};
 ghost use Rattle.pst_search_loop.specs.Stack.{Stands, AllRight, ArePassed};
-ghost use Rattle.pst_search_loop.specs.Search.{rank, Turns, Leaves, Says, Ends, Went, Took};
+ghost use Rattle.pst_search_loop.specs.Search.{rank, Turns, Leaves, Says, Ends, IsOnward, Went, Took};
 
 use crate::conflict::Conflict;
 use crate::frame::Frame;
@@ -42,23 +42,53 @@ fn take<W: Walker>(walker: &mut W, frames: &mut Vec<Frame>, frame: Frame) -> Res
     Ok(())
 }
 
-// From a place behind its last option: a conflict of the list without it. Else to the next option.
+// The options of a place that are skipped are passed too.
+fn skip_options<W: Walker>(walker: &mut W, frame: Frame, at: usize) -> Result<Frame, NoMemory>
+    requires options { (s : Scenario) × (answer (W.kept walker.old) ≡ Options s frame.count) }
+    requires named { frame.digit ≤ frame.count }
+    requires passed { ArePassed (W.kept walker.old) frame.reasons frame.digit }
+    requires at { at ≡ length (W.kept walker.old).choices }
+    ensures same { OnOk result (W.kept walker.new ≡ W.kept walker.old) }
+    ensures onward { IfOk result (λ later. IsOnward (W.kept walker.old) frame later) }
+{
+    let mut frame = frame;
+    let skipped = walker.skip(frame.digit, frame.count)?;
+    frame.reasons.join(&skipped.conflict, at)?;
+    frame.digit = skipped.digit;
+    Ok(frame)
+}
+
+// On to the first option of a place that isn't skipped, where those before the frame's are passed. From a place
+// behind its last option: a conflict of the list without it.
+fn go_on<W: Walker>(walker: &mut W, frames: &mut Vec<Frame>, frame: Frame) -> Result<Look, NoMemory>
+    requires stands { Stands (W.kept walker.old) frames.old.items }
+    requires options { (s : Scenario) × (answer (W.kept walker.old) ≡ Options s frame.count) }
+    requires named { frame.digit ≤ frame.count }
+    requires passed { ArePassed (W.kept walker.old) frame.reasons frame.digit }
+    ensures { IfOk result (λ shown. Went (W.kept walker.old) (W.kept walker.new) frames.new.items frame.digit shown) }
+{
+    let at = frames.len();
+    let mut frame = skip_options(walker, frame, at)?;
+    if frame.digit < frame.count {
+        take(walker, frames, frame)?;
+        return walker.look();
+    }
+    let rests = walker.rests(frame.count)?;
+    frame.reasons.join(&rests, at)?;
+    Ok(Look::Closed(frame.reasons))
+}
+
+// To the next option of a place. From a place behind its last option: a conflict of the list without it.
 fn next<W: Walker>(walker: &mut W, frames: &mut Vec<Frame>, frame: Frame) -> Result<Look, NoMemory>
     requires stands { Stands (W.kept walker.old) frames.old.items }
     requires options { (s : Scenario) × (answer (W.kept walker.old) ≡ Options s frame.count) }
     requires named { frame.digit < frame.count }
     requires passed { ArePassed (W.kept walker.old) frame.reasons (frame.digit + 1) }
-    ensures { IfOk result (λ shown. Went (W.kept walker.old) (W.kept walker.new) frames.new.items frame.digit shown) }
+    ensures { IfOk result (λ shown. Went (W.kept walker.old) (W.kept walker.new) frames.new.items (frame.digit + 1) shown) }
 {
     let mut frame = frame;
-    if frame.digit + 1 < frame.count {
-        frame.digit += 1;
-        take(walker, frames, frame)?;
-        return walker.look();
-    }
-    let rests = walker.rests(frame.count)?;
-    frame.reasons.join(&rests, frames.len())?;
-    Ok(Look::Closed(frame.reasons))
+    frame.digit += 1;
+    go_on(walker, frames, frame)
 }
 
 // Takes the last choice back, and goes on to the next one in its place. Where the conflict doesn't
@@ -114,7 +144,6 @@ fn deepen<W: Walker>(
 ) -> Result<Look, NoMemory>
     requires stands { Stands (W.kept walker.old) frames.old.items }
     requires options { (s : Scenario) × (answer (W.kept walker.old) ≡ Options s count) }
-    requires some { 0 < count }
     ensures { IfOk result (λ shown. Says (Some shown) (W.kept walker.old) (W.kept walker.new) frames.new.items) }
 {
     let frame = Frame {
@@ -122,8 +151,7 @@ fn deepen<W: Walker>(
         count,
         reasons: Conflict::nothing(alloc),
     };
-    take(walker, frames, frame)?;
-    match walker.look()? {
+    match go_on(walker, frames, frame)? {
         Look::Closed(conflict) => leave(walker, frames, conflict),
         shown => Ok(shown),
     }
@@ -141,12 +169,7 @@ fn step<W: Walker>(
     ensures { IfOk result (λ next. Says next (W.kept walker.old) (W.kept walker.new) frames.new.items) }
 {
     match shown {
-        Look::Options(count) => {
-            if count == 0 {
-                return Err(NoMemory);
-            }
-            Ok(Some(deepen(alloc, walker, frames, count)?))
-        }
+        Look::Options(count) => Ok(Some(deepen(alloc, walker, frames, count)?)),
         Look::Whole => match walker.judge()? {
             Judged::Legal => Ok(None),
             Judged::Refused(conflict) => Ok(Some(leave(walker, frames, conflict)?)),

@@ -10,4 +10,4 @@ mod walker;
 pub use conflict::Conflict;
 pub use level::{Found, search_level};
 pub use levels::{Outcome, search_levels};
-pub use walker::{Judged, Look, Walker};
+pub use walker::{Judged, Look, Skipped, Walker};

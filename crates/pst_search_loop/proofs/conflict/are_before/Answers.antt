@@ -1,4 +1,4 @@
-use Rattle.std.proofs.Common.{◌<◌, ◌≡◌, ℕ, ⊎_elim, arith, subst, sym}
+use Rattle.std.proofs.Common.{⊎_elim, arith}
 use Rattle.pst_search_loop.proofs.Among.{among_next}
 use Rattle.pst_search_loop.proofs.conflict.are_before.Goals as goal
 

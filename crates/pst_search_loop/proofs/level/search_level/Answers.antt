@@ -1,7 +1,6 @@
-use Rattle.std.proofs.Common.{◌≡◌, ◌∙◌, ap, subst, refl, arith}
-use Rattle.std.specs.Prelude.{Option, Some, None}
+use Rattle.std.proofs.Common.{◌≡◌, ◌∙◌, ap, subst, arith}
+use Rattle.std.specs.Prelude.{Option, Some}
 use Rattle.pst_search_loop.specs.declared.walker.Look.{Look}
-use Rattle.pst_search_loop.specs.declared.walker.Look.TheVariants as look
 use Rattle.pst_search_loop.specs.Kept.{Kept}
 use Rattle.pst_search_loop.specs.Search.{Says}
 use Rattle.pst_search_loop.proofs.Searching.{Searching, searching_on, says_further, searching_here, searching_empty, searching_spent}

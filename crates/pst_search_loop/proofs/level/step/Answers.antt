@@ -1,4 +1,3 @@
-use Rattle.pst_search_loop.specs.Kept.{Kept}
 use Rattle.pst_search_loop.proofs.Turns.{says_left}
 use Rattle.pst_search_loop.proofs.level.step.Goals as goal
 

@@ -1,4 +1,4 @@
-use Rattle.std.proofs.Common.{refl, arith}
+use Rattle.std.proofs.Common.{arith}
 use Rattle.pst_search_loop.proofs.Stack.{stands_on}
 use Rattle.pst_search_loop.proofs.level.take.Goals as goal
 

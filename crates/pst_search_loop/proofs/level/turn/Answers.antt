@@ -1,8 +1,8 @@
-use Rattle.std.proofs.Common.{◌≡◌, ◌+◌, ◌<◌, ℕ, List, ◌∷◌, ◌++◌, [], length, refl, sym, ap, ◌∙◌, subst, arith}
-use Rattle.std.specs.Prelude.{Some, None, Option, option_to_list}
+use Rattle.std.proofs.Common.{◌≡◌, ◌<◌, ◌∷◌, ◌++◌, [], length, sym, ap, ◌∙◌, subst, arith}
+use Rattle.std.specs.Prelude.{Option, option_to_list}
 use Rattle.std.proofs.lemmas.Result.{IfOk-weaker}
 use Rattle.pst_search_loop.specs.declared.frame.Frame.{Frame}
-use Rattle.pst_search_loop.specs.Conflicts.{Has, IsJoined}
+use Rattle.pst_search_loop.specs.Conflicts.{IsJoined}
 use Rattle.pst_search_loop.specs.Kept.{Kept}
 use Rattle.pst_search_loop.proofs.Stack.{IsPopped, stands_back, length_stands}
 use Rattle.pst_search_loop.proofs.Turns.{backs_out, rank_back, one_more, went_turns}

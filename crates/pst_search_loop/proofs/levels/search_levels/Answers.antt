@@ -1,8 +1,8 @@
-use Rattle.std.proofs.Common.{◌≡◌, ◌∙◌, ℕ, true, false, sym, ap, subst, refl, arith}
+use Rattle.std.proofs.Common.{◌≡◌, sym, subst, arith}
 use Rattle.pst_search_loop.specs.declared.level.Found.{Found}
 use Rattle.pst_search_loop.specs.declared.level.Found.TheVariants as found
-use Rattle.pst_search_loop.specs.Kept.{Kept, FactsHold, at_level, SameKept}
-use Rattle.pst_search_loop.specs.Search.{Ends, IsEmpty}
+use Rattle.pst_search_loop.specs.Kept.{Kept, FactsHold, at_level}
+use Rattle.pst_search_loop.specs.Search.{Ends}
 use Rattle.pst_search_loop.proofs.Past.{past_on, none_anywhere, none_at_last, spent_here, found_here, begun, still_of_search}
 use Rattle.pst_search_loop.proofs.levels.search_levels.Goals as goal
 

@@ -1,4 +1,4 @@
-use Rattle.std.proofs.Common.{◌≤◌, ◌-◌, ◌<◌, ◌^◌}
+use Rattle.std.proofs.Common.{◌≤◌, ◌-◌}
 use Rattle.pst_search_loop.specs.Levels.{ArePast, IsOfSearch}
 use Rattle.pst_search_loop.proofs.levels.search_levels.Given as goal
 
