@@ -13,3 +13,4 @@ mod ways;
 pub use known::{Known, Scene};
 pub use nodes::{inline_slot, node_slot};
 pub use slots::{act_slot, first_object_slot, output_slot, resource_slot};
+pub use ways::node_behind;

@@ -113,7 +113,7 @@ fn way_of(
 }
 
 /// The node of a handle of the compound action of a node.
-pub(crate) fn node_behind(
+pub fn node_behind(
     alloc: Global,
     model: &Model,
     nodes: &[Node],

@@ -9,4 +9,5 @@ mod site;
 mod statement;
 mod whole;
 
+pub use statement::{Stated, statement_of};
 pub use whole::{some_refused, some_unmet};

@@ -19,10 +19,13 @@ use std::alloc::Global;
 /// A statement of the activity of the compound action of node `top`, in turns of these numbers, the
 /// outermost first.
 #[derive(Drop)]
-pub(crate) struct Stated<'a> {
-    pub(crate) top: usize,
-    pub(crate) step: &'a Step,
-    pub(crate) indices: Vec<u32>,
+pub struct Stated<'a> {
+    /// The number of that node.
+    pub top: usize,
+    /// The statement.
+    pub step: &'a Step,
+    /// The numbers of the turns.
+    pub indices: Vec<u32>,
 }
 
 // The statement at a place of an action type's activity.
@@ -282,7 +285,7 @@ fn stated_within<'a>(
 }
 
 /// The statement that a node stands for.
-pub(crate) fn statement_of<'a>(
+pub fn statement_of<'a>(
     alloc: Global,
     model: &'a Model,
     nodes: &[Node],

@@ -1,0 +1,4 @@
+pub mod Pushed
+pub mod Told
+pub mod Has
+pub mod Grouped

@@ -1,0 +1,5 @@
+pub mod Sites
+pub mod Senses
+pub mod Groups
+pub mod Views
+pub mod Laws
