@@ -1,8 +1,8 @@
 -- Backwards along the steps of a trail.
-use Rattle.std.proofs.Common.{◌≡◌, ◌⊎◌, inl, inr, ℕ, zero, suc, ◌+◌, ◌-◌, ◌<◌, ◌≤◌, ℤ, List, [], ◌∷◌, ◌++◌, length, map, take, drop, set, reverse, get_or, Bool, true, false, Option, Some, None, All, refl, sym, ap, subst, ◌∙◌, arith}
-use Rattle.std.specs.Prelude.{slice_get, Contains}
-use Rattle.std.proofs.lemmas.List.{length-append, length-take-le, take-append-drop, drop-take, take_more, reverse-append, drop_all, take_all, get_or-set_other, drop-append-le, take-append-le}
-use Rattle.std.proofs.lemmas.Option.{slice_get_within, get_or_from_slice_get, slice_get-get_or}
+use Rattle.std.proofs.Common.{◌≡◌, ◌⊎◌, inl, inr, ℕ, suc, ◌+◌, ◌-◌, ◌<◌, ◌≤◌, ℤ, List, [], ◌∷◌, ◌++◌, length, take, drop, set, reverse, get_or, Bool, Option, Some, None, All, refl, sym, ap, subst, ◌∙◌, arith}
+use Rattle.std.specs.Prelude.{slice_get}
+use Rattle.std.proofs.lemmas.List.{length-take-le, take-append-drop, drop-take, take_more, reverse-append, drop_all, take_all, get_or-set_other, drop-append-le, take-append-le}
+use Rattle.std.proofs.lemmas.Option.{slice_get_within, get_or_from_slice_get}
 use Rattle.pst_expr.specs.declared.ranges.Span.{Span}
 use Rattle.pst_expr.specs.Tree.{Expression}
 use Rattle.pst_expr.specs.Value.{variable_value}
@@ -11,7 +11,6 @@ use Rattle.pst_narrow.specs.declared.trail.Former.{Former}
 use Rattle.pst_narrow.specs.declared.watch.Watch.{Watch}
 use Rattle.pst_narrow.specs.Trail.{put_back}
 use Rattle.pst_narrow.specs.Solutions.{IsMet, AreMet}
-use Rattle.pst_narrow.specs.Mentions.{Mentions}
 use Rattle.pst_narrow.specs.Watch.{Has, IsNumbered, IsWatch}
 use Rattle.pst_narrow.specs.Local.{LiesWithin, LieWithin, IsLocal, IsLocallyUnmet}
 use Rattle.pst_reasons.specs.declared.step.Cause.{Cause}
@@ -19,7 +18,7 @@ use Rattle.pst_reasons.specs.declared.step.Cause.TheVariants as cause
 use Rattle.pst_reasons.specs.declared.step.Step.{Step}
 use Rattle.pst_reasons.specs.declared.step.Given.{Given}
 use Rattle.pst_reasons.specs.Explained.{IsCausedBy, IsExplainedStep, AreExplained}
-use Rattle.pst_reasons.specs.Reasons.{Agree, AreReasons, IsMarked, Rests, NoneIsMarked, MarksStay, IsNamed, IsKnownCause, IsPassed, IsTaken, IsGivenBack, IsBack}
+use Rattle.pst_reasons.specs.Reasons.{Agree, AreReasons, IsMarked, Rests, NoneIsMarked, IsKnownCause, IsPassed, IsTaken, IsGivenBack, IsBack}
 
 -- ---- bounds of variables that weren't changed
 
@@ -98,7 +97,7 @@ pub record IsGoingBack (es : List Expression) (given : List Given) (steps : List
   pub rests : Rests es given (put_back (drop end t) b) marks places
   pub long : length marks ≡ n
 
-put_back-append : (xs ys : List Former) (b : List (Option Span)) → put_back (xs ++ ys) b ≡ put_back xs (put_back ys b)
+pub put_back-append : (xs ys : List Former) (b : List (Option Span)) → put_back (xs ++ ys) b ≡ put_back xs (put_back ys b)
 put_back-append [] ys b = refl
 put_back-append (x ∷ xs) ys b = ap (λ c. set c x.variable x.bound) (put_back-append xs ys b)
 

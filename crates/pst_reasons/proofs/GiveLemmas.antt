@@ -1,5 +1,5 @@
 -- A span that is given.
-use Rattle.std.proofs.Common.{◌≡◌, ◌⊎◌, inl, inr, ℕ, zero, suc, ◌+◌, ◌<◌, ◌≤◌, ℤ, ◌≤ℤ◌, List, [], ◌∷◌, ◌++◌, length, map, take, drop, set, reverse, get_or, false, Option, Some, None, All, IfSome, refl, sym, ap, subst, ◌∙◌, arith}
+use Rattle.std.proofs.Common.{◌≡◌, ℕ, zero, suc, ◌<◌, ◌≤◌, ◌≤ℤ◌, List, [], ◌∷◌, ◌++◌, length, take, drop, set, reverse, false, Option, Some, None, All, IfSome, refl, sym, ap, subst, ◌∙◌, arith}
 use Rattle.std.specs.Prelude.{slice_get}
 use Rattle.std.proofs.lemmas.List.{length-set, length-append, take_at, drop_at, reverse-append, set-set, set-get_or, get_or-set_same, get_or-set_other}
 use Rattle.std.proofs.lemmas.List.Elements.{All-set, All-cons, All-nil}
@@ -80,13 +80,3 @@ given_explained es given given' old new t u a b i place mark s small is cut more
     let older : AreExplained es (given ++ g ∷ []) (reverse old) (take (length t) u) (put_back (drop (length t) u) b) =
     subst (λ w. AreExplained es (given ++ g ∷ []) (reverse old) w (put_back (drop (length t) u) b)) (sym front) (subst (AreExplained es (given ++ g ∷ []) (reverse old) t) (sym back) (explained_too es given (g ∷ []) (reverse old) t a h)) in
     subst (λ w. AreExplained es w (reverse new) u b) (sym more) (subst (λ w. AreExplained es (given ++ g ∷ []) w u b) (sym turned) (step, older))
-
-put_back-append : (xs ys : List Former) (b : List (Option Span)) → put_back (xs ++ ys) b ≡ put_back xs (put_back ys b)
-put_back-append [] ys b = refl
-put_back-append (x ∷ xs) ys b = ap (λ c. set c x.variable x.bound) (put_back-append xs ys b)
-
--- the bounds at the start stay
-pub start_stays : (i : ℕ) (s : Span) (t u v more : List Former) (a b d : List (Option Span)) → u ≡ t ++ change i a ∷ [] → b ≡ set a i (Some s) → v ≡ u ++ more → put_back more d ≡ b → put_back v d ≡ put_back t a
-start_stays i s t u v more a b d is cut long back =
-    let one : put_back u b ≡ put_back t a = ap (λ z. put_back z b) is ∙ (put_back-append t (change i a ∷ []) b ∙ ap (put_back t) (ap (λ x. set x i (bound_of a i)) cut ∙ (set-set a i (Some s) (bound_of a i) ∙ set-get_or a i None))) in
-    ap (λ z. put_back z d) long ∙ (put_back-append u more d ∙ (ap (put_back u) back ∙ one))

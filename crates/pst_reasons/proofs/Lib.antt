@@ -2,3 +2,5 @@ mod MarkLemmas
 mod BackLemmas
 mod NoteLemmas
 mod GiveLemmas
+mod KeepLemmas
+mod OpenLemmas

@@ -1,12 +1,12 @@
 -- Marks of variables.
-use Rattle.std.proofs.Common.{◌≡◌, ◌⊎◌, inl, inr, ℕ, zero, suc, ◌+◌, ◌<◌, ◌≤◌, List, [], ◌∷◌, ◌++◌, length, length-set, set, get_or, Bool, true, false, Some, None, All, refl, sym, ap, subst, ◌∙◌, arith}
+use Rattle.std.proofs.Common.{◌≡◌, ◌⊎◌, inl, inr, ℕ, zero, suc, ◌+◌, ◌<◌, ◌≤◌, List, [], ◌∷◌, ◌++◌, length, length-set, set, get_or, Bool, true, false, Some, None, refl, sym, ap, subst, ◌∙◌, arith}
 use Rattle.std.specs.Prelude.{slice_get, Contains}
 use Rattle.std.proofs.lemmas.List.{get_or_default}
 use Rattle.std.proofs.lemmas.List.Elements.{Contains-get_or, Contains-append_left, Contains-append_right}
 use Rattle.pst_narrow.specs.declared.trail.Former.{Former}
 use Rattle.pst_narrow.specs.declared.watch.Watch.{Watch}
 use Rattle.pst_narrow.specs.Watch.{IsRow, Has}
-use Rattle.pst_reasons.specs.Reasons.{IsMarked, NoneIsMarked, MarksStay, AreMarked, IsUnmarked, IsNamed, IsTaken, IsPassed, IsGivenBack}
+use Rattle.pst_reasons.specs.Reasons.{IsMarked, NoneIsMarked, MarksStay, AreMarked, IsUnmarked, IsNamed, IsTaken}
 
 some_is : {X : Type 0} (x y : X) → Some x ≡ Some y → x ≡ y
 some_is x y e = cc

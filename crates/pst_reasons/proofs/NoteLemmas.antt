@@ -1,5 +1,5 @@
 -- Steps that are noted.
-use Rattle.std.proofs.Common.{◌≡◌, ◌⊎◌, inl, inr, ℕ, ◌+◌, ◌<◌, ◌≤◌, ℤ, List, [], ◌∷◌, ◌++◌, length, map, take, drop, reverse, get_or, Bool, true, false, Option, Some, None, Result, Ok, Err, refl, sym, ap, subst, ◌∙◌, append-nil, arith}
+use Rattle.std.proofs.Common.{◌≡◌, inl, inr, ℕ, ◌+◌, ◌<◌, ◌≤◌, ℤ, List, [], ◌∷◌, ◌++◌, length, map, take, drop, reverse, get_or, Bool, false, Option, Some, None, Result, Ok, Err, refl, sym, ap, subst, ◌∙◌, append-nil, append_assoc, arith}
 use Rattle.std.proofs.lemmas.List.{length-append, get_or_default, take_at, drop_at, reverse-append}
 use Rattle.pst_base.specs.declared.memory.NoMemory.{NoMemory}
 use Rattle.pst_expr.specs.declared.ranges.Span.{Span}
@@ -8,9 +8,9 @@ use Rattle.pst_expr.specs.Tree.{Expression, view}
 use Rattle.pst_narrow.specs.declared.trail.Former.{Former}
 use Rattle.pst_narrow.specs.Trail.{put_back, Extends}
 use Rattle.pst_narrow.specs.Solutions.{IsMet}
-use Rattle.pst_narrow.specs.Narrowing.{Narrows, IsStep, HaveNone}
+use Rattle.pst_narrow.specs.Narrowing.{Narrows, IsStep}
 use Rattle.pst_narrow.specs.Local.{IsLocal, IsLocallyUnmet, NarrowingIsLocal}
-use Rattle.pst_narrow.proofs.NarrowLemmas.{step_self, step_then, step_true}
+use Rattle.pst_narrow.proofs.NarrowLemmas.{step_self}
 use Rattle.pst_narrow.proofs.SettleLemmas.{numbered, changed_at_first, room_at_first}
 use Rattle.pst_narrow.specs.Trail.{AreBelow}
 use Rattle.pst_domain.specs.Bounds.{AreUpright}
@@ -18,8 +18,8 @@ use Rattle.pst_narrow.specs.Watch.{IsNumbered}
 use Rattle.pst_reasons.specs.declared.step.Cause.TheVariants as cause
 use Rattle.pst_reasons.specs.declared.step.Step.{Step}
 use Rattle.pst_reasons.specs.declared.step.Given.{Given}
-use Rattle.pst_reasons.specs.Explained.{IsCausedBy, IsExplainedStep, AreExplained}
-use Rattle.pst_reasons.specs.Settled.{fits, KeepExplained, IsUnmetAt, IsNoted}
+use Rattle.pst_reasons.specs.Explained.{IsExplainedStep, AreExplained}
+use Rattle.pst_reasons.specs.Settled.{fits, KeepExplained, IsUnmetAt, IsNoted, IsAppended}
 
 pub back_at : (t u : List Former) (a b : List (Option Span)) → Extends t u a b → put_back (drop (length t) u) b ≡ a
 back_at t u a b x = ap (λ z. put_back z b) (ap (drop (length t)) x.appended ∙ drop_at t x.more (length t) refl) ∙ x.back
@@ -112,3 +112,18 @@ item_numbered xs n h = numbered xs n (item xs n h).0 h (item xs n h).1
 
 pub ok_some_is : (m n : ℕ) → (let r : Result (Option ℕ) NoMemory = Ok (Some m) in r ≡ Ok (Some n)) → m ≡ n
 ok_some_is m n e = cc
+
+-- ---- steps are only appended
+
+pub appended_none : (xs : List Step) → IsAppended xs xs
+appended_none xs = record { more = []; is = sym (append-nil xs) }
+
+pub appended_same : (xs ys : List Step) → ys ≡ xs → IsAppended xs ys
+appended_same xs ys e = record { more = []; is = e ∙ sym (append-nil xs) }
+
+pub appended_then : (xs ys zs : List Step) → IsAppended xs ys → IsAppended ys zs → IsAppended xs zs
+appended_then xs ys zs p q = record { more = p.more ++ q.more; is = q.is ∙ (ap (λ w. w ++ q.more) p.is ∙ append_assoc xs p.more q.more) }
+
+pub noted_appended : (c mark : ℕ) (t : List Former) (xs ys : List Step) → IsNoted c mark t xs ys → IsAppended xs ys
+noted_appended c mark t xs ys (inl h) = record { more = record { cause = cause.Constraint c; mark = mark } ∷ []; is = h.1 }
+noted_appended c mark t xs ys (inr h) = appended_same xs ys h.1

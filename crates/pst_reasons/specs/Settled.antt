@@ -4,8 +4,6 @@ use Rattle.pst_base.specs.declared.memory.NoMemory.{NoMemory}
 use Rattle.pst_expr.specs.declared.ranges.Span.{Span}
 use Rattle.pst_expr.specs.Tree.{Expression}
 use Rattle.pst_narrow.specs.declared.trail.Former.{Former}
-use Rattle.pst_narrow.specs.Solutions.{IsMet}
-use Rattle.pst_narrow.specs.Narrowing.{IsStep}
 use Rattle.pst_narrow.specs.Local.{IsLocallyUnmet}
 use Rattle.pst_narrow.specs.Watch.{IsNumbered}
 use Rattle.pst_reasons.specs.declared.step.Cause.TheVariants as cause
@@ -23,6 +21,11 @@ fits (Err e) = Err e
 abbrev pub KeepExplained : List Expression → List Step → List Step → List Former → List Former → List (Option Span) → List (Option Span) → Type 0
 KeepExplained es old_steps new_steps old_trail new_trail old new =
     (given : List Given) → AreExplained es given (reverse old_steps) old_trail old → AreExplained es given (reverse new_steps) new_trail new
+
+-- steps were only appended
+pub record IsAppended (old new : List Step) : Type 0 where
+  pub more : List Step
+  pub is : new ≡ old ++ more
 
 -- no values within the bounds of its variables meet the constraint of a number
 abbrev pub IsUnmetAt : List Expression → ℕ → List (Option Span) → Type 0

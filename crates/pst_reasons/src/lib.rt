@@ -2,10 +2,12 @@
 #![tactic(auto)]
 
 mod giving;
+mod laws;
 mod reasons;
 mod settling;
 mod step;
 
+pub use laws::{given_spans_refuse_nothing, reasons_hold_before_narrowing};
 pub use reasons::Narrowed;
 pub use settling::settle;
-pub use step::{Cause, Given, Step};
+pub use step::{Cause, Given, Mark, Step};

@@ -7,7 +7,7 @@ ghost use Rattle.pst_narrow.specs.Watch.{Has, IsWatch, IsNumbered};
 ghost use Rattle.pst_reasons.specs.Explained.{AreExplained};
 ghost use Rattle.pst_reasons.specs.Reasons.{IsMarked, NoneIsMarked, AreMarked, IsUnmarked, IsNamed, IsKnownCause, IsBack, AreReasons};
 
-use crate::step::{Cause, Given, Step};
+use crate::step::{Cause, Given, Mark, Step};
 use pst_base::NoMemory;
 use pst_domain::Bounds;
 use pst_expr::Expr;
@@ -128,6 +128,8 @@ pub struct Narrowed {
     pub steps: Vec<Step>,
     /// The spans that variables were given, in order.
     pub given: Vec<Given>,
+    /// How much there was before each of these.
+    pub marks: Vec<Mark>,
 }
 
 impl Narrowed {

@@ -1,5 +1,5 @@
 // Looking at constraints again where a bound of one of their variables moved, with what moved noted.
-ghost use Rattle.std.specs.Prelude.{◌≡◌, ℕ, ◌<◌, ◌≤◌, length, map, drop, true, false, None, Some, Ok, Contains, OnOk, Option, Bool};
+ghost use Rattle.std.specs.Prelude.{◌≡◌, ℕ, ◌<◌, ◌≤◌, length, map, drop, true, false, None, Some, Ok, Contains, OnOk, OnErr, Option, Bool};
 ghost use Rattle.pst_expr.specs.Tree.{Expression, view};
 ghost use Rattle.pst_domain.specs.Bounds.{AreUpright};
 ghost use Rattle.pst_narrow.specs.Trail.{AreBelow};
@@ -7,7 +7,7 @@ ghost use Rattle.pst_narrow.specs.Solutions.{IsMet, AreMet};
 ghost use Rattle.pst_narrow.specs.Narrowing.{IsStep, HaveVariablesBelow, AreOpen};
 ghost use Rattle.pst_narrow.specs.Watch.{IsNumbered, IsWatch};
 ghost use Rattle.pst_narrow.specs.Settled.{IsUnrefused, QuietAreOpen, AreLookedAt, IsOfRow};
-ghost use Rattle.pst_reasons.specs.Settled.{fits, KeepExplained, IsUnmetAt, IsNoted};
+ghost use Rattle.pst_reasons.specs.Settled.{fits, KeepExplained, IsUnmetAt, IsNoted, IsAppended};
 
 use crate::step::{Cause, Step};
 use pst_base::NoMemory;
@@ -20,7 +20,8 @@ const CHANGES: usize = 2_000;
 
 // Notes what a constraint moved, where it moved anything.
 fn note(number: u32, mark: usize, trail: &Trail, steps: &mut Vec<Step>) -> Result<(), NoMemory>
-    ensures { OnOk result (IsNoted number mark trail.now steps.old.items steps.new.items) }
+    ensures noted { OnOk result (IsNoted number mark trail.now steps.old.items steps.new.items) }
+    ensures same { OnErr result (steps.new.items ≡ steps.old.items) }
 {
     if trail.mark() <= mark {
         return Ok(());
@@ -48,6 +49,7 @@ fn look_at(
     ensures tested { result ≡ Ok true → (e : Expression) → IsNumbered (map view constraints.now) number e → IsUnrefused e bounds.new }
     ensures explained { (b : Bool) → result ≡ Ok b → KeepExplained (map view constraints.now) steps.old.items steps.new.items trail.old trail.new bounds.old bounds.new }
     ensures unmet { result ≡ Ok false → IsUnmetAt (map view constraints.now) number bounds.new }
+    ensures appended { IsAppended steps.old.items steps.new.items }
 {
     narrowing_is_local();
     let mark = trail.mark();
@@ -75,6 +77,7 @@ fn look_at_row(
     ensures looked { result ≡ Ok None → AreLookedAt (IsOfRow row.now bounds.old) (map view constraints.now) trail.old trail.new bounds.new }
     ensures explained { (found : Option ℕ) → result ≡ Ok found → KeepExplained (map view constraints.now) steps.old.items steps.new.items trail.old trail.new bounds.old bounds.new }
     ensures unmet { (c : ℕ) → result ≡ Ok (Some c) → IsUnmetAt (map view constraints.now) c bounds.new }
+    ensures appended { IsAppended steps.old.items steps.new.items }
 {
     for number in row {
         if !look_at(constraints, *number, limit, bounds, trail, steps)? {
@@ -104,6 +107,7 @@ pub fn settle(
     ensures unrefused { result ≡ Ok None → AreOpen (map view constraints.now) bounds.new }
     ensures explained { (found : Option ℕ) → result ≡ Ok found → KeepExplained (map view constraints.now) steps.old.items steps.new.items trail.old trail.new bounds.old bounds.new }
     ensures unmet { (c : ℕ) → result ≡ Ok (Some c) → IsUnmetAt (map view constraints.now) c bounds.new }
+    ensures appended { IsAppended steps.old.items steps.new.items }
 {
     let limit = trail
         .mark()

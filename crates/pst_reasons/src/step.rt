@@ -27,3 +27,12 @@ pub struct Given {
     /// Its span: a single number where the variable was given a value.
     pub span: Span,
 }
+
+/// How much there was before a variable was given a span.
+#[derive(Clone, Copy, Debug, PartialEq, Eq)]
+pub struct Mark {
+    /// How long the trail was.
+    pub trail: usize,
+    /// How many steps there were.
+    pub steps: usize,
+}

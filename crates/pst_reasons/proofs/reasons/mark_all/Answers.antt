@@ -1,4 +1,4 @@
-use Rattle.std.proofs.Common.{◌<◌, length, refl, arith}
+use Rattle.std.proofs.Common.{refl, arith}
 use Rattle.pst_reasons.proofs.MarkLemmas.{none_yet, one_marked, all_marked, in_row}
 use Rattle.pst_reasons.proofs.reasons.mark_all.Goals as goal
 

@@ -1,5 +1,5 @@
-use Rattle.std.proofs.Common.{ℕ, ◌<◌, List, length, Bool, sym, subst, ap, arith}
-use Rattle.pst_reasons.proofs.MarkLemmas.{has_of_row, row_of_has}
+use Rattle.std.proofs.Common.{length, ap, arith}
+use Rattle.pst_reasons.proofs.MarkLemmas.{has_of_row}
 use Rattle.pst_reasons.proofs.reasons.marks_of.Goals as goal
 
 pub mark_all-requires : goal.mark_all-requires

@@ -1,8 +1,6 @@
-use Rattle.std.proofs.Common.{◌≡◌, inl, inr, refl, length, sym, subst}
-use Rattle.pst_reasons.specs.declared.step.Cause.TheVariants as cause
-use Rattle.pst_reasons.specs.Reasons.{IsKnownCause, IsBack}
-use Rattle.pst_reasons.proofs.MarkLemmas.{has_of_row, taken_of}
-use Rattle.pst_reasons.proofs.BackLemmas.{back_passed, nothing_changed}
+use Rattle.std.proofs.Common.{length, subst}
+use Rattle.pst_reasons.specs.Reasons.{IsKnownCause}
+use Rattle.pst_reasons.proofs.MarkLemmas.{has_of_row}
 use Rattle.pst_reasons.proofs.reasons.step_back.Goals as goal
 
 pub mark_all-requires : goal.mark_all-requires

@@ -1,4 +1,4 @@
-use Rattle.std.proofs.Common.{rules, ◌≡◌, length, map, true, false, Ok, sym, subst, ap, ◌∙◌, arith}
+use Rattle.std.proofs.Common.{rules, ◌≡◌, length, map, true, false, Ok, subst, ap, ◌∙◌}
 use Rattle.pst_expr.specs.Tree.{view}
 use Rattle.pst_domain.specs.Bounds.{HasVariablesBelow}
 use Rattle.pst_narrow.specs.Solutions.{IsMet}
@@ -6,7 +6,7 @@ use Rattle.pst_narrow.specs.Settled.{IsUnrefused}
 use Rattle.pst_narrow.proofs.NarrowLemmas.{step_err, step_as, not_is_true, not_is_false}
 use Rattle.pst_narrow.proofs.ListLemmas.{at}
 use Rattle.pst_narrow.proofs.SettleLemmas.{numbered}
-use Rattle.pst_reasons.proofs.NoteLemmas.{back_is, undone_step, undone_unmet, undo_below, undo_room, noted, undone, step_of, same_numbered}
+use Rattle.pst_reasons.proofs.NoteLemmas.{back_is, undone_step, undone_unmet, undo_below, undo_room, noted, undone, step_of, same_numbered, appended_none, appended_same, noted_appended}
 use Rattle.pst_reasons.proofs.settling.look_at.Goals as goal
 
 pub look_again-requires-clause-variables : goal.look_again-requires-clause-variables
@@ -74,4 +74,16 @@ pub returns-clause-explained : goal.returns-clause-explained
 returns-clause-explained c b r =
     let xs = c.args.constraints.now in
     let x = c.index-constraints-number.result in
-    noted c.narrowing_is_local.ensures (map view xs) c.args.number (view x) c.args.steps.now.items c.note.new.steps.items c.args.trail.now c.look_again.new.trail c.args.bounds.now c.look_again.new.bounds c.mark-mark.result c.look_again.result (numbered xs c.args.number x c.requires.number c.index-constraints-number.is) c.mark-mark.ensures c.in_ok-note.ensures c.look_again.ensures.step
+    noted c.narrowing_is_local.ensures (map view xs) c.args.number (view x) c.args.steps.now.items c.note.new.steps.items c.args.trail.now c.look_again.new.trail c.args.bounds.now c.look_again.new.bounds c.mark-mark.result c.look_again.result (numbered xs c.args.number x c.requires.number c.index-constraints-number.is) c.mark-mark.ensures c.in_ok-note.ensures.noted c.look_again.ensures.step
+
+pub returns-in_err-look_again-clause-appended : goal.returns-in_err-look_again-clause-appended
+returns-in_err-look_again-clause-appended c = appended_none c.args.steps.now.items
+
+pub returns-then-not-branch-clause-appended : goal.returns-then-not-branch-clause-appended
+returns-then-not-branch-clause-appended c = appended_none c.args.steps.now.items
+
+pub returns-in_err-note-clause-appended : goal.returns-in_err-note-clause-appended
+returns-in_err-note-clause-appended c = appended_same c.args.steps.now.items c.note.new.steps.items c.in_err-note.ensures.same
+
+pub returns-clause-appended : goal.returns-clause-appended
+returns-clause-appended c = noted_appended c.args.number c.mark-mark.result c.look_again.new.trail c.args.steps.now.items c.note.new.steps.items c.in_ok-note.ensures.noted

@@ -1,5 +1,4 @@
-use Rattle.std.proofs.Common.{rules, ◌≡◌, length, map, get_or, true, false, Some, None, Ok, refl, sym, subst, ap, ◌∙◌}
-use Rattle.std.proofs.lemmas.Option.{slice_get-get_or}
+use Rattle.std.proofs.Common.{rules, ◌≡◌, map, get_or, true, false, Ok, sym, subst, ap, ◌∙◌}
 use Rattle.pst_expr.specs.Tree.{view}
 use Rattle.pst_narrow.specs.Solutions.{AreMet}
 use Rattle.pst_narrow.specs.Narrowing.{HaveVariablesBelow}
@@ -7,11 +6,11 @@ use Rattle.pst_narrow.proofs.NarrowLemmas.{step_err, step_as, not_is_true, not_i
 use Rattle.pst_narrow.proofs.NotedLemmas.{item_in, item_is}
 use Rattle.pst_narrow.proofs.SettleLemmas.{none_of_row, row_step, one_of_row, all_of_row}
 use Rattle.pst_reasons.specs.Settled.{fits, IsUnmetAt}
-use Rattle.pst_reasons.proofs.NoteLemmas.{item, item_numbered, ok_some_is, explained_then, not_false}
+use Rattle.pst_reasons.proofs.NoteLemmas.{item, item_numbered, ok_some_is, explained_then, not_false, appended_none, appended_then}
 use Rattle.pst_reasons.proofs.settling.look_at_row.Goals as goal
 
 pub loop-number-init : goal.loop-number-init
-loop-number-init c = record { looked = none_of_row c.args.constraints.now c.args.row.now c.args.bounds.now c.args.trail.now c.requires.upright; explained = λ given h. h }
+loop-number-init c = record { looked = none_of_row c.args.constraints.now c.args.row.now c.args.bounds.now c.args.trail.now c.requires.upright; appended = appended_none c.args.steps.now.items; explained = λ given h. h }
 
 pub look_at-requires-clause-upright : goal.look_at-requires-clause-upright
 look_at-requires-clause-upright c = c.loop-number.invariant.looked.step.narrows.upright
@@ -56,6 +55,7 @@ loop-number-preserved c =
     let num = item_numbered xs n below in
     record {
       looked = one_of_row xs c.args.row.now c.loop-number.number-index n (item xs n below).0 c.args.bounds.now c.loop-number.bounds c.look_at.new.bounds c.args.trail.now c.loop-number.trail c.look_at.new.trail c.look_at.result c.loop-number-test.true (item_is c.args.row.now c.loop-number.number-index c.loop-number-test.true) below (item xs n below).1 c.loop-number.invariant.looked (c.look_at.ensures.step (view (item xs n below).0) num) (c.look_at.ensures.tested e (view (item xs n below).0) num);
+      appended = appended_then c.args.steps.now.items c.loop-number.steps.items c.look_at.new.steps.items c.loop-number.invariant.appended c.look_at.ensures.appended;
       explained = explained_then (map view xs) c.args.steps.now.items c.loop-number.steps.items c.look_at.new.steps.items c.args.trail.now c.loop-number.trail c.look_at.new.trail c.args.bounds.now c.loop-number.bounds c.look_at.new.bounds c.loop-number.invariant.explained (c.look_at.ensures.explained true e);
     }
 
@@ -67,3 +67,12 @@ returns-clause-looked c e = all_of_row c.args.constraints.now c.args.row.now c.l
 
 pub returns-clause-explained : goal.returns-clause-explained
 returns-clause-explained c found e = c.loop-number.invariant.explained
+
+pub returns-in_err-look_at-clause-appended : goal.returns-in_err-look_at-clause-appended
+returns-in_err-look_at-clause-appended c = appended_then c.args.steps.now.items c.loop-number.steps.items c.look_at.new.steps.items c.loop-number.invariant.appended c.look_at.ensures.appended
+
+pub returns-then-not-branch-clause-appended : goal.returns-then-not-branch-clause-appended
+returns-then-not-branch-clause-appended c = appended_then c.args.steps.now.items c.loop-number.steps.items c.look_at.new.steps.items c.loop-number.invariant.appended c.look_at.ensures.appended
+
+pub returns-clause-appended : goal.returns-clause-appended
+returns-clause-appended c = c.loop-number.invariant.appended

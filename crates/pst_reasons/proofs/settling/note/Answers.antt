@@ -1,2 +1,0 @@
-use Rattle.std.proofs.Common.{inl, inr, refl, arith}
-use Rattle.pst_reasons.proofs.settling.note.Goals as goal

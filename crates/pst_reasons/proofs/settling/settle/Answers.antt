@@ -1,4 +1,4 @@
-use Rattle.std.proofs.Common.{rules, ◌≡◌, ◌<◌, List, length, map, get_or, true, false, Some, None, Ok, refl, sym, subst, ap, ◌∙◌, arith}
+use Rattle.std.proofs.Common.{rules, ◌<◌, List, length, map, get_or, true, false, None, Ok, sym, subst, ap, ◌∙◌, arith}
 use Rattle.std.proofs.lemmas.List.{get_or_default, length-map}
 use Rattle.pst_expr.specs.Tree.{view}
 use Rattle.pst_narrow.specs.declared.trail.Former.{Former}
@@ -8,11 +8,11 @@ use Rattle.pst_narrow.specs.Watch.{IsRow}
 use Rattle.pst_narrow.proofs.NarrowLemmas.{step_then, step_err}
 use Rattle.pst_narrow.proofs.SettleLemmas.{at_start, settled_once, all_settled, change_below, row_numbers}
 use Rattle.pst_reasons.specs.Settled.{fits, IsUnmetAt}
-use Rattle.pst_reasons.proofs.NoteLemmas.{explained_then, not_false, same_step, ok_some_is}
+use Rattle.pst_reasons.proofs.NoteLemmas.{explained_then, not_false, same_step, ok_some_is, appended_none, appended_then}
 use Rattle.pst_reasons.proofs.settling.settle.Goals as goal
 
 pub loop-at-init : goal.loop-at-init
-loop-at-init c = record { settling = at_start (map view c.args.constraints.now) c.args.from c.args.bounds.now c.args.trail.now c.requires.upright c.requires.changed c.requires.room c.requires.quiet; explained = λ given h. h }
+loop-at-init c = record { settling = at_start (map view c.args.constraints.now) c.args.from c.args.bounds.now c.args.trail.now c.requires.upright c.requires.changed c.requires.room c.requires.quiet; appended = appended_none c.args.steps.now.items; explained = λ given h. h }
 
 pub constraints_of-row-requires : goal.constraints_of-row-requires
 constraints_of-row-requires c =
@@ -69,6 +69,7 @@ loop-at-preserved c =
     let e = c.in_ok-number.was ∙ ap (λ o. Ok o) c.in-None.is in
     record {
       settling = settled_once es c.args.watch.now (length c.args.bounds.now) c.args.from c.loop-at.at f c.constraints_of-row.result.now c.args.bounds.now c.loop-at.bounds c.look_at_row.new.bounds c.args.trail.now u c.look_at_row.new.trail (fits c.look_at_row.result) c.requires.watch below (get_or_default u c.loop-at.at none f below) row c.loop-at.invariant.settling c.look_at_row.ensures.step (c.look_at_row.ensures.looked e);
+      appended = appended_then c.args.steps.now.items c.loop-at.steps.items c.look_at_row.new.steps.items c.loop-at.invariant.appended c.look_at_row.ensures.appended;
       explained = explained_then es c.args.steps.now.items c.loop-at.steps.items c.look_at_row.new.steps.items c.args.trail.now u c.look_at_row.new.trail c.args.bounds.now c.loop-at.bounds c.look_at_row.new.bounds c.loop-at.invariant.explained (c.look_at_row.ensures.explained c.in_ok-number.field-0 c.in_ok-number.was);
     }
 
@@ -80,3 +81,15 @@ returns-then-at-mark-clause-unrefused c e = all_settled (map view c.args.constra
 
 pub returns-then-at-mark-clause-explained : goal.returns-then-at-mark-clause-explained
 returns-then-at-mark-clause-explained c found e = c.loop-at.invariant.explained
+
+pub returns-in_err-number-clause-appended : goal.returns-in_err-number-clause-appended
+returns-in_err-number-clause-appended c = appended_then c.args.steps.now.items c.loop-at.steps.items c.look_at_row.new.steps.items c.loop-at.invariant.appended c.look_at_row.ensures.appended
+
+pub returns-in-Some-clause-appended : goal.returns-in-Some-clause-appended
+returns-in-Some-clause-appended c = appended_then c.args.steps.now.items c.loop-at.steps.items c.look_at_row.new.steps.items c.loop-at.invariant.appended c.look_at_row.ensures.appended
+
+pub returns-then-at-mark-clause-appended : goal.returns-then-at-mark-clause-appended
+returns-then-at-mark-clause-appended c = c.loop-at.invariant.appended
+
+pub returns-clause-appended : goal.returns-clause-appended
+returns-clause-appended c = c.loop-at.invariant.appended
