@@ -1,0 +1,4 @@
+pub mod Mirrors
+pub mod Sites
+pub mod Hulls
+pub mod Opens

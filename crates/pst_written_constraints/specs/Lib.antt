@@ -1,0 +1,4 @@
+pub mod Terms
+pub mod Written
+pub mod Spans
+pub mod Open
