@@ -1,5 +1,6 @@
 -- What values that are refused say of options.
-use Rattle.std.specs.Prelude.{◌≡◌, ℕ, ℤ, List, length, Some, slice_get}
+use Rattle.std.specs.Prelude.{◌≡◌, ℕ, ℤ, List, length, map, Some, slice_get}
+use Rattle.pst_expr.specs.Tree.{view}
 use Rattle.pst_expr.specs.Value.{variable_value}
 use Rattle.pst_narrow.specs.Solutions.{AreMet}
 use Rattle.pst_narrow.specs.Local.{LiesWithin}
@@ -15,7 +16,7 @@ use Rattle.pst_value_search.specs.Values.{Kept, Refuses}
 -- where options keep all constraints of the scenario, their values meet these constraints and lie within the bounds
 pub record AreKeptBy (m : ModelTree) (u : Scenario) (k : Kept) : Type 0 where
   pub met : (chosen : List ℕ) → AreOptions m u.actions (all_blanks m u) chosen → Holds m (filled m (all_blanks m u) chosen (with_firsts m u))
-      → AreMet k.constraints (blank_values m u.actions (all_blanks m u) chosen)
+      → AreMet (map view k.constraints) (blank_values m u.actions (all_blanks m u) chosen)
   pub within : (chosen : List ℕ) → AreOptions m u.actions (all_blanks m u) chosen → Holds m (filled m (all_blanks m u) chosen (with_firsts m u))
       → (v : ℕ) → LiesWithin k.bounds (blank_values m u.actions (all_blanks m u) chosen) v
 

@@ -1,13 +1,16 @@
 -- Values that variables are given one after another, by number.
-use Rattle.std.specs.Prelude.{ℕ, ◌+◌, ◌<◌, ℤ, List, [], ◌∷◌, ◌++◌, length, Option, Contains}
+use Rattle.std.specs.Prelude.{◌≡◌, ℕ, ◌+◌, ◌<◌, ℤ, List, [], ◌∷◌, ◌++◌, length, map, Option, Some, None, Contains}
 use Rattle.pst_expr.specs.declared.ranges.Span.{Span}
-use Rattle.pst_expr.specs.Tree.{Expression}
+use Rattle.pst_expr.specs.declared.tree.Expr.{Expr}
+use Rattle.pst_expr.specs.Tree.{view}
+use Rattle.pst_narrow.specs.Solutions.{AreMet}
+use Rattle.pst_narrow.specs.Narrowing.{Narrows, HaveNone}
 use Rattle.pst_reasons.specs.declared.step.Given.{Given}
 use Rattle.pst_reasons.specs.Reasons.{AreReasons}
 
 -- the constraints, the bounds of the variables and the values
 pub record Kept : Type 0 where
-  pub constraints : List Expression
+  pub constraints : List Expr
   pub bounds : List (Option Span)
   pub values : List ℤ
 
@@ -27,5 +30,15 @@ points values = points_from 0 values
 
 -- no values that meet the constraints and lie within the bounds are the same as those given at these places
 pub record Refuses (k : Kept) (places : List ℕ) : Type 0 where
-  pub reasons : AreReasons k.constraints (points k.values) k.bounds places
+  pub reasons : AreReasons (map view k.constraints) (points k.values) k.bounds places
   pub within : (i : ℕ) → Contains places i → i < length k.values
+
+-- no value is given, under bounds that were narrowed by the constraints; or no values within the bounds meet them
+pub record IsBegun (constraints : List Expr) (bounds : List (Option Span)) (k : Kept) : Type 0 where
+  pub constraints_same : k.constraints ≡ constraints
+  pub narrows : Narrows (AreMet (map view constraints)) bounds k.bounds
+  pub none : k.values ≡ []
+
+abbrev pub Begins : List Expr → List (Option Span) → Option Kept → Type 0
+Begins constraints bounds None = HaveNone (AreMet (map view constraints)) bounds
+Begins constraints bounds (Some k) = IsBegun constraints bounds k

@@ -1,10 +1,8 @@
-//! Values that variables are given one after another, under constraints over the blanks of a scenario: where they
-//! are refused, few places of a list of choices are.
-//!
-//! Each law is the contract of a function that does nothing. A caller that needs a law in a proof
-//! calls its function.
+//! Values that variables are given one after another, under constraints, and why the next one can't be.
 #![tactic(auto)]
 
 mod laws;
+mod valued;
 
 pub use laws::refusals_hold_nothing;
+pub use valued::Valued;
