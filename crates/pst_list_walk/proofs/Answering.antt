@@ -8,11 +8,12 @@ use Rattle.pst_plan_so_far.specs.Laws.{ReadsSources}
 use Rattle.pst_shape.specs.Walks.{next_of, IfRead, HasDigit}
 use Rattle.pst_value_walk.specs.Walks.{Kept as Values, answer as value_answer}
 use Rattle.pst_value_walk.specs.Walks.{next_of as value_next_of, IfRead as ValueRead, HasDigit as ValueDigit}
-use Rattle.pst_link_walk.specs.Walks.{with_choice, reading}
+use Rattle.pst_link_walk.specs.Walks.{Kept, with_choice, reading, IsEnd, AtEnd}
 use Rattle.pst_link_walk.specs.Walks.{answer as link_answer}
 use Rattle.pst_link_walk.specs.Made.{IsInside}
 use Rattle.pst_link_walk.proofs.Ends.{link_on}
-use Rattle.pst_list_walk.specs.Walks.{answer}
+use Rattle.pst_legal.specs.Reading.{Reads}
+use Rattle.pst_list_walk.specs.Walks.{answer, HasFront}
 use Rattle.pst_list_walk.specs.Made.{choices_of, kept_at, IsBehind, Stands}
 use Rattle.pst_list_walk.proofs.Parts.{inside_answers, behind_answers}
 
@@ -59,3 +60,19 @@ module _ (m : Model) (root seed level : ℕ) where
   -- behind the sources, the list reads them
   pub behind_sources : (xs : List ℕ) (k : Values) → IsBehind m root seed level xs k → ReadsSources (view_model m) root seed level (xs ++ k.choices)
   behind_sources xs k behind = (behind.linked, behind.place, k.choices, link_on m root seed level xs behind.linked behind.place [] behind.reads k.choices)
+
+  -- and so many choices do
+  pub front_is : (links : Kept) (values : Option Values) (k : Values) (n : ℕ) → links ≡ kept_at m root seed level links.choices → values ≡ Some k → Stands m root seed level links.choices values → AtEnd links (reading links)
+      → n ≡ length links.choices → HasFront (kept_at m root seed level (links.choices ++ choices_of values)) n
+  front_is links values k n is e stands end count =
+      let behind = some_stands links.choices values k e stands in
+      let own : AtEnd (kept_at m root seed level links.choices) (reading (kept_at m root seed level links.choices)) = subst (λ (x : Kept). AtEnd x (reading x)) is end in
+      let at : IsEnd (kept_at m root seed level links.choices) behind.linked behind.place [] = subst (AtEnd (kept_at m root seed level links.choices)) behind.reads own in
+      record {
+        front = links.choices;
+        present = choices_of values;
+        choices = refl;
+        count = count;
+        linked = behind.linked;
+        reads = behind.reads ∙ ap (λ p. Reads behind.linked p []) at.counts;
+      }

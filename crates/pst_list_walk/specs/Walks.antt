@@ -1,7 +1,10 @@
 -- What a whole list of choices reads.
+use Rattle.std.specs.Prelude.{◌≡◌, ℕ, List, [], ◌++◌, length}
 use Rattle.pst_model.specs.ModelView.{view_model}
+use Rattle.pst_scen.specs.declared.scenario.Scenario.{Scenario}
+use Rattle.pst_legal.specs.Reading.{Reads}
 use Rattle.pst_legal.specs.ValueReading.{Answer, Options, Dead, Whole, read}
-use Rattle.pst_link_walk.specs.Walks.{Kept}
+use Rattle.pst_link_walk.specs.Walks.{Kept, reading}
 
 abbrev pub answer : Kept → Answer
 answer k = read (view_model k.model) k.root k.seed k.level k.choices
@@ -11,3 +14,12 @@ abbrev pub IsRead : Answer → Type 0
 IsRead (Options s n) = Unit {0}
 IsRead Dead = ⊥
 IsRead (Whole s) = Unit {0}
+
+-- So many choices read the activity and the sources.
+pub record HasFront (k : Kept) (n : ℕ) : Type 0 where
+  pub front : List ℕ
+  pub present : List ℕ
+  pub choices : k.choices ≡ front ++ present
+  pub count : n ≡ length front
+  pub linked : Scenario
+  pub reads : reading (record k { choices = front }) ≡ Reads linked (length front) []

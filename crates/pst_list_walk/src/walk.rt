@@ -10,7 +10,7 @@ ghost use Rattle.pst_refusals.specs.Answers.{StandEarlier, TellsRefusals};
 ghost use Rattle.pst_legal.specs.First.{NoneRefused};
 ghost use Rattle.pst_new_refusals.specs.Far.{has_far};
 ghost use Rattle.pst_new_refusals.specs.Newly.{StaysFree};
-ghost use Rattle.pst_list_walk.specs.Walks.{answer, IsRead};
+ghost use Rattle.pst_list_walk.specs.Walks.{answer, IsRead, HasFront};
 ghost use Rattle.pst_list_walk.specs.Made.{kept_at, linked_of, Begins, Goes};
 ghost use Rattle.pst_list_walk.specs.Free.{IfPlace, IsFreed, Frees};
 
@@ -26,6 +26,9 @@ use pst_refusals::some_refused;
 use pst_scen::{Act, First, Next, Node, Scenario};
 use pst_value_walk::ValueWalk;
 use std::alloc::Global;
+
+// How many actions are so few that a plan is asked for at each claim.
+const FEW_ACTIONS: usize = 128;
 
 // What the sources came to, in a copy.
 fn copy_linked(alloc: Global, links: &LinkWalk<'_>, level: u32) -> Result<Scenario, NoMemory>
@@ -356,6 +359,21 @@ impl<'a> ListWalk<'a> {
         Ok(places)
     }
 
+    /// How many choices read the activity and the sources, where these are read through.
+    pub fn front(&self) -> Result<Option<usize>, NoMemory>
+        ensures { IfOk result (λ o. IfSome o (λ n. HasFront self.now n)) }
+    {
+        self.links.ends();
+        match &self.values {
+            None => Ok(None),
+            Some(_values) => {
+                let links = self.links.count()?;
+                let count = in_memory(links)?;
+                Ok(Some(count))
+            }
+        }
+    }
+
     /// Makes a choice at the place where the walk stands.
     pub fn choose(&mut self, digit: u64) -> Result<(), NoMemory>
         requires { HasDigit (answer self.old) digit }
@@ -419,12 +437,15 @@ impl<'a> ListWalk<'a> {
         self.linked = self.linked.saturating_sub(1);
     }
 
-    /// Whether the sources have just been read through, or the last claim has.
-    pub fn is_behind_links(&self) -> bool {
+    /// Whether a plan may refuse what has just become known: where the sources have just been read through, or the
+    /// last claim has, or any claim where there are few actions.
+    pub fn is_to_be_planned(&self) -> bool {
         match &self.values {
             None => false,
             Some(values) => {
-                self.valued == 0 || is_instance(values.filled()) && !is_instance(values.blank())
+                let few = values.scenario().actions.as_slice().len() <= FEW_ACTIONS;
+                self.valued == 0
+                    || is_instance(values.filled()) && (few || !is_instance(values.blank()))
             }
         }
     }

@@ -16,12 +16,12 @@ use Rattle.pst_refusals_stay.specs.Laws.{RefusedListsAreBarren}
 use Rattle.pst_refusals.specs.Answers.{TellsRefusals}
 use Rattle.pst_shape.specs.Walks.{next_of, IfRead, HasDigit}
 use Rattle.pst_link_walk.specs.Walks.{Kept}
-use Rattle.pst_list_walk.specs.Walks.{answer, IsRead}
+use Rattle.pst_list_walk.specs.Walks.{answer, IsRead, HasFront}
 use Rattle.pst_search_loop.specs.Kept.{Shows, Sought, IsWhole, HasOptions, Rests, IsConflict}
 use Rattle.pst_search_loop.specs.Kept.{HasDigit as NamesOption}
 use Rattle.pst_search_loop.specs.Conflicts.{IsEarlier}
 use Rattle.pst_search_loop.specs.declared.conflict.Conflict.{Conflict}
-use Rattle.pst_search_plain.specs.Laws.{BarrenListsConflict, PlacesRestOnEarlierOnes}
+use Rattle.pst_search_places.specs.Laws.{IsOfPlaces, BarrenListsConflict, PlacesRestOnEarlierOnes, PlacesRestOnTheSources}
 use Rattle.pst_search_loop.specs.declared.walker.Look.{Look}
 use Rattle.pst_search_loop.specs.declared.walker.Look.TheVariants as look
 use Rattle.pst_search.specs.Readings.{kept_of, barren_at, IsAnswer}
@@ -160,6 +160,16 @@ module _ (k : Kept) where
 
   pub rests : PlacesRestOnEarlierOnes → (count : ℕ) → HasOptions (answer k) count → (c : Conflict) → IsEarlier c (length k.choices) → Rests (kept_of k) count c
   rests law count is c earlier = rests_by law (answer k) refl count is c earlier
+
+  front_by : PlacesRestOnTheSources → (a : Answer) → answer k ≡ a → (count n : ℕ) → HasOptions a count → (c : Conflict) → HasFront k n → IsOfPlaces c n [] → Rests (kept_of k) count c
+  front_by law (Options s i) e count n is c has of =
+      subst (λ x. Rests (kept_of k) x c) is
+      (law (kept_of k) c has.front has.present has.linked s i refl (record { choices = has.choices; reads = has.reads }) (subst (λ v. IsOfPlaces c v []) has.count of) e)
+  front_by law Dead e count n is c has of = absurd is
+  front_by law (Whole s) e count n is c has of = absurd is
+
+  pub rests_behind : PlacesRestOnTheSources → (count n : ℕ) → HasOptions (answer k) count → (c : Conflict) → HasFront k n → IsOfPlaces c n [] → Rests (kept_of k) count c
+  rests_behind law count n is c has of = front_by law (answer k) refl count n is c has of
 
   digit_in : (a : Answer) (d : ℕ) → NamesOption a d → HasDigit a d
   digit_in (Options s n) d has = has

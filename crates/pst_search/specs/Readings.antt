@@ -11,10 +11,10 @@ use Rattle.pst_list_walk.specs.Walks.{answer}
 use Rattle.pst_search_loop.specs.Kept.{Kept as Walked}
 use Rattle.pst_search_loop.specs.declared.walker.Look.{Look}
 use Rattle.pst_search_loop.specs.declared.walker.Look.TheVariants as look
-use Rattle.pst_search_plain.specs.Laws.{beginnings}
+use Rattle.pst_search_places.specs.Facts.{place_facts}
 
 abbrev pub kept_of : Kept → Walked
-kept_of k = record { model = view_model k.model; root = k.root; seed = k.seed; facts = beginnings; level = k.level; choices = k.choices }
+kept_of k = record { model = view_model k.model; root = k.root; seed = k.seed; facts = place_facts (view_model k.model) k.root k.seed; level = k.level; choices = k.choices }
 
 -- no list that begins with these choices reads a legal scenario
 abbrev pub barren_at : Kept → Type 0

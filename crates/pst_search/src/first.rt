@@ -11,7 +11,7 @@ use pst_base::NoMemory;
 use pst_model::Model;
 use pst_scen::{Plan, Scenario};
 use pst_search_loop::{Outcome, search_levels};
-use pst_search_plain::beginnings_are_facts;
+use pst_search_places::place_facts_hold;
 use std::alloc::Global;
 
 /// Why a search gives no scenario.
@@ -74,7 +74,7 @@ pub fn search(
     requires root { IsConcreteRoot (view_model model.now) root }
     ensures { Searches (view_model model.now) root seed infer budget result }
 {
-    beginnings_are_facts();
+    place_facts_hold();
     let most = some_lists(budget);
     let mut reading = Reading::new(alloc, model, root, seed)?;
     let outcome = search_levels(alloc, &mut reading, infer, most)?;

@@ -23,7 +23,9 @@ use pst_read_nodes::nodes_stand_for_pieces;
 use pst_refusals_stay::refused_lists_are_barren;
 use pst_scen::{Next, Plan, Scenario};
 use pst_search_loop::{Conflict, Judged, Look};
-use pst_search_plain::{earlier_places_are_a_conflict, places_rest_on_earlier_ones};
+use pst_search_places::{
+    barren_lists_conflict, of_places, places_rest_on_earlier_ones, places_rest_on_the_sources,
+};
 use std::alloc::Global;
 
 // All places of the list.
@@ -40,7 +42,7 @@ fn closed(alloc: Global, lists: &ListWalk<'_>) -> Result<Conflict, NoMemory>
     requires { barren_at lists.now }
     ensures { IfOk result (λ c. IsConflict (kept_of lists.now) c) }
 {
-    earlier_places_are_a_conflict();
+    barren_lists_conflict();
     let all = all_places(alloc, lists)?;
     Ok(all)
 }
@@ -52,7 +54,7 @@ fn plan_refuses(alloc: Global, lists: &ListWalk<'_>) -> Result<bool, NoMemory>
 {
     sources_are_built();
     plans_refuse_lists();
-    if !lists.is_behind_links() {
+    if !lists.is_to_be_planned() {
         return Ok(false);
     }
     let Some(scenario) = lists.scenario() else {
@@ -105,7 +107,7 @@ pub(crate) fn look_at(alloc: Global, lists: &ListWalk<'_>) -> Result<Look, NoMem
     }
 }
 
-/// What a place rests on: all places before it.
+/// What a place rests on: behind the sources the last one up to them alone, else all places before it.
 pub(crate) fn rests_on(
     alloc: Global,
     lists: &ListWalk<'_>,
@@ -116,8 +118,13 @@ pub(crate) fn rests_on(
 {
     let _ = count;
     places_rest_on_earlier_ones();
-    let all = all_places(alloc, lists)?;
-    Ok(all)
+    places_rest_on_the_sources();
+    let Some(front) = lists.front()? else {
+        let all = all_places(alloc, lists)?;
+        return Ok(all);
+    };
+    let last = of_places(alloc, front, &[])?;
+    Ok(last)
 }
 
 /// Whether the whole scenario of the list is legal.

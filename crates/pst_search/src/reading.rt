@@ -16,7 +16,8 @@ use pst_scen::{Plan, Scenario};
 use pst_search_loop::{Conflict, Judged, Look, Skipped, Walker};
 use std::alloc::Global;
 
-/// A walker through whole lists of choices, in which each choice stands for the list that it ends.
+/// A walker through whole lists of choices. Up to the sources each choice stands for the list that it ends, behind
+/// them for its own place.
 /// Contracts see its model, its root, its seed, its level and its choices.
 #[derive(Drop)]
 pub(crate) struct Reading<'a> {

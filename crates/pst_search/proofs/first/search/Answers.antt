@@ -5,7 +5,7 @@ use Rattle.pst_search.proofs.Ends.{none_told, budget_told, found_whole, found_fi
 use Rattle.pst_search.proofs.first.search.Goals as goal
 
 pub search_levels-requires-clause-facts : goal.search_levels-requires-clause-facts
-search_levels-requires-clause-facts c = c.beginnings_are_facts.ensures
+search_levels-requires-clause-facts c = c.place_facts_hold.ensures (view_model c.in_ok-reading.reading.model) c.in_ok-reading.reading.root c.in_ok-reading.reading.seed
 
 pub search_levels-requires-clause-sound : goal.search_levels-requires-clause-sound
 search_levels-requires-clause-sound c = subst (λ k. IsSound (view_model k.model)) (sym c.in_ok-reading.ensures) c.requires.sound
