@@ -13,3 +13,4 @@ pub mod Pushes
 pub mod Going
 pub mod Founding
 pub mod Parting
+pub mod Marking

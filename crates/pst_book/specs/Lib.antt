@@ -3,3 +3,4 @@ pub mod Kept
 pub mod Tables
 pub mod Tied
 pub mod Parts
+pub mod Ready

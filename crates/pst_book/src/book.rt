@@ -9,7 +9,8 @@ ghost use Rattle.pst_order.specs.Facts.{LinksStates};
 ghost use Rattle.pst_order.specs.Rule.{open_count, close_count};
 ghost use Rattle.pst_book.specs.Books.{with_trace, IsShut, DidOpen};
 
-use crate::open::{candidate, count_members, start};
+use crate::open::{count_members, start};
+use crate::ready::{all_marked, candidate, mark_row};
 use crate::run::Run;
 use pst_base::NoMemory;
 use pst_order::{
@@ -35,6 +36,8 @@ pub struct Opened {
 pub struct Book<'a> {
     scenario: &'a Scenario,
     run: Run<'a>,
+    /// For each 64 actions whether the number of a group that is ready may lie there.
+    ready: Vec<bool>,
 }
 
 impl<'a> Model for Book<'a> {
@@ -42,11 +45,11 @@ impl<'a> Model for Book<'a> {
 
     ghost Value = { View };
 
-    ghost use Rattle.pst_book.specs.Kept.{view_of, IsKept};
+    ghost use Rattle.pst_book.specs.Kept.{view_of, IsBook};
 
     ghost view = { view_of };
 
-    ghost invariant = { IsKept };
+    ghost invariant = { IsBook };
 }
 
 impl<'a> Book<'a> {
@@ -68,7 +71,12 @@ impl<'a> Book<'a> {
         ensures { IfOk result (λ b. b ≡ record { scenario = scenario.now; plan = plan.now; lanes = lanes; trace = [] }) }
     {
         let run = Run::new(alloc, plan, lanes)?;
-        Ok(Book { scenario, run })
+        let ready = all_marked(alloc, plan.len())?;
+        Ok(Book {
+            scenario,
+            run,
+            ready,
+        })
     }
 
     /// The number of lanes.
@@ -121,7 +129,7 @@ impl<'a> Book<'a> {
         whole_is_sound();
         members_are_those();
         groups_are_whole();
-        let group = candidate(&self.run)?;
+        let group = candidate(&self.run, &mut self.ready)?;
         let first = self.run.trace().len() as u32;
         let count = count_members(&self.run, group);
         start(&mut self.run, group, count);
@@ -143,6 +151,13 @@ impl<'a> Book<'a> {
             return false;
         }
         self.run.end(act);
+        mark_row(&self.run, &mut self.ready, self.run.plan().must_rows(), act);
+        mark_row(
+            &self.run,
+            &mut self.ready,
+            self.run.plan().conflict_rows(),
+            act,
+        );
         true
     }
 

@@ -7,6 +7,7 @@
 
 mod book;
 mod open;
+mod ready;
 mod rows;
 mod run;
 mod tables;

@@ -1,13 +1,13 @@
 //! Which group starts, and its start.
-ghost use Rattle.std.specs.Prelude.{◌≡◌, ◌↔◌, ◌+◌, ◌<◌, ◌≤◌, ◌++◌, ◌∷◌, [], ℕ, length, get_or, IsTrue, MatchOption, Contains};
+ghost use Rattle.std.specs.Prelude.{◌≡◌, ◌↔◌, ◌+◌, ◌<◌, ◌≤◌, ◌++◌, ◌∷◌, [], ℕ, length, get_or, IsTrue, Contains};
 ghost use Rattle.pst_scen.specs.Plan.{members};
 ghost use Rattle.pst_scen.specs.Trace.{Started, IsHeld};
-ghost use Rattle.pst_book.specs.Books.{MayJoin, AllMayJoin, AreSoMany, CanStart, StartsFirst, NoneStarts, AreStarted};
+ghost use Rattle.pst_book.specs.Books.{MayJoin, AllMayJoin, AreSoMany, CanStart, AreStarted};
 
 use crate::run::Run;
 
 /// Whether each member of the group of that number may start.
-fn all_may_join(run: &Run<'_>, group: u32) -> bool
+pub(crate) fn all_may_join(run: &Run<'_>, group: u32) -> bool
     requires group_in { group < length run.now.plan.groups }
     requires number { get_or run.now.plan.groups group 0 ≡ group }
     ensures { IsTrue result ↔ AllMayJoin run.now.plan run.now.trace group }
@@ -40,7 +40,7 @@ pub(crate) fn count_members(run: &Run<'_>, group: u32) -> u32
 }
 
 /// The number of idle lanes.
-fn count_idle(run: &Run<'_>) -> u32
+pub(crate) fn count_idle(run: &Run<'_>) -> u32
     ensures { AreSoMany run.now.trace run.now.lanes result }
 {
     let mut count = 0;
@@ -53,7 +53,7 @@ fn count_idle(run: &Run<'_>) -> u32
 }
 
 /// Whether the group of that number can start, where so many lanes are idle.
-fn can_start(run: &Run<'_>, group: u32, idle: u32) -> bool
+pub(crate) fn can_start(run: &Run<'_>, group: u32, idle: u32) -> bool
     requires group_in { group < length run.now.plan.groups }
     requires idle { AreSoMany run.now.trace run.now.lanes idle }
     ensures { IsTrue result ↔ CanStart run.now.plan run.now.lanes run.now.trace group }
@@ -65,24 +65,6 @@ fn can_start(run: &Run<'_>, group: u32, idle: u32) -> bool
         return false;
     }
     count_members(run, group) <= idle
-}
-
-/// The least group that can start. None can where no lane is idle. Those below the run's first
-/// number have started.
-pub(crate) fn candidate(run: &Run<'_>) -> Option<u32>
-    ensures { MatchOption result (NoneStarts run.now.plan run.now.lanes run.now.trace) (StartsFirst run.now.plan run.now.lanes run.now.trace) }
-{
-    let idle = count_idle(run);
-    let count = run.plan().len();
-    if idle == 0 {
-        return None;
-    }
-    for group in run.first()..count {
-        if can_start(run, group, idle) {
-            return Some(group);
-        }
-    }
-    None
 }
 
 /// The least idle lane from a number on, or the number of lanes.

@@ -9,7 +9,7 @@ ghost use Rattle.pst_book.specs.Parts.{IsRaised, IsLowered, IsMarked, AreChanged
 use pst_scen::Rows;
 
 /// The word of that place in the row of an action.
-fn word_at(rows: &Rows, a: u32, place: usize) -> u64
+pub(crate) fn word_at(rows: &Rows, a: u32, place: usize) -> u64
     requires square { IsSquare rows.now }
     requires a_in { a < rows.now.size }
     requires place_in { place < row_words rows.now.size }
@@ -20,7 +20,7 @@ fn word_at(rows: &Rows, a: u32, place: usize) -> u64
 }
 
 /// The place of the first word from a place on that isn't 0, or the number of words.
-fn next_word(rows: &Rows, a: u32, from: usize, words: usize) -> usize
+pub(crate) fn next_word(rows: &Rows, a: u32, from: usize, words: usize) -> usize
     requires square { IsSquare rows.now }
     requires a_in { a < rows.now.size }
     requires words { words ≡ row_words rows.now.size }
@@ -37,7 +37,7 @@ fn next_word(rows: &Rows, a: u32, from: usize, words: usize) -> usize
 }
 
 /// The first action behind the word that begins with the given one.
-fn word_end(first: u32, size: u32) -> u32
+pub(crate) fn word_end(first: u32, size: u32) -> u32
     requires { first < size }
     ensures inside { (first < result) × (result ≤ size) }
     ensures short { result ≤ first + 64 }
@@ -47,7 +47,7 @@ fn word_end(first: u32, size: u32) -> u32
 }
 
 /// Whether the bit of the action is set in the word that begins with the given one.
-fn is_marked(word: u64, first: u32, other: u32) -> bool
+pub(crate) fn is_marked(word: u64, first: u32, other: u32) -> bool
     requires near { (first ≤ other) × (other < first + 64) }
     ensures { IsTrue result ↔ IsMarked word first other }
 {

@@ -188,7 +188,8 @@ impl<'a> Run<'a> {
 
     /// Whether the action runs.
     pub(crate) fn runs(&self, act: u32) -> bool
-        ensures { IsTrue result ↔ Runs self.now.trace act }
+        ensures is { IsTrue result ↔ Runs self.now.trace act }
+        ensures inside { IsTrue result → act < length self.now.plan.groups }
     {
         if act >= self.plan.len() {
             return false;

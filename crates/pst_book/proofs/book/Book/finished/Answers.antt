@@ -8,4 +8,4 @@ pub returns : goal.returns
 returns c =
     let b = c.self.inside in
     subst (λ (v : View). IsTrue c.all_ended.result ↔ IsWhole v.scenario v.trace) c.self.view_is
-    (subst (λ n. IsTrue c.all_ended.result ↔ ((a : ℕ) → a < n → Ended b.run.trace a)) c.self.invariant.plan.entries.many c.all_ended.ensures)
+    (subst (λ n. IsTrue c.all_ended.result ↔ ((a : ℕ) → a < n → Ended b.run.trace a)) c.self.invariant.kept.plan.entries.many c.all_ended.ensures)

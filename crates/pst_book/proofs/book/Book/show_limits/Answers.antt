@@ -5,7 +5,7 @@ use Rattle.pst_book.proofs.book.Book.show_limits.Goals as goal
 
 pub returns : goal.returns
 returns c =
-    let k = c.self.invariant in
+    let k = c.self.invariant.kept in
     record {
       lanes = subst (λ (v : View). (1 ≤ v.lanes) × (v.lanes ≤ 16)) c.self.view_is (k.some, k.few);
       wide = subst (λ (v : View). widest v.plan.groups ≤ v.lanes) c.self.view_is k.wide;

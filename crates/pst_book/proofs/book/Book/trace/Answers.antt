@@ -10,7 +10,7 @@ pub returns : goal.returns
 returns c =
     let b = c.self.inside in
     let s = b.scenario.now in
-    let kept = c.self.invariant in
+    let kept = c.self.invariant.kept in
     let r = c.core_is_by_rule.ensures s b.run.lanes b.run.trace kept.core in
     let t = c.trace.result.now in
     let e = sym c.trace.ensures.value in

@@ -6,8 +6,8 @@ use Rattle.pst_book.specs.Tables.{RunView}
 use Rattle.pst_book.proofs.Ties.{read}
 use Rattle.pst_book.proofs.run.Run.runs.Goals as goal
 
-pub returns-then-act-len : goal.returns-then-act-len
-returns-then-act-len c =
+pub returns-then-act-len-clause-is : goal.returns-then-act-len-clause-is
+returns-then-act-len-clause-is c =
     let r = c.self.inside in
     let past = c.if-act-len.true in
     let many = c.len.ensures in (
@@ -16,8 +16,8 @@ returns-then-act-len c =
           let l = c.self.invariant.inside.acts c.args.act runs.0 in absurd (omega (arith, l, past, many)),
     )
 
-pub returns-then-index : goal.returns-then-index
-returns-then-index c =
+pub returns-then-index-clause-is : goal.returns-then-index-clause-is
+returns-then-index-clause-is c =
     let r = c.self.inside in
     let x = c.index-then-index.result.now in
     let l : c.args.act < length r.plan.now.groups = let a = c.if-act-len.false in omega (arith, a, c.len.ensures) in
