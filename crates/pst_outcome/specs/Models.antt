@@ -1,5 +1,5 @@
 -- What is answered of a model, with the text of the answer.
-use Rattle.std.specs.Prelude.{◌≡◌, ◌<◌, ◌≤◌, ℕ, List, [], length, codes, Bool, false, ◌&&◌, Option, Some, None, slice_get}
+use Rattle.std.specs.Prelude.{◌≡◌, ◌<◌, ◌≤◌, ℕ, List, [], length, codes, Bool, false, Option, slice_get}
 use Rattle.std.specs.List.{count_by}
 use Rattle.std.specs.Option.{option_map_or}
 use Rattle.std.specs.Str.{bytes_eq}
@@ -81,7 +81,7 @@ count_ended names m s events type = count_by (ends_type names m s type) events
 pub data ShowsCounts (names : List (List ℕ)) (m : ModelTree) (s : Scenario) (plan : Entries) (size : ℕ) (l : Lane) : RunAnswer → List ℕ → Type 0 where
   HasEnded : (book : View) → (1 < widest plan.groups → ⊥) → RanWhole m s plan l.before l.after book → l.faults_after ≡ l.faults_before
       → ShowsCounts names m s plan size l (ran.Done (length s.actions))
-          (counts_text size (count_ended names m s book.trace (codes "make")) (count_ended names m s book.trace (codes "take")) (length s.actions))
+      (counts_text size (count_ended names m s book.trace (codes "make")) (count_ended names m s book.trace (codes "take")) (length s.actions))
   EndsElse : (answer : RunAnswer) (text : List ℕ) → ShowsRun names m s plan l.before l.after l.faults_before l.faults_after answer text
       → ((actions : ℕ) → answer ≡ ran.Done actions → ⊥) → ShowsCounts names m s plan size l answer text
 

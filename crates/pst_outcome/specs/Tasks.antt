@@ -47,7 +47,7 @@ abbrev pub IsWork : Command → List (List ℕ) → Work → Type 0
 IsWork Run arguments done = (lanes : ℕ) × IsNumberGiven Lanes arguments 1 lanes × (done ≡ on_lanes lanes work.Run)
 IsWork Solve arguments done = done ≡ work.Solve
 IsWork Check arguments done = done ≡ work.Check
-IsWork Gen arguments done = (size lanes : ℕ) × IsNumberGiven Size arguments 0 size × IsNumberGiven Lanes arguments 1 lanes × (done ≡ on_lanes lanes (work.Generate size))
+IsWork Gen arguments done = (size : ℕ) × (lanes : ℕ) × IsNumberGiven Size arguments 0 size × IsNumberGiven Lanes arguments 1 lanes × (done ≡ on_lanes lanes (work.Generate size))
 IsWork Static arguments done = done ≡ work.Unbuilt
 IsWork Place arguments done = done ≡ work.Unbuilt
 IsWork Sweep arguments done = done ≡ work.Unbuilt

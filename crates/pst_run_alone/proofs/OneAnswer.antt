@@ -23,7 +23,7 @@ use Rattle.pst_trace_texts.specs.declared.last.Last.TheVariants as last
 use Rattle.pst_trace_texts.specs.Texts.{trace_text}
 use Rattle.pst_run_alone.specs.declared.answer.RunAnswer.{RunAnswer}
 use Rattle.pst_run_alone.specs.declared.answer.RunAnswer.TheVariants.{Done, Narrow, TargetFault, BodyTrap}
-use Rattle.pst_run_alone.specs.Shown.{narrow_text, ShowsRun, IsTooWide, HasEnded, HasFailed, HasTrapped, RunsAreOne}
+use Rattle.pst_run_alone.specs.Shown.{narrow_text, ShowsRun, IsTooWide, HasEnded, HasFailed, HasTrapped, RunsAreOne, TracesAreOne}
 use Rattle.pst_run_alone.proofs.Calls.{IsStop, whole_comes, up_to_comes}
 use Rattle.pst_run_alone.proofs.Turns.{last_commands, last_events}
 use Rattle.pst_run_alone.proofs.OneRun.{Goes, AreSame, one}
@@ -120,6 +120,9 @@ abbrev is_wants : BodyRun → Type 0
 is_wants Ended = ⊥
 is_wants (Trap kind) = ⊥
 is_wants (Wants function arguments) = Unit {0}
+
+pub traces_one : BodiesEndOnce → CoreIsOne → TracesAreOne
+traces_one bodies cores m s p q before after book view a b = wholes bodies cores m s p q before after book view a b
 
 pub runs_one : BodiesEndOnce → CoreIsOne → RunsAreOne
 runs_one bodies cores names m s p q before after old new _ _ _ _ first second (IsTooWide wide calls count) (IsTooWide wider calls2 count2) =

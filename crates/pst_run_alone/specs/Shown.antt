@@ -43,3 +43,9 @@ RunsAreOne =
     (names : List (List ℕ)) (m : ModelTree) (s : Scenario) (p q : Entries) (before after : List Answered) (old new : ℕ) (x y : RunAnswer) (t u : List ℕ)
     → IsPlanOf s p → IsPlanOf s q → ShowsRun names m s p (Some before) (Some after) old new x t → ShowsRun names m s q (Some before) (Some after) old new y u
     → (x ≡ y) × (t ≡ u)
+
+-- What a lane tells of its calls decides the trace of a whole run.
+abbrev pub TracesAreOne : Type 0
+TracesAreOne =
+    (m : ModelTree) (s : Scenario) (p q : Entries) (before after : List Answered) (book other : View)
+    → RanWhole m s p (Some before) (Some after) book → RanWhole m s q (Some before) (Some after) other → book.trace ≡ other.trace
