@@ -1,5 +1,5 @@
 -- One answer and one text of a model, but for the budget.
-use Rattle.std.proofs.Common.{◌≡◌, ℕ, ◌≤◌, ◌⊎◌, inl, inr, List, length, refl, ap, sym, subst}
+use Rattle.std.proofs.Common.{◌≡◌, ℕ, inl, inr, List, length, refl, ap, sym, subst}
 use Rattle.std.specs.Prelude.{Some, codes}
 use Rattle.pst_target.specs.declared.call.Call.{Call as Answered}
 use Rattle.pst_model.specs.ModelTree.{ModelTree}
@@ -8,8 +8,6 @@ use Rattle.pst_scen.specs.declared.scenario.Scenario.{Scenario}
 use Rattle.pst_scen.specs.Plan.{Entries}
 use Rattle.pst_scen.specs.Plans.{IsPlanOf}
 use Rattle.pst_legal.specs.Laws.{FirstIsOne}
-use Rattle.pst_book.specs.Books.{View}
-use Rattle.pst_exec.specs.Alone.{RanWhole}
 use Rattle.pst_trace_texts.specs.declared.last.Last.TheVariants as last
 use Rattle.pst_trace_texts.specs.Texts.{trace_text}
 use Rattle.pst_scenario_answers.specs.Checked.{ChecksAreOne, answer_text}
@@ -22,7 +20,7 @@ use Rattle.pst_outcome.specs.declared.answer.Answer.{Answer}
 use Rattle.pst_outcome.specs.declared.task.Task.{Task}
 use Rattle.pst_outcome.specs.declared.task.Work.{Work}
 use Rattle.pst_outcome.specs.declared.task.Work.TheVariants as work
-use Rattle.pst_outcome.specs.Models.{Lane, lane, answer_of_run, answer_of_check, count_ended, ShowsCounts, HasEnded, EndsElse, OfScenario, IsRun, IsGenerated, IsSolved, IsJudged, IsSought, OfModel, HasNone, IsSpent, IsFound, IsUnbuilt}
+use Rattle.pst_outcome.specs.Models.{lane, answer_of_run, answer_of_check, count_ended, ShowsCounts, HasEnded, EndsElse, OfScenario, IsRun, IsGenerated, IsSolved, IsJudged, IsSought, OfModel, HasNone, IsSpent, IsFound, IsUnbuilt}
 use Rattle.pst_outcome.specs.Laws.{Agree}
 
 -- the laws that tell what a model is answered

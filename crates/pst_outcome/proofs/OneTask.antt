@@ -1,6 +1,6 @@
 -- The words of a line ask for one thing.
-use Rattle.std.proofs.Common.{◌≡◌, ◌∙◌, ℕ, ◌+◌, ◌*◌, ◌^◌, ◌<◌, ◌≤◌, ◌⊎◌, inl, inr, Bool, true, false, List, [], ◌∷◌, ◌++◌, length, drop, decimal, nat_lt, cond, refl, ap, sym, subst, arith}
-use Rattle.std.specs.Prelude.{All, Option, Some, None}
+use Rattle.std.proofs.Common.{◌≡◌, ◌∙◌, ℕ, ◌*◌, ◌^◌, ◌<◌, ◌≤◌, ◌⊎◌, inl, inr, Bool, true, false, List, [], ◌∷◌, ◌++◌, length, drop, decimal, nat_lt, cond, refl, ap, sym, subst, arith}
+use Rattle.std.specs.Prelude.{All, Some, None}
 use Rattle.std.proofs.lemmas.Bool.{ltb-true}
 use Rattle.std.proofs.lemmas.List.{append_cancel_left}
 use Rattle.std.proofs.lemmas.List.Elements.{All-head, All-tail}
@@ -10,7 +10,7 @@ use Rattle.pst_words.specs.declared.command.Command.TheVariants.{Run, Gen}
 use Rattle.pst_words.specs.declared.key.Key.{Key}
 use Rattle.pst_words.specs.declared.key.Key.TheVariants.{Seed, Infer, Budget, Lanes, Size}
 use Rattle.pst_words.specs.Table.{key_start, IsValue}
-use Rattle.pst_words.specs.Lines.{IsArgument, AKey, AFile, is_file, is_of, given}
+use Rattle.pst_words.specs.Lines.{IsArgument, AKey, AFile, is_of, given}
 use Rattle.pst_words.proofs.Keys.{word_is, is_word_of, one_key, key_no_file}
 use Rattle.pst_words.proofs.Given.{given_here, given_later}
 use Rattle.pst_outcome.specs.declared.task.Task.{Task}
