@@ -1,5 +1,5 @@
 -- Words are one line, or have one wrong word.
-use Rattle.std.proofs.Common.{◌≡◌, ◌∙◌, ℕ, zero, suc, ◌+◌, ◌*◌, ◌<◌, ◌≤◌, ◌⊎◌, inl, inr, List, [], ◌∷◌, ◌++◌, length, get_or, take, drop, refl, ap, sym, subst, arith, true, false}
+use Rattle.std.proofs.Common.{◌≡◌, ◌∙◌, ℕ, ◌+◌, ◌*◌, ◌<◌, ◌⊎◌, inl, inr, List, [], ◌∷◌, ◌++◌, length, get_or, take, drop, refl, ap, sym, subst, arith, true}
 use Rattle.std.specs.Prelude.{Some, codes}
 use Rattle.std.specs.List.{list_all, take_while}
 use Rattle.std.proofs.lemmas.Bool.{and_parts, and_from}
@@ -10,9 +10,8 @@ use Rattle.pst_token.proofs.Bytes.{name_start_word_byte}
 use Rattle.pst_words.specs.declared.command.Command.{Command}
 use Rattle.pst_words.specs.declared.command.Command.TheVariants.{Run, Solve, Check, Gen, Static, Place, Sweep}
 use Rattle.pst_words.specs.declared.command.Lines.{Lines}
-use Rattle.pst_words.specs.declared.key.Key.TheVariants.{Root}
 use Rattle.pst_words.specs.Table.{command_text}
-use Rattle.pst_words.specs.Lines.{IsLine, IsWrongWord, IsNoLine, BeginsLine, given}
+use Rattle.pst_words.specs.Lines.{IsLine, IsWrongWord, IsNoLine, BeginsLine}
 use Rattle.pst_outcome.specs.Tasks.{HasRoot, IsRoot}
 use Rattle.pst_outcome.proofs.OneReading.{tri}
 

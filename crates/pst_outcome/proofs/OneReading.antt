@@ -9,7 +9,7 @@ use Rattle.pst_words.specs.declared.key.Key.TheVariants.{Trace}
 use Rattle.pst_words.specs.Table.{key_start}
 use Rattle.pst_words.specs.Lines.{is_file, is_of}
 use Rattle.pst_files_read.specs.Limits.{most_bytes, most_trace}
-use Rattle.pst_files_read.specs.Files.{AreRead, IsReached, IsTraceWord, IsTraceRead, IsMissing, IsLonger, sources_in}
+use Rattle.pst_files_read.specs.Files.{AreRead, IsReached, IsTraceWord, IsTraceRead, sources_in}
 
 abbrev AreTexts : Files → List (List ℕ) → List (List ℕ) → Type 0
 AreTexts f names texts = AllZip (λ name text. f name ≡ Some text) names texts

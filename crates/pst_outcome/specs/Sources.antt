@@ -1,5 +1,5 @@
 -- What the texts of sources come to, step by step: an answer with its text, or their model. Each step gives way to those before it.
-use Rattle.std.specs.Prelude.{◌≡◌, ℕ, ◌+◌, Bool, true, false, List}
+use Rattle.std.specs.Prelude.{ℕ, ◌+◌, Bool, true, false, List}
 use Rattle.pst_base.specs.declared.position.Place.{Place}
 use Rattle.pst_token.specs.declared.token.Token.{Token}
 use Rattle.pst_lexer.specs.declared.fault.LexFault.{LexFault}
