@@ -2,4 +2,8 @@ mod OneReading
 mod OneLine
 mod OneLexing
 mod OneParse
+mod OneTask
+mod OneFront
+mod OneStop
+mod OneModel
 mod OneAnswer

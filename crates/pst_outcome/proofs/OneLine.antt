@@ -1,5 +1,5 @@
 -- Words are one line, or have one wrong word.
-use Rattle.std.proofs.Common.{◌≡◌, ◌∙◌, ℕ, zero, suc, ◌+◌, ◌*◌, ◌<◌, ◌≤◌, ◌⊎◌, inl, inr, List, [], ◌∷◌, ◌++◌, length, get_or, take, drop, refl, ap, sym, subst, arith, true, false}
+use Rattle.std.proofs.Common.{◌≡◌, ◌∙◌, ℕ, ◌+◌, ◌*◌, ◌<◌, ◌⊎◌, inl, inr, List, [], ◌∷◌, ◌++◌, length, get_or, take, drop, refl, ap, sym, subst, arith, true}
 use Rattle.std.specs.Prelude.{Some, codes}
 use Rattle.std.specs.List.{list_all, take_while}
 use Rattle.std.proofs.lemmas.Bool.{and_parts, and_from}
@@ -10,10 +10,9 @@ use Rattle.pst_token.proofs.Bytes.{name_start_word_byte}
 use Rattle.pst_words.specs.declared.command.Command.{Command}
 use Rattle.pst_words.specs.declared.command.Command.TheVariants.{Run, Solve, Check, Gen, Static, Place, Sweep}
 use Rattle.pst_words.specs.declared.command.Lines.{Lines}
-use Rattle.pst_words.specs.declared.key.Key.TheVariants.{Root}
 use Rattle.pst_words.specs.Table.{command_text}
-use Rattle.pst_words.specs.Lines.{IsLine, IsWrongWord, IsNoLine, BeginsLine, given}
-use Rattle.pst_outcome.specs.Outcome.{HasRoot}
+use Rattle.pst_words.specs.Lines.{IsLine, IsWrongWord, IsNoLine, BeginsLine}
+use Rattle.pst_outcome.specs.Tasks.{HasRoot, IsRoot}
 use Rattle.pst_outcome.proofs.OneReading.{tri}
 
 -- a number for a text, by its first two letters
@@ -126,7 +125,7 @@ name_before : (name rest : List ℕ) → IsName name → take_while is_word_byte
 name_before name rest h = take_while-run is_word_byte name (codes "::" ++ rest) (bytes_of_name name h.word) refl
 
 -- words name one root
-pub one_root : (arguments : List (List ℕ)) (c d x y : List ℕ) → HasRoot arguments c x → HasRoot arguments d y → (c ≡ d) × (x ≡ y)
+one_root : (arguments : List (List ℕ)) (c d x y : List ℕ) → HasRoot arguments c x → HasRoot arguments d y → (c ≡ d) × (x ≡ y)
 one_root arguments c d x y h k =
     let texts : c ++ (codes "::" ++ x) ≡ d ++ (codes "::" ++ y) = inside (sym h.are ∙ k.are) in
     let components : c ≡ d = sym (name_before c x h.component_is_name) ∙ ap (take_while is_word_byte) texts ∙ name_before d y k.component_is_name in
@@ -135,3 +134,8 @@ one_root arguments c d x y h k =
   where
     inside : {X : Type 0} {u v : X} → Some u ≡ Some v → u ≡ v
     inside e = cc
+
+-- a line has one root
+pub one_root_of : (command : Command) (arguments : List (List ℕ)) (c d x y : List ℕ) → IsRoot command arguments c x → IsRoot command arguments d y → (c ≡ d) × (x ≡ y)
+one_root_of Gen arguments c d x y h k = (h.0 ∙ sym k.0, h.1 ∙ sym k.1)
+one_root_of command arguments c d x y h k = one_root arguments c d x y h k

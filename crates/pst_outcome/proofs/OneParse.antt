@@ -1,7 +1,6 @@
 -- Sources have units, or a first fault.
-use Rattle.std.proofs.Common.{◌≡◌, ◌∙◌, ℕ, zero, suc, ◌+◌, ◌-◌, ◌<◌, ◌≤◌, ◌⊎◌, inl, inr, Bool, true, false, List, [], ◌∷◌, ◌++◌, length, take, drop, refl, ap, sym, subst, arith}
+use Rattle.std.proofs.Common.{◌≡◌, ◌∙◌, ℕ, zero, suc, ◌-◌, ◌<◌, ◌⊎◌, inl, inr, Bool, true, false, List, [], ◌∷◌, ◌++◌, length, take, drop, refl, ap, sym, subst, arith}
 use Rattle.std.specs.Prelude.{Some, None, pos, slice_get}
-use Rattle.std.specs.List.{AllZip}
 use Rattle.std.proofs.lemmas.List.{take_all, take-append-drop}
 use Rattle.pst_base.specs.declared.position.Place.{Place}
 use Rattle.pst_token.specs.declared.kind.Kind.TheVariants as kind
@@ -12,8 +11,6 @@ use Rattle.pst_ast.specs.DeclarationTree.{UnitTree, MakeUnit}
 use Rattle.pst_ast.specs.Laws.{AtMostOneTree, AnswersAgree}
 use Rattle.pst_ast.specs.Rule.{TheUnit}
 use Rattle.pst_sources_read.specs.Parsed.{AreParsed, HasSyntaxFault, syntax_fault}
-use Rattle.pst_outcome.specs.declared.answer.Answer.{Answer}
-use Rattle.pst_outcome.specs.declared.answer.Answer.TheVariants.{Syntax}
 use Rattle.pst_outcome.proofs.OneReading.{tri, inside, below}
 
 -- sources have one list of units
@@ -72,10 +69,10 @@ no_syntax_fault tokens units deep place parsed a =
     (subst (λ (ts : List (List Token)). AreParsed ts units) (sym (take_all (length tokens) tokens (omega arith))) parsed)
 
 -- sources have one first fault
-pub one_syntax_fault : AnswersAgree → (tokens : List (List Token)) (d e : Bool) (p q : Place) → HasSyntaxFault tokens d p → HasSyntaxFault tokens e q → Syntax d p ≡ Syntax e q
+pub one_syntax_fault : AnswersAgree → (tokens : List (List Token)) (d e : Bool) (p q : Place) → HasSyntaxFault tokens d p → HasSyntaxFault tokens e q → (d ≡ e) × (p ≡ q)
 one_syntax_fault agree tokens d e p q a b = by_order (tri a.number b.number)
   where
-    by_order : (a.number < b.number) ⊎ ((a.number ≡ b.number) ⊎ (b.number < a.number)) → Syntax d p ≡ Syntax e q
+    by_order : (a.number < b.number) ⊎ ((a.number ≡ b.number) ⊎ (b.number < a.number)) → (d ≡ e) × (p ≡ q)
     by_order (inl low) = absurd (not_whole_there tokens d p b.number b.before a low b.parsed)
     by_order (inr (inr high)) = absurd (not_whole_there tokens e q a.number a.before b high a.parsed)
     by_order (inr (inl same)) =
@@ -84,4 +81,4 @@ one_syntax_fault agree tokens d e p q a b = by_order (tri a.number b.number)
         let there : slice_get b.source b.index ≡ Some a.token = subst (λ n. slice_get b.source n ≡ Some a.token) both.1 (subst (λ ts. slice_get ts a.index ≡ Some a.token) source a.is_token) in
         let token : a.token ≡ b.token = inside (sym there ∙ b.is_token) in
         let place : p ≡ q = a.at ∙ ap (λ (t : Token). t.place) token ∙ sym b.at in
-        ap (λ x. Syntax x p) both.0 ∙ ap (Syntax e) place
+        (both.0, place)

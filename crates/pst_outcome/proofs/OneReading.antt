@@ -9,7 +9,7 @@ use Rattle.pst_words.specs.declared.key.Key.TheVariants.{Trace}
 use Rattle.pst_words.specs.Table.{key_start}
 use Rattle.pst_words.specs.Lines.{is_file, is_of}
 use Rattle.pst_files_read.specs.Limits.{most_bytes, most_trace}
-use Rattle.pst_files_read.specs.Files.{AreRead, IsReached, IsTraceWord, IsTraceRead, IsMissing, IsLonger, sources_in}
+use Rattle.pst_files_read.specs.Files.{AreRead, IsReached, IsTraceWord, IsTraceRead, sources_in}
 
 abbrev AreTexts : Files → List (List ℕ) → List (List ℕ) → Type 0
 AreTexts f names texts = AllZip (λ name text. f name ≡ Some text) names texts
@@ -177,3 +177,20 @@ trace_not_read f arguments word name (Some text) is stops read = by_stop stops
         let long_too = ap length (inside (sym is_other ∙ there)) in
         let short = read.4 in
         omega (arith, long, long_too, short)
+
+no_trace_given : (f : Files) (arguments : List (List ℕ)) (text : List ℕ) → list_any (is_of Trace) arguments ≡ false → IsTraceRead (Some f) arguments (Some text) → ⊥
+no_trace_given f arguments text none read =
+    let is = read.2 in
+    trace_before arguments is.before (length arguments) read.1 (below arguments is.before (key_start Trace ++ read.1) is.there) is.there
+    (ap (list_any (is_of Trace)) (take_all (length arguments) arguments (omega arith)) ∙ none)
+
+-- one trace file is read, or none
+pub one_trace_read : (f : Files) (arguments : List (List ℕ)) (a b : Option (List ℕ)) → IsTraceRead (Some f) arguments a → IsTraceRead (Some f) arguments b → a ≡ b
+one_trace_read f arguments None None h k = refl
+one_trace_read f arguments None (Some b) h k = absurd (no_trace_given f arguments b h k)
+one_trace_read f arguments (Some a) None h k = absurd (no_trace_given f arguments a k h)
+one_trace_read f arguments (Some a) (Some b) h k =
+    let same : h.1 ≡ k.1 = (one_trace arguments h.0 k.0 h.1 k.1 h.2 k.2).1 in
+    let here : f h.1 ≡ Some a = h.3 f refl in
+    let there : f k.1 ≡ Some b = k.3 f refl in
+    sym here ∙ ap f same ∙ there

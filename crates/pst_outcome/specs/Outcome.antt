@@ -1,80 +1,23 @@
--- Which answer and text are right, step by step: for units, for tokens, for texts, for files, and for words. Each step gives way to
--- those before it. The words that begin a line and the files are looked at in turn, and so are the texts, the tokens and the rules.
-use Rattle.std.specs.Prelude.{◌≡◌, ℕ, ◌+◌, ◌-◌, Bool, true, false, List, [], ◌∷◌, ◌++◌, length, codes, Option, Some}
+-- Which answer and text are right for words: the page to read first. Each step gives way to those before it: the words, the files in turn, what
+-- their texts come to (`Sources`), and what is done with their model (`Models`).
+use Rattle.std.specs.Prelude.{◌≡◌, ℕ, ◌+◌, ◌-◌, List, [], length, Option, Some, None}
 use Rattle.std.specs.List.{sum_by}
 use Rattle.pst_base.specs.Fault.{HasRisen}
-use Rattle.pst_base.specs.declared.position.Place.{Place}
 use Rattle.pst_io.specs.Shelf.{Files}
-use Rattle.pst_token.specs.declared.token.Token.{Token}
-use Rattle.pst_token.specs.Lexemes.{IsName}
-use Rattle.pst_lexer.specs.declared.fault.LexFault.{LexFault}
-use Rattle.pst_lexer.specs.declared.fault.LexFault.TheVariants as fault
-use Rattle.pst_ast.specs.DeclarationTree.{UnitTree}
-use Rattle.pst_model.specs.Limits.{most_instances}
-use Rattle.pst_elab_rules.specs.Ends.{IsFirstBreach, HasMany}
-use Rattle.pst_judged.specs.Kept.{AreKept}
-use Rattle.pst_straight.specs.Shown.{ShowsRun, IsNotStraight}
+use Rattle.pst_model.specs.ModelTree.{ModelTree}
 use Rattle.pst_words.specs.declared.command.Command.{Command}
-use Rattle.pst_words.specs.declared.command.Command.TheVariants.{Run}
 use Rattle.pst_words.specs.declared.command.Lines.{Lines}
-use Rattle.pst_words.specs.declared.key.Key.TheVariants.{Root}
-use Rattle.pst_words.specs.Lines.{IsLine, IsWrongWord, given}
-use Rattle.pst_sources_read.specs.Limits.{most_tokens}
+use Rattle.pst_words.specs.Lines.{IsLine, IsWrongWord}
 use Rattle.pst_files_read.specs.Limits.{most_bytes, most_trace}
 use Rattle.pst_files_read.specs.Files.{AreRead, IsReached, IsTraceWord, IsTraceRead, IsMissing, IsLonger, sources_in}
-use Rattle.pst_sources_read.specs.Lexed.{AreLexed, HasTextFault}
-use Rattle.pst_sources_read.specs.Parsed.{AreParsed, HasSyntaxFault}
 use Rattle.pst_outcome.specs.declared.answer.Answer.{Answer}
-use Rattle.pst_outcome.specs.declared.answer.Answer.TheVariants.{Done, Usage, NoFile, ReadFault, Large, Lexical, Syntax, Rule, Unbuilt}
+use Rattle.pst_outcome.specs.declared.answer.Answer.TheVariants.{Usage, NoFile, ReadFault, Large}
 use Rattle.pst_outcome.specs.declared.answer.What.TheVariants as what
-use Rattle.pst_outcome.specs.Texts.{source_name, usage_text, no_file_text, read_fault_text, large_text, lexical_text, syntax_text, rule_text, unbuilt_text}
-
--- ---- units
-
--- a line of `run` with a root in `pss_top` and one file, and nothing else, is served to its end
-pub record IsServed (command : Command) (arguments : List (List ℕ)) (component : List ℕ) : Type 0 where
-  pub runs : command ≡ Run
-  pub alone : length arguments ≡ 2
-  pub top : component ≡ codes "pss_top"
-
--- The units break a rule, have too many instances, or keep all rules: then a unit of the straight form is run, and all else isn't built.
-pub data OfUnits (command : Command) (arguments : List (List ℕ)) (component action : List ℕ) (names : List (List ℕ)) (units : List UnitTree) : Answer → List ℕ → Type 0 where
-  BreaksRule : (place : Place) (rule : ℕ) → IsFirstBreach units names component action place rule
-      → OfUnits command arguments component action names units (Rule place rule) (rule_text (source_name arguments place.file) place rule)
-  HasManyInstances : HasMany units names
-      → OfUnits command arguments component action names units (Large what.Instances (most_instances + 1)) (large_text what.Instances (most_instances + 1))
-  IsRun : (unit : UnitTree) (count : ℕ) (text : List ℕ) → AreKept units names component action
-      → IsServed command arguments component → units ≡ unit ∷ [] → ShowsRun names unit action count text
-      → OfUnits command arguments component action names units (Done count) text
-  IsUnbuilt : AreKept units names component action
-      → ((unit : UnitTree) → IsServed command arguments component → units ≡ unit ∷ [] → IsNotStraight names unit action)
-      → OfUnits command arguments component action names units Unbuilt unbuilt_text
-
--- ---- tokens
-
--- A source is no unit, or all are.
-pub data OfTokens (command : Command) (arguments : List (List ℕ)) (component action : List ℕ) (names : List (List ℕ)) (tokens : List (List Token)) : Answer → List ℕ → Type 0 where
-  IsSyntaxFault : (deep : Bool) (place : Place) → HasSyntaxFault tokens deep place
-      → OfTokens command arguments component action names tokens (Syntax deep place) (syntax_text (source_name arguments place.file) deep place)
-  HasUnits : (units : List UnitTree) (answer : Answer) (text : List ℕ) → AreParsed tokens units → OfUnits command arguments component action names units answer text
-      → OfTokens command arguments component action names tokens answer text
-
--- ---- texts
-
--- a number above 2^63-1 begins at the place, or nothing begins there
-abbrev pub lexical_fault : Bool → Place → LexFault
-lexical_fault true place = fault.Wide place
-lexical_fault false place = fault.Bad place
-
--- A text is no list of tokens, there are too many, or all texts are lists of tokens.
-pub data OfTexts (command : Command) (arguments : List (List ℕ)) (component action : List ℕ) (texts : List (List ℕ)) : Answer → List ℕ → Type 0 where
-  IsLexicalFault : (wide : Bool) (place : Place) → HasTextFault texts (lexical_fault wide place)
-      → OfTexts command arguments component action texts (Lexical wide place) (lexical_text (source_name arguments place.file) wide place)
-  HasManyTokens : HasTextFault texts fault.Many
-      → OfTexts command arguments component action texts (Large what.Tokens (most_tokens + 1)) (large_text what.Tokens (most_tokens + 1))
-  HasTokens : (names : List (List ℕ)) (tokens : List (List Token)) (answer : Answer) (text : List ℕ) → AreLexed texts names tokens
-      → OfTokens command arguments component action names tokens answer text
-      → OfTexts command arguments component action texts answer text
+use Rattle.pst_outcome.specs.declared.task.Task.{Task}
+use Rattle.pst_outcome.specs.Texts.{usage_text, no_file_text, read_fault_text, large_text}
+use Rattle.pst_outcome.specs.Tasks.{IsRoot, AreSources, IsTask}
+use Rattle.pst_outcome.specs.Sources.{Front, Ends, HasModel, OfTexts}
+use Rattle.pst_outcome.specs.Models.{Lane, IsUncalled, OfModel}
 
 -- ---- files
 
@@ -83,37 +26,49 @@ pub data IsNext (files : Option Files) (arguments : List (List ℕ)) (word : ℕ
   ASource : (texts : List (List ℕ)) → IsReached files arguments word name texts → IsNext files arguments word name
   TheTrace : (texts : List (List ℕ)) → AreRead files (sources_in arguments) texts → IsTraceWord arguments word name → IsNext files arguments word name
 
--- A file isn't there, can't be read or is too large, or all are read. The shelf's count of faults was and is that.
-pub data OfFiles (files : Option Files) (old new : ℕ) (command : Command) (arguments : List (List ℕ)) (component action : List ℕ) : Answer → List ℕ → Type 0 where
+-- A file isn't there, can't be read or is too large. The shelf's count of faults was and is that.
+pub data OfFiles (files : Option Files) (old new : ℕ) (arguments : List (List ℕ)) : Answer → List ℕ → Type 0 where
   IsNoFile : (word : ℕ) (name : List ℕ) → new ≡ old → IsNext files arguments word name → IsMissing files name
-      → OfFiles files old new command arguments component action (NoFile word) (no_file_text name)
+      → OfFiles files old new arguments (NoFile word) (no_file_text name)
   IsUnread : (word : ℕ) (name : List ℕ) → HasRisen old new → IsNext files arguments word name
-      → OfFiles files old new command arguments component action (ReadFault word) (read_fault_text name)
+      → OfFiles files old new arguments (ReadFault word) (read_fault_text name)
   HasManyBytes : (word : ℕ) (name : List ℕ) (texts : List (List ℕ)) → new ≡ old → IsReached files arguments word name texts → IsLonger files name (most_bytes - sum_by length texts)
-      → OfFiles files old new command arguments component action (Large what.Bytes (most_bytes + 1)) (large_text what.Bytes (most_bytes + 1))
+      → OfFiles files old new arguments (Large what.Bytes (most_bytes + 1)) (large_text what.Bytes (most_bytes + 1))
   HasLongTrace : (word : ℕ) (name : List ℕ) (texts : List (List ℕ)) → new ≡ old → AreRead files (sources_in arguments) texts → IsTraceWord arguments word name → IsLonger files name most_trace
-      → OfFiles files old new command arguments component action (Large what.Trace (most_trace + 1)) (large_text what.Trace (most_trace + 1))
-  HasTexts : (texts : List (List ℕ)) (trace : Option (List ℕ)) (answer : Answer) (text : List ℕ) → new ≡ old → AreRead files (sources_in arguments) texts → IsTraceRead files arguments trace
-      → OfTexts command arguments component action texts answer text
-      → OfFiles files old new command arguments component action answer text
+      → OfFiles files old new arguments (Large what.Trace (most_trace + 1)) (large_text what.Trace (most_trace + 1))
+
+-- All files of the line were read, and its sources come to that; the bytes of the trace file, where it has one.
+pub record HasFront (files : Option Files) (old new : ℕ) (command : Command) (arguments : List (List ℕ)) (trace : Option (List ℕ)) (front : Front) : Type 0 where
+  pub count : new ≡ old
+  pub texts : List (List ℕ)
+  pub read : AreRead files (sources_in arguments) texts
+  pub trace_read : IsTraceRead files arguments trace
+  pub sources : List (List ℕ)
+  pub are_sources : AreSources command arguments texts sources
+  pub component : List ℕ
+  pub action : List ℕ
+  pub is_root : IsRoot command arguments component action
+  pub comes_to : OfTexts arguments component action sources front
 
 -- ---- words
 
--- the words behind a command name this root: its component and its own name
-pub record HasRoot (arguments : List (List ℕ)) (component action : List ℕ) : Type 0 where
-  pub are : given Root arguments ≡ Some (component ++ (codes "::" ++ action))
-  pub component_is_name : IsName component
-  pub action_is_name : IsName action
+-- the bytes of a trace file, and none where there is no such file
+abbrev pub bytes_of : Option (List ℕ) → List ℕ
+bytes_of None = []
+bytes_of (Some text) = text
 
--- Before anything is written: this answer and its text are right for the words, where these lines are served and so many lanes are
--- there, for the files where the shelf tells them, and for the shelf's count of faults before and now. The words are no line, a line
--- without a root, which isn't built, or one with a root.
-pub data IsOwed (lines : Lines) (have : ℕ) (words : List (List ℕ)) (files : Option Files) (old new : ℕ) : Answer → List ℕ → Type 0 where
-  IsUsage : (word : ℕ) → new ≡ old → IsWrongWord lines have words word → IsOwed lines have words files old new (Usage word) (usage_text word)
-  IsRootless : (command : Command) (arguments : List (List ℕ)) → new ≡ old → IsLine lines have words command arguments
-      → ((component action : List ℕ) → HasRoot arguments component action → ⊥)
-      → IsOwed lines have words files old new Unbuilt unbuilt_text
-  IsRooted : (command : Command) (arguments : List (List ℕ)) (component action : List ℕ) (answer : Answer) (text : List ℕ)
-      → IsLine lines have words command arguments → HasRoot arguments component action
-      → OfFiles files old new command arguments component action answer text
-      → IsOwed lines have words files old new answer text
+-- Before anything is written: this answer and its text are right for the words, where these lines are served and so many lanes are there, for the
+-- files where the shelf tells them, for the shelf's count of faults before and now, and for what the lane tells.
+pub data IsOwed (lines : Lines) (have : ℕ) (words : List (List ℕ)) (files : Option Files) (old new : ℕ) (l : Lane) : Answer → List ℕ → Type 0 where
+  -- the words are no line
+  IsUsage : (word : ℕ) → IsUncalled l → new ≡ old → IsWrongWord lines have words word → IsOwed lines have words files old new l (Usage word) (usage_text word)
+  -- a file of the line can't be had
+  EndsAtFiles : (command : Command) (arguments : List (List ℕ)) (answer : Answer) (text : List ℕ) → IsUncalled l → IsLine lines have words command arguments
+      → OfFiles files old new arguments answer text → IsOwed lines have words files old new l answer text
+  -- its sources have no model
+  EndsAtSources : (command : Command) (arguments : List (List ℕ)) (trace : Option (List ℕ)) (answer : Answer) (text : List ℕ) → IsUncalled l → IsLine lines have words command arguments
+      → HasFront files old new command arguments trace (Ends answer text) → IsOwed lines have words files old new l answer text
+  -- what the line asks for is done with their model
+  IsServed : (command : Command) (arguments : List (List ℕ)) (trace : Option (List ℕ)) (names : List (List ℕ)) (m : ModelTree) (root : ℕ) (task : Task) (answer : Answer) (text : List ℕ)
+      → IsLine lines have words command arguments → HasFront files old new command arguments trace (HasModel names m root) → IsTask command arguments task
+      → OfModel names m root task (bytes_of trace) l answer text → IsOwed lines have words files old new l answer text

@@ -1,7 +1,7 @@
--- The texts that are printed for answers; a trace has its own.
+-- The texts that are printed for answers; traces, verdicts on them and counts have their own.
 use Rattle.std.specs.Prelude.{ℕ, List, [], ◌++◌, get_or, Bool, if◌then◌else◌, codes, decimal}
 use Rattle.pst_base.specs.declared.position.Place.{Place}
-use Rattle.pst_straight.specs.Texts.{line}
+use Rattle.pst_trace_texts.specs.Lines.{line}
 use Rattle.pst_files_read.specs.Files.{sources_in}
 use Rattle.pst_outcome.specs.declared.answer.What.{What}
 use Rattle.pst_outcome.specs.declared.answer.What.TheVariants.{Bytes, Trace, Tokens, Instances}
@@ -40,6 +40,12 @@ syntax_text name deep place = line (codes "syntax " ++ (if deep then codes "deep
 
 abbrev pub rule_text : List ℕ → Place → ℕ → List ℕ
 rule_text name place rule = line (codes "rule " ++ decimal rule ++ codes " " ++ place_text name place)
+
+abbrev pub no_scenario_text : ℕ → List ℕ
+no_scenario_text infer = line (codes "noscenario " ++ decimal infer)
+
+abbrev pub budget_text : ℕ → List ℕ
+budget_text level = line (codes "budget " ++ decimal level)
 
 abbrev pub unbuilt_text : List ℕ
 unbuilt_text = line (codes "unbuilt")

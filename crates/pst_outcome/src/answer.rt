@@ -25,6 +25,15 @@ pub enum Answer {
         /// How many actions it has.
         actions: u32,
     },
+    /// The first legal scenario was found, and its header was printed.
+    Solved {
+        /// How many actions it has.
+        actions: u32,
+    },
+    /// The trace file is that of a whole legal trace of the first legal scenario.
+    Whole,
+    /// The trace file begins that of one, up to an action that failed or trapped.
+    Prefix,
     /// The words are no line of a command.
     Usage {
         /// The index of the first wrong word, or the number of words where something is missing.
@@ -70,11 +79,57 @@ pub enum Answer {
         /// The number of the rule.
         rule: u8,
     },
+    /// No legal scenario has so few inferred actions.
+    NoScenario,
+    /// As many live lists of choices as the budget has were passed, the last of them in this level.
+    Budget {
+        /// The number of inferred actions.
+        level: u32,
+    },
+    /// The widest group of actions that start together needs more lanes than there are. No lane was
+    /// called.
+    Narrow {
+        /// How many lanes it needs.
+        need: u32,
+        /// How many there are.
+        have: u32,
+    },
+    /// A lane failed in the body of an action that runs on it: its count of faults rose, or stands at
+    /// its last value. The trace up to there was printed.
+    TargetFault {
+        /// The lane.
+        lane: u32,
+        /// The action.
+        action: u32,
+        /// The number of the call that failed among the calls of this body, counted from 1.
+        call: u32,
+    },
+    /// The body of an action trapped. The trace up to there was printed.
+    BodyTrap {
+        /// The lane on which the action runs.
+        lane: u32,
+        /// The action.
+        action: u32,
+        /// The kind of the trap.
+        kind: u8,
+    },
+    /// The trace file isn't the text of a trace.
+    BadTrace {
+        /// The number of the first bad line, counted from 1.
+        line: u32,
+    },
+    /// A line of the trace file breaks a rule.
+    Illegal {
+        /// The number of the first such line, counted from 1.
+        line: u32,
+        /// The least rule that it breaks.
+        rule: u8,
+    },
     /// The sink's count of faults rose; a part of the text of another answer was written.
     WriteFault,
     /// Memory ran out; nothing was written.
     NoMemory,
-    /// The line has no answer yet: its sources keep all rules, or it has none.
+    /// The line has no answer yet: its sources keep all rules.
     Unbuilt,
 }
 
@@ -84,9 +139,13 @@ impl Answer {
         ensures { result ≡ status_of self.now }
     {
         match self {
-            Answer::Done { .. } => 0,
+            Answer::Done { .. } | Answer::Solved { .. } | Answer::Whole | Answer::Prefix => 0,
             Answer::Lexical { .. } | Answer::Syntax { .. } | Answer::Rule { .. } => 1,
-            Answer::Usage { .. } | Answer::NoFile { .. } => 2,
+            Answer::BadTrace { .. } => 1,
+            Answer::Usage { .. } | Answer::NoFile { .. } | Answer::Narrow { .. } => 2,
+            Answer::NoScenario | Answer::Illegal { .. } => 3,
+            Answer::Budget { .. } => 4,
+            Answer::TargetFault { .. } | Answer::BodyTrap { .. } => 5,
             Answer::ReadFault { .. } => 6,
             Answer::WriteFault => 7,
             Answer::NoMemory => 8,

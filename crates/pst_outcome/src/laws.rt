@@ -2,16 +2,18 @@
 ghost use Rattle.pst_outcome.specs.Laws.{AnswersAreOne};
 
 use pst_ast::laws::answers_agree;
-use pst_elab_rules::first_breaches_are_one;
-use pst_judged::judgements_are_apart;
+use pst_elab_rules::{answers_are_apart, first_breaches_are_one};
+use pst_legal::first_is_one;
 use pst_lexer::laws::each_text_has_one_outcome;
 use pst_parser::laws::at_most_one_unit;
-use pst_straight::scenarios_are_one;
+use pst_run_alone::{runs_are_one, traces_are_one};
+use pst_scenario_answers::checks_are_one;
 use pst_texts::tokens_of_texts_are_one;
 use pst_token::laws::each_text_has_one_reading;
 
-/// Where the files are told and no call of the shelf failed, words have at most one right answer before
-/// anything is written.
+/// Where the files and the lane's calls are told and no call of the shelf failed, words have at most
+/// one right answer with one text, but for the choice between a budget that is spent and another
+/// answer.
 pub fn answers_are_one()
     ensures { AnswersAreOne }
 {
@@ -20,7 +22,10 @@ pub fn answers_are_one()
     tokens_of_texts_are_one();
     at_most_one_unit();
     answers_agree();
-    judgements_are_apart();
     first_breaches_are_one();
-    scenarios_are_one();
+    answers_are_apart();
+    first_is_one();
+    runs_are_one();
+    traces_are_one();
+    checks_are_one();
 }

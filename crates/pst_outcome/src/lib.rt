@@ -5,6 +5,10 @@
 
 mod answer;
 mod laws;
+mod reply;
+mod task;
 
 pub use answer::{Answer, What};
 pub use laws::answers_are_one;
+pub use reply::Reply;
+pub use task::{Task, Work};

@@ -1,12 +1,12 @@
 -- Runs of bodies that make the same calls.
-use Rattle.std.proofs.Common.{◌≡◌, ℕ, List, [], ◌∷◌, ◌++◌, length, refl, ap, sym, ◌∙◌, subst, append_assoc, append-nil, inl, inr, ◌⊎◌}
+use Rattle.std.proofs.Common.{◌≡◌, ℕ, List, [], ◌∷◌, ◌++◌, refl, ap, sym, ◌∙◌, subst, append_assoc, append-nil, inl, inr, ◌⊎◌}
 use Rattle.std.specs.Prelude.{Option, None, Some}
 use Rattle.pst_target.specs.declared.call.Call.{Call as Answered}
 use Rattle.pst_model.specs.ModelTree.{ModelTree}
 use Rattle.pst_scen.specs.declared.scenario.Scenario.{Scenario}
 use Rattle.pst_legal.specs.Body.{BodyRun, Ended, Trap, Wants, body_run}
 use Rattle.pst_legal.specs.Runs.{AreRuns, AreRunsUpTo}
-use Rattle.pst_legal.specs.Laws.{BodiesEndOnce, IsOver}
+use Rattle.pst_legal.specs.Laws.{BodiesEndOnce}
 
 -- what a body comes to that hasn't ended
 abbrev pub IsStop : BodyRun → Type 0

@@ -2,4 +2,4 @@ mod Calls
 mod Turns
 mod OneRun
 mod OneAnswer
-mod Shows
+pub mod Shows

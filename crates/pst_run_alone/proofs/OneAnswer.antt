@@ -1,5 +1,5 @@
 -- One answer of a run.
-use Rattle.std.proofs.Common.{◌≡◌, ◌<◌, ◌≤◌, ◌+◌, ℕ, zero, suc, List, [], ◌∷◌, ◌++◌, length, get_or, false, refl, ap, sym, ◌∙◌, subst, append-nil, arith}
+use Rattle.std.proofs.Common.{◌≡◌, ◌<◌, ◌+◌, ℕ, List, [], ◌∷◌, ◌++◌, length, get_or, false, refl, ap, sym, ◌∙◌, subst, append-nil, arith}
 use Rattle.std.specs.Prelude.{Option, None, Some}
 use Rattle.std.proofs.lemmas.List.{append_cancel_left}
 use Rattle.std.proofs.lemmas.Grind.{same_number_lists}
@@ -17,15 +17,13 @@ use Rattle.pst_legal.specs.Body.{BodyRun, Ended, Trap, Wants}
 use Rattle.pst_legal.specs.Laws.{BodiesEndOnce}
 use Rattle.pst_book.specs.Books.{View}
 use Rattle.pst_body.specs.Doing.{with_calls}
-use Rattle.pst_exec.specs.Alone.{turns_of, events_of, RanWhole, RanUpTo, FailedAt}
+use Rattle.pst_exec.specs.Alone.{turns_of, events_of, RanWhole, RanUpTo}
 use Rattle.pst_trace_texts.specs.declared.last.Last.{Last}
 use Rattle.pst_trace_texts.specs.declared.last.Last.TheVariants as last
 use Rattle.pst_trace_texts.specs.Texts.{trace_text}
-use Rattle.pst_run_alone.specs.declared.answer.RunAnswer.{RunAnswer}
-use Rattle.pst_run_alone.specs.declared.answer.RunAnswer.TheVariants.{Done, Narrow, TargetFault, BodyTrap}
-use Rattle.pst_run_alone.specs.Shown.{narrow_text, ShowsRun, IsTooWide, HasEnded, HasFailed, HasTrapped, RunsAreOne}
+use Rattle.pst_run_alone.specs.declared.answer.RunAnswer.TheVariants.{Narrow, TargetFault, BodyTrap}
+use Rattle.pst_run_alone.specs.Shown.{narrow_text, IsTooWide, HasEnded, HasFailed, HasTrapped, RunsAreOne, TracesAreOne}
 use Rattle.pst_run_alone.proofs.Calls.{IsStop, whole_comes, up_to_comes}
-use Rattle.pst_run_alone.proofs.Turns.{last_commands, last_events}
 use Rattle.pst_run_alone.proofs.OneRun.{Goes, AreSame, one}
 
 -- ---- the width of a plan
@@ -120,6 +118,9 @@ abbrev is_wants : BodyRun → Type 0
 is_wants Ended = ⊥
 is_wants (Trap kind) = ⊥
 is_wants (Wants function arguments) = Unit {0}
+
+pub traces_one : BodiesEndOnce → CoreIsOne → TracesAreOne
+traces_one bodies cores m s p q before after book view a b = wholes bodies cores m s p q before after book view a b
 
 pub runs_one : BodiesEndOnce → CoreIsOne → RunsAreOne
 runs_one bodies cores names m s p q before after old new _ _ _ _ first second (IsTooWide wide calls count) (IsTooWide wider calls2 count2) =

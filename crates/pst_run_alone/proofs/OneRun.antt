@@ -1,5 +1,5 @@
 -- One lane's calls decide a run.
-use Rattle.std.proofs.Common.{◌≡◌, ◌<◌, ◌+◌, ℕ, zero, suc, List, [], ◌∷◌, ◌++◌, length, false, Bool, refl, ap, sym, ◌∙◌, subst, append_assoc, append-nil, inl, inr, ⊎_elim, ◌⊎◌, arith}
+use Rattle.std.proofs.Common.{◌≡◌, ℕ, zero, suc, List, [], ◌∷◌, ◌++◌, length, false, refl, ap, sym, ◌∙◌, subst, append-nil, inl, inr, ⊎_elim, ◌⊎◌, arith}
 use Rattle.std.specs.Prelude.{Contains, Option, None, Some}
 use Rattle.std.proofs.lemmas.List.{length-append, append_cancel_left}
 use Rattle.std.proofs.lemmas.List.Elements.{Contains-append_right, Contains-append_cases}
@@ -8,7 +8,7 @@ use Rattle.pst_model.specs.ModelTree.{ModelTree}
 use Rattle.pst_scen.specs.declared.event.Event.{Event}
 use Rattle.pst_scen.specs.declared.event.Event.TheVariants.{Start, End}
 use Rattle.pst_scen.specs.declared.scenario.Scenario.{Scenario}
-use Rattle.pst_scen.specs.Trace.{Started, Ended, IsWhole, starts_of}
+use Rattle.pst_scen.specs.Trace.{Started, Ended, IsWhole}
 use Rattle.pst_scen.specs.Core.{Command, Open, Close, Step, Opened, Shut, Makes, Core}
 use Rattle.pst_order.specs.Laws.{CoreIsOne}
 use Rattle.pst_legal.specs.Body.{BodyRun, Ended as HasEnded, body_run}

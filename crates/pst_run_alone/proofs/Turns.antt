@@ -1,12 +1,12 @@
 -- What the core makes on one lane of turns.
-use Rattle.std.proofs.Common.{◌≡◌, ◌≢◌, ◌≤◌, ◌<◌, ◌+◌, ◌*◌, ℕ, zero, suc, List, [], ◌∷◌, ◌++◌, length, false, refl, ap, sym, ◌∙◌, subst, append_assoc, append-nil, arith}
+use Rattle.std.proofs.Common.{◌≡◌, ◌≢◌, ◌≤◌, ◌<◌, ℕ, zero, suc, List, [], ◌∷◌, ◌++◌, length, false, refl, ap, sym, ◌∙◌, subst, append_assoc, append-nil, arith}
 use Rattle.std.specs.Prelude.{Contains, Option, None, Some}
 use Rattle.std.proofs.lemmas.List.{length-append, append_cancel_left}
 use Rattle.pst_scen.specs.declared.event.Event.{Event}
 use Rattle.pst_scen.specs.declared.event.Event.TheVariants.{Start, End}
 use Rattle.pst_scen.specs.declared.scenario.Scenario.{Scenario}
 use Rattle.pst_scen.specs.Trace.{Started, starts_of}
-use Rattle.pst_scen.specs.Core.{Command, Open, Close, Opens, Step, Opened, Shut, Closed, Idle, Makes, Done, Then, Core}
+use Rattle.pst_scen.specs.Core.{Command, Open, Close, Opens, Step, Opened, Shut, Closed, Idle, Makes, Done, Then}
 use Rattle.pst_exec.specs.Alone.{turns_of, events_of}
 
 -- ---- one command

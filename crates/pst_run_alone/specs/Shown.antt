@@ -10,6 +10,8 @@ use Rattle.pst_legal.specs.Body.{Trap}
 use Rattle.pst_book.specs.Books.{View}
 use Rattle.pst_body.specs.Doing.{with_calls}
 use Rattle.pst_exec.specs.Alone.{RanWhole, RanUpTo, FailedAt}
+use Rattle.pst_exec.specs.declared.ending.RunEnd.{RunEnd}
+use Rattle.pst_exec.specs.declared.ending.RunEnd.TheVariants as end
 use Rattle.pst_trace_texts.specs.declared.last.Last.TheVariants as last
 use Rattle.pst_trace_texts.specs.Lines.{line}
 use Rattle.pst_trace_texts.specs.Texts.{trace_text}
@@ -32,6 +34,18 @@ pub data ShowsRun (names : List (List ℕ)) (m : ModelTree) (s : Scenario) (plan
   HasTrapped : (action kind : ℕ) (book : View) → (1 < widest plan.groups → ⊥) → RanUpTo m s plan before after action (Trap kind) book → new ≡ old
       → ShowsRun names m s plan before after old new (BodyTrap 0 action kind) (trace_text names m s book.trace (last.Trap 0 action kind))
 
+-- this answer and this text are shown
+pub record Says (answer : RunAnswer) (text : List ℕ) (shown : ShownRun) : Type 0 where
+  pub answer_is : shown.answer ≡ answer
+  pub text_is : string_bytes shown.text ≡ text
+
+-- what is shown of a run that ended so, and wasn't whole
+abbrev pub SaysEnd : List (List ℕ) → ModelTree → Scenario → RunEnd → ShownRun → Type 0
+SaysEnd names m s (end.Narrow need have) shown = Says (Narrow need have) (narrow_text need have) shown
+SaysEnd names m s (end.TargetFault lane action call book) shown = Says (TargetFault lane action call) (trace_text names m s book.trace (last.Fault lane action call)) shown
+SaysEnd names m s (end.BodyTrap lane action kind book) shown = Says (BodyTrap lane action kind) (trace_text names m s book.trace (last.Trap lane action kind)) shown
+SaysEnd names m s end.NoMemory shown = ⊥
+
 -- the answer and text of a run; where memory ran out, calls may have been made
 abbrev pub Shows : List (List ℕ) → ModelTree → Scenario → Entries → Option (List Answered) → Option (List Answered) → ℕ → ℕ → {E : Type 0} → Result ShownRun E → Type 0
 Shows names m s plan before after old new (Ok shown) = ShowsRun names m s plan before after old new shown.answer (string_bytes shown.text)
@@ -43,3 +57,9 @@ RunsAreOne =
     (names : List (List ℕ)) (m : ModelTree) (s : Scenario) (p q : Entries) (before after : List Answered) (old new : ℕ) (x y : RunAnswer) (t u : List ℕ)
     → IsPlanOf s p → IsPlanOf s q → ShowsRun names m s p (Some before) (Some after) old new x t → ShowsRun names m s q (Some before) (Some after) old new y u
     → (x ≡ y) × (t ≡ u)
+
+-- What a lane tells of its calls decides the trace of a whole run.
+abbrev pub TracesAreOne : Type 0
+TracesAreOne =
+    (m : ModelTree) (s : Scenario) (p q : Entries) (before after : List Answered) (book other : View)
+    → RanWhole m s p (Some before) (Some after) book → RanWhole m s q (Some before) (Some after) other → book.trace ≡ other.trace

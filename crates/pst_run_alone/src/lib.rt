@@ -6,5 +6,5 @@ mod laws;
 mod run;
 
 pub use answer::{RunAnswer, ShownRun};
-pub use laws::runs_are_one;
-pub use run::show_run;
+pub use laws::{runs_are_one, traces_are_one};
+pub use run::{show_end, show_run};

@@ -1,0 +1,3 @@
+mod Legality
+mod Runs
+mod Owed

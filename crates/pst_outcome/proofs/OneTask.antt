@@ -1,0 +1,126 @@
+-- The words of a line ask for one thing.
+use Rattle.std.proofs.Common.{◌≡◌, ◌∙◌, ℕ, ◌*◌, ◌^◌, ◌<◌, ◌≤◌, ◌⊎◌, inl, inr, Bool, true, false, List, [], ◌∷◌, ◌++◌, length, drop, decimal, nat_lt, cond, refl, ap, sym, subst, arith}
+use Rattle.std.specs.Prelude.{All, Some, None}
+use Rattle.std.proofs.lemmas.Bool.{ltb-true}
+use Rattle.std.proofs.lemmas.List.{append_cancel_left}
+use Rattle.std.proofs.lemmas.List.Elements.{All-head, All-tail}
+use Rattle.pst_generated.specs.Generated.{generated_text}
+use Rattle.pst_words.specs.declared.command.Command.{Command}
+use Rattle.pst_words.specs.declared.command.Command.TheVariants.{Run, Gen}
+use Rattle.pst_words.specs.declared.key.Key.{Key}
+use Rattle.pst_words.specs.declared.key.Key.TheVariants.{Seed, Infer, Budget, Lanes, Size}
+use Rattle.pst_words.specs.Table.{key_start, IsValue}
+use Rattle.pst_words.specs.Lines.{IsArgument, AKey, AFile, is_of, given}
+use Rattle.pst_words.proofs.Keys.{word_is, is_word_of, one_key, key_no_file}
+use Rattle.pst_words.proofs.Given.{given_here, given_later}
+use Rattle.pst_outcome.specs.declared.task.Task.{Task}
+use Rattle.pst_outcome.specs.declared.task.Work.{Work}
+use Rattle.pst_outcome.specs.declared.task.Work.TheVariants as work
+use Rattle.pst_outcome.specs.Tasks.{IsNumberGiven, AreSources, IsWork, AreLimits, IsTask, on_lanes}
+
+-- ---- numbers
+
+-- a number that fits 64 bits, which the text spells
+abbrev Spells : List ℕ → Type 0
+Spells text = (k : ℕ) × (k < 2 ^ 64) × (text ≡ decimal k)
+
+-- each value of the key is one
+abbrev IsNumberKey : ℕ → Key → Type 0
+IsNumberKey have key = (text : List ℕ) → IsValue have key text → Spells text
+
+seeds : (have : ℕ) → IsNumberKey have Seed
+seeds have text is = let high = is.high in (is.number, omega (arith, high), is.spelled)
+
+infers : (have : ℕ) → IsNumberKey have Infer
+infers have text is = let high = is.high in (is.number, omega (arith, high), is.spelled)
+
+budgets : (have : ℕ) → IsNumberKey have Budget
+budgets have text is = let high = is.high in (is.number, omega (arith, high), is.spelled)
+
+few_lanes : (b : Bool) (have n : ℕ) → nat_lt have 16 ≡ b → n ≤ cond b have 16 → n < 2 ^ 64
+few_lanes true have n is high = let few : have < 16 = ltb-true have 16 is in omega (arith, few, high)
+few_lanes false have n is high = omega (arith, high)
+
+lanes : (have : ℕ) → IsNumberKey have Lanes
+lanes have text is = (is.number, few_lanes (nat_lt have 16) have is.number refl is.high, is.spelled)
+
+sizes : (have : ℕ) → IsNumberKey have Size
+sizes have text is = let high = is.high in (is.eighth * 8, omega (arith, high), is.spelled)
+
+value_of_key : (have : ℕ) (key k : Key) (word text : List ℕ) → IsNumberKey have key → is_of key word ≡ true → word ≡ key_start k ++ text → IsValue have k text → Spells (drop (length (key_start key)) word)
+value_of_key have key k word text numbers is are value =
+    let own : is_of k word ≡ true = subst (λ (w : List ℕ). is_of k w ≡ true) (sym are) (is_word_of k text) in
+    let same : k ≡ key = one_key k key word own is in
+    let moved : word ≡ key_start key ++ text = are ∙ ap (λ (l : Key). key_start l ++ text) same in
+    let rest : text ≡ drop (length (key_start key)) word = append_cancel_left (key_start key) text (drop (length (key_start key)) word) (sym moved ∙ word_is key word is) in
+    subst Spells rest (numbers text (subst (λ (l : Key). IsValue have l text) same value))
+
+spelled_by : (command : Command) (have : ℕ) (key : Key) (word : List ℕ) → IsNumberKey have key → is_of key word ≡ true → IsArgument command have word → Spells (drop (length (key_start key)) word)
+spelled_by command have key word numbers is (AKey k text among are value) = value_of_key have key k word text numbers is are value
+spelled_by command have key word numbers is (AFile file) = let both : false ≡ true = sym (key_no_file key word is) ∙ file in absurd cc
+
+-- the key is given no value, or a number that fits 64 bits
+cases : (command : Command) (have : ℕ) (key : Key) (words : List (List ℕ)) → IsNumberKey have key → All (IsArgument command have) words
+    → (given key words ≡ None) ⊎ ((k : ℕ) × (k < 2 ^ 64) × (given key words ≡ Some (decimal k)))
+cases command have key [] numbers each = inl refl
+cases command have key (word ∷ more) numbers each =
+    by (cases command have key more numbers (All-tail (IsArgument command have) word more each)) (is_of key word) refl
+  where
+    by : (given key more ≡ None) ⊎ ((k : ℕ) × (k < 2 ^ 64) × (given key more ≡ Some (decimal k))) → (b : Bool) → is_of key word ≡ b
+        → (given key (word ∷ more) ≡ None) ⊎ ((k : ℕ) × (k < 2 ^ 64) × (given key (word ∷ more) ≡ Some (decimal k)))
+    by rest true is =
+        let (k, small, spells) = spelled_by command have key word numbers is (All-head (IsArgument command have) word more each) in
+        inr (k, small, given_here key word more is ∙ ap Some spells)
+    by (inl none) false is = inl (given_later key word more is ∙ none)
+    by (inr (k, small, some)) false is = inr (k, small, given_later key word more is ∙ some)
+
+module _ (command : Command) (have : ℕ) (arguments : List (List ℕ)) (each : All (IsArgument command have) arguments) where
+  one_number : (key : Key) (otherwise n m : ℕ) → IsNumberKey have key → IsNumberGiven key arguments otherwise n → IsNumberGiven key arguments otherwise m → n ≡ m
+  one_number key otherwise n m numbers one other = by (cases command have key arguments numbers each)
+    where
+      by : (given key arguments ≡ None) ⊎ ((k : ℕ) × (k < 2 ^ 64) × (given key arguments ≡ Some (decimal k))) → n ≡ m
+      by (inl none) = one.is_not none ∙ sym (other.is_not none)
+      by (inr (k, small, some)) = one.is_given k small some ∙ sym (other.is_given k small some)
+
+-- ---- what is done
+
+one_run : (have : ℕ) (arguments : List (List ℕ)) (a b : Work) → All (IsArgument Run have) arguments → IsWork Run arguments a → IsWork Run arguments b → a ≡ b
+one_run have arguments a b each h k =
+    let same : h.0 ≡ k.0 = one_number Run have arguments each Lanes 1 h.0 k.0 (lanes have) h.1 k.1 in
+    h.2 ∙ ap (λ (n : ℕ). on_lanes n work.Run) same ∙ sym k.2
+
+one_generation : (have : ℕ) (arguments : List (List ℕ)) (a b : Work) → All (IsArgument Gen have) arguments → IsWork Gen arguments a → IsWork Gen arguments b → a ≡ b
+one_generation have arguments a b each h k =
+    let size : h.0 ≡ k.0 = one_number Gen have arguments each Size 0 h.0 k.0 (sizes have) h.2 k.2 in
+    let same : h.1 ≡ k.1 = one_number Gen have arguments each Lanes 1 h.1 k.1 (lanes have) h.3 k.3 in
+    h.4 ∙ ap (λ (n : ℕ). on_lanes n (work.Generate h.0)) same ∙ ap (λ (n : ℕ). on_lanes k.1 (work.Generate n)) size ∙ sym k.4
+
+one_work : (command : Command) (have : ℕ) (arguments : List (List ℕ)) (a b : Work) → All (IsArgument command have) arguments → IsWork command arguments a → IsWork command arguments b → a ≡ b
+one_work Run have arguments a b each h k = one_run have arguments a b each h k
+one_work Gen have arguments a b each h k = one_generation have arguments a b each h k
+one_work command have arguments a b each h k = h ∙ sym k
+
+one_limits : (command : Command) (have : ℕ) (arguments : List (List ℕ)) (i j b c : ℕ) → All (IsArgument command have) arguments → AreLimits command arguments i b → AreLimits command arguments j c → (i ≡ j) × (b ≡ c)
+one_limits Gen have arguments i j b c each h k = (h.0 ∙ sym k.0, h.1 ∙ sym k.1)
+one_limits command have arguments i j b c each h k =
+    (one_number command have arguments each Infer 2 i j (infers have) h.0 k.0, one_number command have arguments each Budget 100000 b c (budgets have) h.1 k.1)
+
+-- a line asks for one thing
+pub one_task : (command : Command) (have : ℕ) (arguments : List (List ℕ)) (a b : Task) → All (IsArgument command have) arguments → IsTask command arguments a → IsTask command arguments b → a ≡ b
+one_task command have arguments a b each one other =
+    let limits = one_limits command have arguments a.infer b.infer a.budget b.budget each one.limits other.limits in
+    same (one_work command have arguments a.work b.work each one.work_is other.work_is) (one_number command have arguments each Seed 1 a.seed b.seed (seeds have) one.seed_is other.seed_is) limits.0 limits.1
+  where
+    same : a.work ≡ b.work → a.seed ≡ b.seed → a.infer ≡ b.infer → a.budget ≡ b.budget → a ≡ b
+    same o p q r =
+        ap (λ (w : Work). record { work = w; seed = a.seed; infer = a.infer; budget = a.budget }) o ∙ ap (λ (n : ℕ). record { work = b.work; seed = n; infer = a.infer; budget = a.budget }) p
+        ∙ ap (λ (n : ℕ). record { work = b.work; seed = b.seed; infer = n; budget = a.budget }) q ∙ ap (λ (n : ℕ). record { work = b.work; seed = b.seed; infer = b.infer; budget = n }) r
+
+-- ---- sources
+
+-- a line has one list of sources
+pub one_sources : (command : Command) (have : ℕ) (arguments texts xs ys : List (List ℕ)) → All (IsArgument command have) arguments → AreSources command arguments texts xs → AreSources command arguments texts ys → xs ≡ ys
+one_sources Gen have arguments texts xs ys each h k =
+    let size : h.0 ≡ k.0 = one_number Gen have arguments each Size 0 h.0 k.0 (sizes have) h.1 k.1 in
+    h.2 ∙ ap (λ (n : ℕ). generated_text n ∷ []) size ∙ sym k.2
+one_sources command have arguments texts xs ys each h k = h ∙ sym k

@@ -1,0 +1,116 @@
+-- What is answered of a model, with the text of the answer.
+use Rattle.std.specs.Prelude.{◌≡◌, ◌<◌, ◌≤◌, ℕ, List, [], length, codes, Bool, false, Option, slice_get}
+use Rattle.std.specs.List.{count_by}
+use Rattle.std.specs.Option.{option_map_or}
+use Rattle.std.specs.Str.{bytes_eq}
+use Rattle.pst_target.specs.declared.call.Call.{Call as Answered}
+use Rattle.pst_model.specs.ModelTree.{ModelTree}
+use Rattle.pst_scen.specs.declared.act.Act.{Act}
+use Rattle.pst_scen.specs.declared.event.Event.{Event}
+use Rattle.pst_scen.specs.declared.event.Event.TheVariants.{Start, End}
+use Rattle.pst_scen.specs.declared.scenario.Scenario.{Scenario}
+use Rattle.pst_scen.specs.Plan.{Entries, widest}
+use Rattle.pst_scen.specs.Plans.{IsPlanOf}
+use Rattle.pst_legal.specs.Legal.{Legal}
+use Rattle.pst_legal.specs.First.{IsFirst, Spent}
+use Rattle.pst_book.specs.Books.{View}
+use Rattle.pst_exec.specs.Alone.{RanWhole}
+use Rattle.pst_trace_texts.specs.declared.last.Last.TheVariants as last
+use Rattle.pst_trace_texts.specs.Named.{name}
+use Rattle.pst_trace_texts.specs.Texts.{trace_text}
+use Rattle.pst_scenario_answers.specs.declared.check.CheckAnswer.{CheckAnswer}
+use Rattle.pst_scenario_answers.specs.declared.check.CheckAnswer.TheVariants as checked
+use Rattle.pst_scenario_answers.specs.Checked.{IsChecked, answer_text}
+use Rattle.pst_run_alone.specs.declared.answer.RunAnswer.{RunAnswer}
+use Rattle.pst_run_alone.specs.declared.answer.RunAnswer.TheVariants as ran
+use Rattle.pst_run_alone.specs.Shown.{ShowsRun}
+use Rattle.pst_generated.specs.Generated.{counts_text}
+use Rattle.pst_outcome.specs.declared.answer.Answer.{Answer}
+use Rattle.pst_outcome.specs.declared.answer.Answer.TheVariants.{Done, Solved, Whole, Prefix, NoScenario, Budget, Narrow, TargetFault, BodyTrap, BadTrace, Illegal, Unbuilt}
+use Rattle.pst_outcome.specs.declared.task.Task.{Task}
+use Rattle.pst_outcome.specs.declared.task.Work.{Work}
+use Rattle.pst_outcome.specs.declared.task.Work.TheVariants as work
+use Rattle.pst_outcome.specs.Texts.{no_scenario_text, budget_text, unbuilt_text}
+
+-- ---- the lane
+
+-- what the lane tells of its calls before and after, and its counts of faults
+pub record Lane : Type 0 where
+  pub before : Option (List Answered)
+  pub after : Option (List Answered)
+  pub faults_before : ℕ
+  pub faults_after : ℕ
+
+abbrev pub lane : Option (List Answered) → Option (List Answered) → ℕ → ℕ → Lane
+lane before after faults_before faults_after = record { before = before; after = after; faults_before = faults_before; faults_after = faults_after }
+
+-- it has no new call
+pub record IsUncalled (l : Lane) : Type 0 where
+  pub calls : l.after ≡ l.before
+  pub count : l.faults_after ≡ l.faults_before
+
+-- ---- answers of the parts below
+
+abbrev pub answer_of_run : RunAnswer → Answer
+answer_of_run (ran.Done actions) = Done actions
+answer_of_run (ran.Narrow need have) = Narrow need have
+answer_of_run (ran.TargetFault number action call) = TargetFault number action call
+answer_of_run (ran.BodyTrap number action kind) = BodyTrap number action kind
+
+abbrev pub answer_of_check : CheckAnswer → Answer
+answer_of_check checked.Whole = Whole
+answer_of_check checked.Prefix = Prefix
+answer_of_check (checked.BadTrace number) = BadTrace number
+answer_of_check (checked.Illegal number rule) = Illegal number rule
+
+-- ---- generated models
+
+-- the action is of a type of that name
+abbrev pub is_of_type : List (List ℕ) → ModelTree → List ℕ → Act → Bool
+is_of_type names m type act = option_map_or (λ declared. bytes_eq (name names declared.name) type) (slice_get m.actions act.action) false
+
+-- an action of that type ended
+abbrev pub ends_type : List (List ℕ) → ModelTree → Scenario → List ℕ → Event → Bool
+ends_type names m s type (Start act used more) = false
+ends_type names m s type (End act) = option_map_or (is_of_type names m type) (slice_get s.actions act) false
+
+abbrev pub count_ended : List (List ℕ) → ModelTree → Scenario → List Event → List ℕ → ℕ
+count_ended names m s events type = count_by (ends_type names m s type) events
+
+-- All actions were run one after another, and the text counts those that ended; else it is as for any other run.
+pub data ShowsCounts (names : List (List ℕ)) (m : ModelTree) (s : Scenario) (plan : Entries) (size : ℕ) (l : Lane) : RunAnswer → List ℕ → Type 0 where
+  HasEnded : (book : View) → (1 < widest plan.groups → ⊥) → RanWhole m s plan l.before l.after book → l.faults_after ≡ l.faults_before
+      → ShowsCounts names m s plan size l (ran.Done (length s.actions))
+      (counts_text size (count_ended names m s book.trace (codes "make")) (count_ended names m s book.trace (codes "take")) (length s.actions))
+  EndsElse : (answer : RunAnswer) (text : List ℕ) → ShowsRun names m s plan l.before l.after l.faults_before l.faults_after answer text
+      → ((actions : ℕ) → answer ≡ ran.Done actions → ⊥) → ShowsCounts names m s plan size l answer text
+
+-- ---- scenarios
+
+-- The scenario is run on the lane, of a generated model too, its header is printed, or a trace is judged against it.
+pub data OfScenario (names : List (List ℕ)) (m : ModelTree) (s : Scenario) (plan : Entries) (trace : List ℕ) (l : Lane) : Work → Answer → List ℕ → Type 0 where
+  IsRun : (answer : RunAnswer) (text : List ℕ) → ShowsRun names m s plan l.before l.after l.faults_before l.faults_after answer text
+      → OfScenario names m s plan trace l work.Run (answer_of_run answer) text
+  IsGenerated : (size : ℕ) (answer : RunAnswer) (text : List ℕ) → ShowsCounts names m s plan size l answer text
+      → OfScenario names m s plan trace l (work.Generate size) (answer_of_run answer) text
+  IsSolved : IsUncalled l → OfScenario names m s plan trace l work.Solve (Solved (length s.actions)) (trace_text names m s [] last.Solved)
+  IsJudged : (answer : CheckAnswer) → IsUncalled l → IsChecked names m s trace answer
+      → OfScenario names m s plan trace l work.Check (answer_of_check answer) (answer_text answer)
+
+-- ---- models
+
+-- something is done with the first legal scenario
+abbrev pub IsSought : Work → Type 0
+IsSought work.Unbuilt = ⊥
+IsSought done = Unit {0}
+
+-- No scenario with so few inferred actions is legal; the budget is spent in a level that may be searched; the first legal scenario in the seed's
+-- order with the fewest inferred actions is found; or nothing is sought yet.
+pub data OfModel (names : List (List ℕ)) (m : ModelTree) (root : ℕ) (task : Task) (trace : List ℕ) (l : Lane) : Answer → List ℕ → Type 0 where
+  HasNone : IsSought task.work → IsUncalled l → ((s : Scenario) → s.level ≤ task.infer → Legal m root s → ⊥)
+      → OfModel names m root task trace l NoScenario (no_scenario_text task.infer)
+  IsSpent : (level : ℕ) → IsSought task.work → IsUncalled l → level ≤ task.infer → Spent m root task.seed level task.budget
+      → OfModel names m root task trace l (Budget level) (budget_text level)
+  IsFound : (s : Scenario) (plan : Entries) (answer : Answer) (text : List ℕ) → IsFirst m root task.seed task.infer s → IsPlanOf s plan
+      → OfScenario names m s plan trace l task.work answer text → OfModel names m root task trace l answer text
+  IsUnbuilt : task.work ≡ work.Unbuilt → IsUncalled l → OfModel names m root task trace l Unbuilt unbuilt_text

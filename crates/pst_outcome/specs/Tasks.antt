@@ -1,0 +1,64 @@
+-- What a line asks for: its root, its sources, how the first legal scenario is sought, and what is done with it.
+use Rattle.std.specs.Prelude.{◌≡◌, ℕ, ◌^◌, ◌<◌, List, [], ◌∷◌, ◌++◌, codes, decimal, nat_eq, if◌then◌else◌, Some, None}
+use Rattle.pst_token.specs.Lexemes.{IsName}
+use Rattle.pst_generated.specs.Generated.{generated_text}
+use Rattle.pst_words.specs.declared.command.Command.{Command}
+use Rattle.pst_words.specs.declared.command.Command.TheVariants.{Run, Solve, Check, Gen, Static, Place, Sweep}
+use Rattle.pst_words.specs.declared.key.Key.{Key}
+use Rattle.pst_words.specs.declared.key.Key.TheVariants.{Root, Seed, Infer, Budget, Lanes, Size}
+use Rattle.pst_words.specs.Lines.{given}
+use Rattle.pst_outcome.specs.declared.task.Task.{Task}
+use Rattle.pst_outcome.specs.declared.task.Work.{Work}
+use Rattle.pst_outcome.specs.declared.task.Work.TheVariants as work
+
+-- ---- numbers
+
+-- the number that words give the key, or another where they give it none
+pub record IsNumberGiven (key : Key) (arguments : List (List ℕ)) (otherwise n : ℕ) : Type 0 where
+  pub is_given : (k : ℕ) → k < 2 ^ 64 → given key arguments ≡ Some (decimal k) → n ≡ k
+  pub is_not : given key arguments ≡ None → n ≡ otherwise
+
+-- ---- the root and the sources
+
+-- the words behind a command name this root: its component and its own name
+pub record HasRoot (arguments : List (List ℕ)) (component action : List ℕ) : Type 0 where
+  pub are : given Root arguments ≡ Some (component ++ (codes "::" ++ action))
+  pub component_is_name : IsName component
+  pub action_is_name : IsName action
+
+-- the root of a line: a generated model has its own
+abbrev pub IsRoot : Command → List (List ℕ) → List ℕ → List ℕ → Type 0
+IsRoot Gen arguments component action = (component ≡ codes "pss_top") × (action ≡ codes "entry")
+IsRoot command arguments component action = HasRoot arguments component action
+
+-- the sources of a line, whose files have these texts: those, or the one of the generated model
+abbrev pub AreSources : Command → List (List ℕ) → List (List ℕ) → List (List ℕ) → Type 0
+AreSources Gen arguments texts sources = (size : ℕ) × IsNumberGiven Size arguments 0 size × (sources ≡ generated_text size ∷ [])
+AreSources command arguments texts sources = sources ≡ texts
+
+-- ---- the scenario that is sought, and what is done with it
+
+-- that on one lane; on several lanes nothing yet
+abbrev pub on_lanes : ℕ → Work → Work
+on_lanes lanes done = if nat_eq lanes 1 then done else work.Unbuilt
+
+-- what is done with the scenario
+abbrev pub IsWork : Command → List (List ℕ) → Work → Type 0
+IsWork Run arguments done = (lanes : ℕ) × IsNumberGiven Lanes arguments 1 lanes × (done ≡ on_lanes lanes work.Run)
+IsWork Solve arguments done = done ≡ work.Solve
+IsWork Check arguments done = done ≡ work.Check
+IsWork Gen arguments done = (size : ℕ) × (lanes : ℕ) × IsNumberGiven Size arguments 0 size × IsNumberGiven Lanes arguments 1 lanes × (done ≡ on_lanes lanes (work.Generate size))
+IsWork Static arguments done = done ≡ work.Unbuilt
+IsWork Place arguments done = done ≡ work.Unbuilt
+IsWork Sweep arguments done = done ≡ work.Unbuilt
+
+-- the most inferred actions, and the most live lists of choices; a generated model has its own
+abbrev pub AreLimits : Command → List (List ℕ) → ℕ → ℕ → Type 0
+AreLimits Gen arguments infer budget = (infer ≡ 0) × (budget ≡ 100000)
+AreLimits command arguments infer budget = IsNumberGiven Infer arguments 2 infer × IsNumberGiven Budget arguments 100000 budget
+
+-- the line asks for that
+pub record IsTask (command : Command) (arguments : List (List ℕ)) (task : Task) : Type 0 where
+  pub work_is : IsWork command arguments task.work
+  pub seed_is : IsNumberGiven Seed arguments 1 task.seed
+  pub limits : AreLimits command arguments task.infer task.budget

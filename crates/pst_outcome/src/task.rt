@@ -1,0 +1,32 @@
+//! What a line asks for.
+
+/// What is done with the first legal scenario.
+#[derive(Clone, Copy, Debug, PartialEq, Eq)]
+pub enum Work {
+    /// It is run on one lane, and its trace is printed.
+    Run,
+    /// Its header is printed.
+    Solve,
+    /// A trace is judged against it.
+    Check,
+    /// It is one of a generated model: it is run on one lane, and counts are printed.
+    Generate {
+        /// The size of the model.
+        size: u32,
+    },
+    /// Nothing yet.
+    Unbuilt,
+}
+
+/// How the first legal scenario is sought, and what is done with it.
+#[derive(Clone, Copy, Debug, PartialEq, Eq)]
+pub struct Task {
+    /// What is done with it.
+    pub work: Work,
+    /// The seed of the order in which scenarios are tried.
+    pub seed: u64,
+    /// The most inferred actions.
+    pub infer: u32,
+    /// The most live lists of choices.
+    pub budget: u64,
+}
