@@ -1,5 +1,4 @@
+mod Tasks
+mod Done
 mod Said
-mod Ends
-mod SourceNames
-mod Served
-mod Kept
+mod Lanes

@@ -1,26 +1,25 @@
 -- Replies: an answer and its text, before it is written.
-use Rattle.std.specs.Prelude.{◌≡◌, ℕ, ◌-◌, List, [], get_or, string_bytes, ◌⊎◌}
-use Rattle.pst_files_read.specs.declared.files.FileEnd.{FileEnd}
-use Rattle.pst_files_read.specs.declared.files.FileEnd.TheVariants as end
+use Rattle.std.specs.Prelude.{◌≡◌, ◌⊎◌, ℕ, List, string_bytes}
+use Rattle.pst_words.specs.declared.command.Command.{Command}
 use Rattle.pst_outcome.specs.declared.answer.Answer.{Answer}
-use Rattle.pst_outcome.specs.declared.answer.Answer.TheVariants.{NoFile, ReadFault, Large, WriteFault, NoMemory}
-use Rattle.pst_outcome.specs.declared.answer.What.{What}
-use Rattle.pst_outcome.specs.Texts.{no_file_text, read_fault_text, large_text}
+use Rattle.pst_outcome.specs.declared.answer.Answer.TheVariants.{WriteFault, NoMemory}
+use Rattle.pst_outcome.specs.declared.reply.Reply.{Reply}
+use Rattle.pst_outcome.specs.declared.task.Task.{Task}
+use Rattle.pst_outcome.specs.Tasks.{IsTask}
+use Rattle.pst_outcome.specs.Sources.{Front, Ends, HasModel}
+use Rattle.pst_outcome.specs.Models.{Lane, IsUncalled, OfModel}
 use Rattle.pst_outcome.specs.Delivered.{Writing, Writes, Breaks, Leaves}
-use Rattle.pst_portable.specs.declared.replies.Reply.{Reply}
-use Rattle.pst_files_read.specs.Files.{given_name}
 
 -- the reply has this answer and this text
 pub record Says (answer : Answer) (text : List ℕ) (reply : Reply) : Type 0 where
   pub answer_is : reply.answer ≡ answer
   pub text_is : string_bytes reply.text ≡ text
 
--- the reply to a reading of files that ended so, where this number is the limit on what is read, plus 1
-abbrev pub SaysEnd : List (List ℕ) → What → ℕ → FileEnd → Reply → Type 0
-SaysEnd arguments what number (end.Missing word) reply = Says (NoFile word) (no_file_text (given_name (get_or arguments (word - 1) []))) reply
-SaysEnd arguments what number (end.Failed word) reply = Says (ReadFault word) (read_fault_text (given_name (get_or arguments (word - 1) []))) reply
-SaysEnd arguments what number end.TooLarge reply = Says (Large what number) (large_text what number) reply
-SaysEnd arguments what number end.NoMemory reply = ⊥
+-- what is answered where the files and sources of a line come to that, and its trace file has these bytes: an answer that was found on the way, or
+-- what is done with a model
+abbrev pub IsDone : Command → List (List ℕ) → List ℕ → Lane → Front → Answer → List ℕ → Type 0
+IsDone command arguments trace l (Ends found known) answer text = IsUncalled l × (answer ≡ found) × (text ≡ known)
+IsDone command arguments trace l (HasModel names m root) answer text = (task : Task) × IsTask command arguments task × OfModel names m root task trace l answer text
 
 -- what is answered once the text of a reply was to be written
 abbrev pub Delivers : Reply → Writing → Answer → Type 0

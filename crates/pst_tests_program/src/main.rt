@@ -4,12 +4,20 @@
 //! `stdin` is the table, in the form that `pst_cases` describes. A case is `STATUS TEXT: WORDS =>
 //! NAMES => SHELF => SINK => TEXTS`: the text has a `/` for each line feed; `''` is a word without
 //! letters; the names and texts are those of the files; the shelf's calls with these numbers fail;
-//! the sink takes so many bytes a write, and the writes with the numbers behind fail.
+//! the sink takes so many bytes a write, and the writes with the numbers behind fail. The calls:
+//!
+//! - `alone`: on one lane. `lanes`: on so many as `number` says.
+//! - `failing`: on a lane whose call of that number fails; behind the text ` |`, and the lane's calls.
+//! - `ends`: in place of the text how many lines it has, the second of them and the last.
+//! - `judged`: what `check` answers to the text.
+//! - `writes`: whether each write fails right in turn, at a sink that takes `number` bytes a write.
+//! - `cuts`: how many fronts of a source have another status than 1, and the status of the source.
 #![tactic(auto)]
 
 mod calls;
 mod cuts;
 mod setting;
+mod texts;
 
 use pst_cases::{Heading, Score, framed, joined_lines, repeated};
 use std::alloc::AllocError;
@@ -31,6 +39,10 @@ fn answer<R: Threads + Wait + Sync + AllocGlobal>(
     match heading.call.as_str() {
         "alone" => calls::alone(alloc, text),
         "lanes" => calls::on_lanes(rt, heading.number, text),
+        "failing" => calls::on_failing(alloc, heading.number, text),
+        "ends" => texts::ends(alloc, text),
+        "judged" => texts::judged(alloc, text),
+        "writes" => texts::writes(alloc, heading.number, text),
         _ => cuts::answers(alloc, text),
     }
 }

@@ -53,6 +53,26 @@ impl<'a> Parts<'a> {
         Ok(MemoryShelf::new(files, numbers(alloc, self.shelf)?))
     }
 
+    /// The shelf, with one more file, and without calls that fail.
+    pub fn shelf_with(
+        &self,
+        alloc: Global,
+        name: &str,
+        text: &[u8],
+    ) -> Result<MemoryShelf, AllocError> {
+        let mut names = self.names.split(' ');
+        let mut files = Vec::new(alloc);
+        for file in read_marked(alloc, self.texts)?.files {
+            let name = names.next().unwrap_or("");
+            files.push((String::from_str(alloc, name)?, file))?;
+        }
+        files.push((
+            String::from_str(alloc, name)?,
+            Vec::from_slice(alloc, text)?,
+        ))?;
+        Ok(MemoryShelf::new(files, Vec::new(alloc)))
+    }
+
     /// The sink.
     pub fn sink(&self, alloc: Global) -> Result<MemorySink, AllocError> {
         let (most, failing) = self.sink.split_once(' ').unwrap_or((self.sink, ""));

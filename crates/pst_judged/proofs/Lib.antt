@@ -1,2 +1,0 @@
-mod Rooting
-mod Parts
