@@ -10,7 +10,6 @@
 //! - `failing`: on a lane whose call of that number fails; behind the text ` |`, and the lane's calls.
 //! - `ends`: in place of the text how many lines it has, the second of them and the last.
 //! - `judged`: what `check` answers to the text.
-//! - `writes`: whether each write fails right in turn, at a sink that takes `number` bytes a write.
 //! - `cuts`: how many fronts of a source have another status than 1, and the status of the source.
 #![tactic(auto)]
 
@@ -42,7 +41,6 @@ fn answer<R: Threads + Wait + Sync + AllocGlobal>(
         "failing" => calls::on_failing(alloc, heading.number, text),
         "ends" => texts::ends(alloc, text),
         "judged" => texts::judged(alloc, text),
-        "writes" => texts::writes(alloc, heading.number, text),
         _ => cuts::answers(alloc, text),
     }
 }
