@@ -1,6 +1,6 @@
 -- Members are added to their rows as they come.
 use Rattle.std.proofs.Common.{◌≡◌, ◌<◌, refl, sym, ap, ◌∙◌, append_assoc, cond}
-use Rattle.std.specs.Prelude.{ℕ, ◌+◌, nat_eq, Bool, true, false, ◌&&◌, List, [], ◌∷◌, ◌++◌, length, drop, get_or, Option, Some, None, if◌then◌else◌}
+use Rattle.std.specs.Prelude.{ℕ, ◌+◌, nat_eq, Bool, true, false, ◌&&◌, List, [], ◌∷◌, ◌++◌, length, drop, get_or, Some, None}
 use Rattle.std.specs.Cmp.{nat_eq_equiv}
 use Rattle.std.specs.List.{filter}
 use Rattle.std.proofs.lemmas.List.{drop_more}
@@ -10,7 +10,6 @@ use Rattle.pst_scope.specs.declared.declaration.Scope.{Scope}
 use Rattle.pst_scope.specs.declared.declaration.Scope.TheVariants.{Files, Part}
 use Rattle.pst_scope.specs.declared.declaration.Sort.TheVariants.{Component}
 use Rattle.pst_scope.specs.Sorts.{same_scope, same_place}
-use Rattle.pst_type_rules.specs.Members.{own_members}
 use Rattle.pst_type_members.specs.declared.key.ScopeKey.{ScopeKey}
 use Rattle.pst_type_members.specs.Keyed.{members_at, place_in, scope_key, place_of, same_key}
 

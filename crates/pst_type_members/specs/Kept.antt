@@ -3,9 +3,10 @@ use Rattle.std.specs.Prelude.{◌≡◌, List}
 use Rattle.std.specs.HashMap.{get}
 use Rattle.pst_scope.specs.declared.declaration.Declaration.{Declaration}
 use Rattle.pst_type_members.specs.declared.key.ScopeKey.{ScopeKey}
-use Rattle.pst_type_members.specs.declared.rows.ScopeRows.{ScopeRows}
+use Rattle.pst_type_members.specs.declared.scopes.ScopeRows.{ScopeRows}
 use Rattle.pst_type_members.specs.declared.rows.Members.TheInside.{Inside}
 use Rattle.pst_type_members.specs.Keyed.{members_at, place_of, row_in, same_key}
+use Rattle.pst_type_members.specs.KeptHandles.{AreHandleRows}
 
 -- each row has what is declared in the scope of its key
 abbrev pub AreRows : List Declaration → ScopeRows → Type 0
@@ -13,3 +14,4 @@ AreRows ds rows = (q : ScopeKey) → row_in (get same_key rows.rows q) ≡ membe
 
 pub record HasRows (m : Inside) : Type 0 where
   pub rows : AreRows m.index.now m.rows
+  pub handles : AreHandleRows m.index.now m.handles

@@ -1,3 +1,5 @@
 pub mod Keyed
+pub mod Among
+pub mod KeptHandles
 pub mod Kept
 pub mod Listed

@@ -4,8 +4,10 @@ ghost use Rattle.std.specs.List.{flat_map};
 ghost use Rattle.pst_inherited.specs.Bases;
 ghost use Rattle.pst_inherited.specs.Needed.{needs_within};
 ghost use Rattle.pst_type_rules.specs.Members.{those_that};
+ghost use Rattle.pst_type_members.specs.Among.{IsAmong};
 ghost use Rattle.pst_type_members.specs.Listed.{is_of};
 
+use crate::among::Among;
 use crate::rows::Members;
 use pst_base::NoMemory;
 use pst_inherited::with_bases;
@@ -97,7 +99,71 @@ impl<'a> Members<'a> {
         Ok(found)
     }
 
+    // Where a member stands among those of its sort that a type declares itself.
+    fn among_own(
+        &self,
+        alloc: Global,
+        by: MemberSort,
+        type_: &Declaration,
+        member: &Declaration,
+    ) -> Result<Among, NoMemory>
+        ensures { IfOk result (IsAmong (needs_within (is_of by) self.now type_.now) member.now) }
+    {
+        let mut found = Vec::new(alloc);
+        add_those(&mut found, by, self.own(type_))?;
+        Ok(Among {
+            number: number_in(found.as_slice(), member),
+            count: found.len(),
+        })
+    }
+
+    // The same, where the handles of types are looked up.
+    fn among(
+        &self,
+        alloc: Global,
+        by: MemberSort,
+        type_: &Declaration,
+        member: &Declaration,
+    ) -> Result<Among, NoMemory>
+        ensures { IfOk result (IsAmong (needs_within (is_of by) self.now type_.now) member.now) }
+    {
+        match by {
+            MemberSort::Handle => match self.among_handles(type_, member) {
+                Some(found) => Ok(found),
+                None => self.among_own(alloc, by, type_, member),
+            },
+            _ => self.among_own(alloc, by, type_, member),
+        }
+    }
+
+    // How many members of a sort that types declare stand before one; all, where it isn't there.
+    fn number_behind(
+        &self,
+        alloc: Global,
+        by: MemberSort,
+        types: &[Declaration],
+        member: &Declaration,
+    ) -> Result<usize, NoMemory>
+        ensures { IfOk result (λ n. n ≡ Bases.number_in (flat_map (needs_within (is_of by) self.now) types.now) member.now) }
+    {
+        let mut before: usize = 0;
+        for type_ in types {
+            let stands = self.among(alloc, by, type_, member)?;
+            let Some(number) = before.checked_add(stands.number) else {
+                return Err(NoMemory);
+            };
+            if stands.number < stands.count {
+                return Ok(number);
+            }
+            before = number;
+        }
+        Ok(before)
+    }
+
     /// The number of a member among those of its sort that a type has.
+    ///
+    /// A handle is looked up in each base's; other members are counted.
+    #[tactic(auto, using(crate::proofs::Listing::members_are))]
     pub fn number(
         &self,
         alloc: Global,
@@ -107,8 +173,9 @@ impl<'a> Members<'a> {
     ) -> Result<u32, NoMemory>
         ensures { IfOk result (λ n. n ≡ Bases.number_in (Bases.members_that (is_of by) self.now type_.now) member.now) }
     {
-        let those = self.those(alloc, by, type_)?;
-        match u32::try_from(number_in(those.as_slice(), member)) {
+        let bases = with_bases(alloc, self.index(), type_)?;
+        let number = self.number_behind(alloc, by, bases.as_slice(), member)?;
+        match u32::try_from(number) {
             Ok(number) => Ok(number),
             Err(_) => Err(NoMemory),
         }

@@ -1,36 +1,18 @@
 //! What types declare in their own scopes.
-ghost use Rattle.std.specs.Prelude.{◌≡◌, ◌++◌, ◌∷◌, [], None, IfOk, OnOk, if◌then◌else◌};
-ghost use Rattle.std.specs.HashMap.{get};
+ghost use Rattle.std.specs.Prelude.{◌≡◌, IfOk, IfSome};
+ghost use Rattle.pst_inherited.specs.Needed.{needs_within};
+ghost use Rattle.pst_scope.specs.Sorts.{is_handle};
 ghost use Rattle.pst_type_rules.specs.Members.{own_members};
-ghost use Rattle.pst_type_members.specs.Keyed;
-ghost use Rattle.pst_type_members.specs.Keyed.{place_in, row_in, same_key};
-ghost use Rattle.pst_type_members.specs.Kept.{AreRows};
+ghost use Rattle.pst_type_members.specs.Among.{IsAmong};
 
-use crate::key::{ScopeKey, scope_key};
-use pst_base::{NoMemory, Place};
+use crate::among::Among;
+use crate::handles::{HandleRows, handle_rows_of};
+use crate::scopes::{ScopeRows, rows_of};
+use pst_base::NoMemory;
 use pst_index::Index;
-use pst_scope::{Declaration, Scope};
+use pst_scope::Declaration;
 use std::alloc::Global;
-use std::collections::HashMap;
 use std::marker::Model;
-
-// What is declared in the scope of each place, in order of declaration.
-#[derive(Drop)]
-pub(crate) struct ScopeRows {
-    pub(crate) rows: HashMap<ScopeKey, Vec<Declaration>>,
-}
-
-impl ScopeRows {
-    // What is declared in the scope of a place.
-    fn at(&self, place: Place) -> &[Declaration]
-        ensures { result.now ≡ row_in (get same_key self.now.rows (Keyed.scope_key place)) }
-    {
-        match self.rows.get(&scope_key(place)) {
-            Some(row) => row.as_slice(),
-            None => &[],
-        }
-    }
-}
 
 /// The members of types.
 ///
@@ -39,6 +21,7 @@ impl ScopeRows {
 pub struct Members<'a> {
     index: &'a Index,
     rows: ScopeRows,
+    handles: HandleRows,
 }
 
 impl<'a> Model for Members<'a> {
@@ -53,70 +36,18 @@ impl<'a> Model for Members<'a> {
     ghost invariant = { HasRows };
 }
 
-// The place in whose scope something is declared.
-fn place_of(declaration: &Declaration) -> Option<Place>
-    ensures { result ≡ place_in declaration.now.scope }
-{
-    match declaration.scope {
-        Scope::Files => None,
-        Scope::Part(place) => Some(place),
-    }
-}
-
-// Begins the row of a key with a declaration.
-fn begin(
-    alloc: Global,
-    rows: &mut HashMap<ScopeKey, Vec<Declaration>>,
-    key: ScopeKey,
-    declaration: Declaration,
-) -> Result<(), NoMemory>
-    requires { get same_key rows.old key ≡ None }
-    ensures { OnOk result ((q : ScopeKey) → row_in (get same_key rows.new q) ≡ row_in (get same_key rows.old q) ++ (if same_key q key then declaration ∷ [] else [])) }
-{
-    let mut row = Vec::new(alloc);
-    row.push(declaration)?;
-    rows.insert(key, row)?;
-    Ok(())
-}
-
-// Adds a declaration to the row of a key.
-fn add(
-    alloc: Global,
-    rows: &mut HashMap<ScopeKey, Vec<Declaration>>,
-    key: ScopeKey,
-    declaration: Declaration,
-) -> Result<(), NoMemory>
-    ensures { OnOk result ((q : ScopeKey) → row_in (get same_key rows.new q) ≡ row_in (get same_key rows.old q) ++ (if same_key q key then declaration ∷ [] else [])) }
-{
-    if !rows.contains_key(&key) {
-        return begin(alloc, rows, key, declaration);
-    }
-    if let Some(row) = rows.get_mut(&key) {
-        row.push(declaration)?;
-    }
-    Ok(())
-}
-
-// What is declared in each scope.
-fn rows_of(alloc: Global, declarations: &[Declaration]) -> Result<ScopeRows, NoMemory>
-    ensures { IfOk result (AreRows declarations.now) }
-{
-    let mut rows = HashMap::new(alloc);
-    for declaration in declarations {
-        if let Some(place) = place_of(declaration) {
-            add(alloc, &mut rows, scope_key(place), *declaration)?;
-        }
-    }
-    Ok(ScopeRows { rows })
-}
-
 impl<'a> Members<'a> {
     /// The members of what is declared.
     pub fn new(alloc: Global, index: &'a Index) -> Result<Members<'a>, NoMemory>
         ensures { IfOk result (λ m. m ≡ index.now) }
     {
         let rows = rows_of(alloc, index.as_slice())?;
-        Ok(Members { index, rows })
+        let handles = handle_rows_of(alloc, &rows, index.as_slice())?;
+        Ok(Members {
+            index,
+            rows,
+            handles,
+        })
     }
 
     /// What is declared.
@@ -131,5 +62,12 @@ impl<'a> Members<'a> {
         ensures { result.now ≡ own_members self.now type_.now }
     {
         self.rows.at(type_.name.place)
+    }
+
+    /// Where a handle stands among those that a type declares itself, where these are kept.
+    pub(crate) fn among_handles(&self, type_: &Declaration, handle: &Declaration) -> Option<Among>
+        ensures { IfSome result (IsAmong (needs_within is_handle self.now type_.now) handle.now) }
+    {
+        self.handles.among(type_, handle)
     }
 }

@@ -3,8 +3,8 @@ use Rattle.std.specs.HashMap.{get}
 use Rattle.pst_type_members.specs.declared.key.ScopeKey.{ScopeKey}
 use Rattle.pst_type_members.specs.Keyed.{members_at, place_of, row_in, same_key}
 use Rattle.pst_type_members.proofs.Rowed.{added, left_out, blank}
-use Rattle.pst_type_members.proofs.rows.rows_of.Goals as goal
-use Rattle.pst_type_members.proofs.rows.rows_of.Goals.{in-Some+in_ok-add, in_default}
+use Rattle.pst_type_members.proofs.scopes.rows_of.Goals as goal
+use Rattle.pst_type_members.proofs.scopes.rows_of.Goals.{in-Some+in_ok-add, in_default}
 
 pub loop-declaration-preserved : goal.loop-declaration-preserved
 loop-declaration-preserved c = λ q.

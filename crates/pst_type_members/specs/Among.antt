@@ -1,0 +1,9 @@
+-- Where a declaration stands among others.
+use Rattle.std.specs.Prelude.{◌≡◌, List, length}
+use Rattle.pst_scope.specs.declared.declaration.Declaration.{Declaration}
+use Rattle.pst_inherited.specs.Bases
+use Rattle.pst_type_members.specs.declared.among.Among.{Among}
+
+pub record IsAmong (list : List Declaration) (d : Declaration) (a : Among) : Type 0 where
+  pub number : a.number ≡ Bases.number_in list d
+  pub count : a.count ≡ length list
