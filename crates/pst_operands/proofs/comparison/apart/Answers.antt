@@ -1,0 +1,13 @@
+use Rattle.std.proofs.Common.{◌≡◌, ◌≢◌, ℤ, pos, neg_ℤ, negsuc, ◌^◌, ◌+ℤ◌, ◌-ℤ◌, ◌*ℤ◌, ◌≤ℤ◌, ◌<ℤ◌, int_div, int_rem, int_lt, int_le, FitsSigned, w64, Some, true, false, not, rules, arith, refl, sym, ap, subst, ◌∙◌}
+use Rattle.std.specs.Int.{w128}
+use Rattle.std.proofs.lemmas.Int.{ints, to_z-of_z}
+use Rattle.pst_expr.specs.Spans.{IsInSpan}
+use Rattle.pst_operands.proofs.comparison.apart.Goals as goal
+
+pub returns-then-other : goal.returns-then-other
+returns-then-other c x y h k n =
+    let f0 : FitsSigned w64 c.args.other.low = search rules in
+    let f1 : FitsSigned w64 c.args.other.high = search rules in
+    c.other_than.ensures x h (λ e.
+    let p : x ≡ y = omega (arith, ints, e, k.0, k.1, c.if-other.true) in
+    n p)

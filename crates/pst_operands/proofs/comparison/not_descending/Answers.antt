@@ -1,0 +1,11 @@
+use Rattle.std.proofs.Common.{◌≡◌, ◌≢◌, ℤ, pos, neg_ℤ, negsuc, ◌^◌, ◌+ℤ◌, ◌-ℤ◌, ◌*ℤ◌, ◌≤ℤ◌, ◌<ℤ◌, int_div, int_rem, int_lt, int_le, FitsSigned, w64, Some, true, false, not, rules, arith, refl, sym, ap, subst, ◌∙◌}
+use Rattle.std.specs.Int.{w128}
+use Rattle.std.proofs.lemmas.Int.{ints, to_z-of_z}
+use Rattle.pst_expr.specs.Spans.{IsInSpan}
+use Rattle.pst_operands.proofs.comparison.not_descending.Goals as goal
+
+pub returns : goal.returns
+returns c x y h k r =
+    let f0 : FitsSigned w64 c.args.spans.right.high = search rules in
+    let f1 : FitsSigned w64 c.args.spans.left.low = search rules in
+    (c.at_most.ensures x h (omega (arith, ints, c.from.ensures, k.1, r)), c.at_least.ensures y k (omega (arith, ints, c.from-2.ensures, h.0, r)))
