@@ -1,5 +1,5 @@
 -- What a logical operator says of its operands where it is met.
-use Rattle.std.proofs.Common.{◌≡◌, ◌≢◌, ℤ, pos, ◌≤ℤ◌, ◌<ℤ◌, Bool, true, false, cond, List, Option, Some, None, option_map, IfSome, Result, refl, sym, ap, ◌∙◌, arith}
+use Rattle.std.proofs.Common.{◌≡◌, ◌≢◌, ℤ, pos, ◌<ℤ◌, Bool, true, false, cond, List, Option, Some, None, option_map, IfSome, Result, refl, ap, arith}
 use Rattle.std.proofs.lemmas.Int.{ints}
 use Rattle.std.proofs.lemmas.Bool.Decides.{Decides-int_eq}
 use Rattle.pst_base.specs.declared.memory.NoMemory.{NoMemory}
@@ -9,7 +9,7 @@ use Rattle.pst_expr.specs.declared.tree.BinaryOp.TheVariants.{And, Or, Implies}
 use Rattle.pst_expr.specs.Spans.{IsInSpan}
 use Rattle.pst_expr.specs.Tree.{Expression, Binary}
 use Rattle.pst_expr.specs.Value.{value, unary_value, number_of, is_false, truth_of, by_left}
-use Rattle.pst_domain.specs.Bounds.{Holds, AreWithin}
+use Rattle.pst_domain.specs.Bounds.{Holds}
 use Rattle.pst_domain.specs.Laws.{IsNeverTrue, HoldsValues}
 use Rattle.pst_narrow.specs.declared.trail.Former.{Former}
 use Rattle.pst_narrow.specs.Solutions.{IsMet, IsTruth}

@@ -1,5 +1,5 @@
 -- Operands of which the values are wanted.
-use Rattle.std.proofs.Common.{◌≡◌, ℤ, List, Bool, true, false, Option, Some, None, option_and_then, refl, sym, subst}
+use Rattle.std.proofs.Common.{◌≡◌, ℤ, List, true, Option, Some, None, option_and_then, refl, subst}
 use Rattle.pst_expr.specs.declared.ranges.Span.{Span}
 use Rattle.pst_expr.specs.Spans.{IsInSpan}
 use Rattle.pst_expr.specs.declared.tree.UnaryOp.{UnaryOp}

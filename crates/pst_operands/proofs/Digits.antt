@@ -1,6 +1,6 @@
 -- Operations on the bits of numbers that aren't negative, and -1 less a number.
-use Rattle.std.proofs.Common.{◌≡◌, ℕ, suc, ◌+◌, ◌-◌, ◌*◌, ◌/◌, ◌%◌, ◌^◌, ◌<◌, ◌≤◌, ℤ, pos, negsuc, ◌+ℤ◌, ◌-ℤ◌, ◌*ℤ◌, ◌≤ℤ◌, ◌<ℤ◌, Option, Some, FitsSigned, w64, to_z, bit_and, bit_or, bit_xor, arith, refl, sym, ap, ap₂, subst, ◌∙◌}
-use Rattle.std.specs.Int.{int_bit_and, int_bit_or, int_bit_xor, int_bit_not, cast_unsigned}
+use Rattle.std.proofs.Common.{◌≡◌, ℕ, suc, ◌+◌, ◌-◌, ◌*◌, ◌/◌, ◌%◌, ◌^◌, ◌<◌, ◌≤◌, ℤ, pos, negsuc, ◌+ℤ◌, ◌-ℤ◌, ◌≤ℤ◌, ◌<ℤ◌, Option, Some, w64, to_z, bit_and, bit_or, bit_xor, arith, sym, ap, subst, ◌∙◌}
+use Rattle.std.specs.Int.{int_bit_not, cast_unsigned}
 use Rattle.std.specs.Int.Bits.{or_add_and, xor_add_and}
 use Rattle.std.proofs.lemmas.Int.{ints, to_z_pos}
 use Rattle.std.proofs.lemmas.Nat.{and_comm, or_comm, xor_comm, and_le_l, and_le_r, le_or_l, or_lt, xor_lt, and_mask, pow_pos, div-add-mod'}

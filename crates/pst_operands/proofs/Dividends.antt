@@ -1,12 +1,11 @@
 -- What a cut keeps of the dividends of wanted quotients.
-use Rattle.std.proofs.Common.{◌≡◌, ◌≢◌, ℤ, pos, ◌+ℤ◌, ◌-ℤ◌, ◌*ℤ◌, ◌≤ℤ◌, ◌<ℤ◌, int_div, int_rem, Some, arith, refl, sym, subst}
-use Rattle.std.proofs.lemmas.Int.{ints}
+use Rattle.std.proofs.Common.{◌≡◌, ◌≢◌, ℤ, pos, ◌+ℤ◌, ◌-ℤ◌, ◌*ℤ◌, ◌≤ℤ◌, ◌<ℤ◌, int_div, int_rem, Some, sym}
 use Rattle.pst_num.specs.Range.{in_range}
 use Rattle.pst_num.specs.Arithmetic.{quotient_of, remainder_of}
 use Rattle.pst_num.specs.Laws.{RoundsTowardsZero, IsTruncated}
 use Rattle.pst_expr.specs.declared.ranges.Span.{Span}
 use Rattle.pst_expr.specs.Spans.{IsInSpan}
-use Rattle.pst_operands.specs.Keeps.{Keeps, KeepsLeft, KeepsRight}
+use Rattle.pst_operands.specs.Keeps.{Keeps, KeepsLeft}
 use Rattle.pst_operands.proofs.Exactly.{exact, unless_zero, same_order}
 use Rattle.pst_operands.proofs.Products.{le_le, lt_le, le_lt}
 use Rattle.pst_operands.proofs.Quotients.{high_with_greater, high_with_lesser, low_with_greater, low_with_lesser, high_with_lower, high_with_nearer, low_with_lower, low_with_nearer}

@@ -1,6 +1,6 @@
 -- Quotients rounded up and down, from those rounded towards 0.
-use Rattle.std.proofs.Common.{◌≡◌, ◌≢◌, ◌⊎◌, inl, inr, ⊎_elim, ℕ, zero, suc, ◌<◌, ℤ, pos, negsuc, neg_ℤ, nat_abs, ◌+ℤ◌, ◌-ℤ◌, ◌*ℤ◌, ◌≤ℤ◌, ◌<ℤ◌, int_div, int_rem, arith, refl, sym, subst}
-use Rattle.std.proofs.lemmas.Int.{ints, quot-rem, rem_below}
+use Rattle.std.proofs.Common.{◌≡◌, ◌⊎◌, ⊎_elim, ◌<◌, ℤ, pos, neg_ℤ, nat_abs, ◌+ℤ◌, ◌-ℤ◌, ◌*ℤ◌, ◌≤ℤ◌, ◌<ℤ◌, arith, subst}
+use Rattle.std.proofs.lemmas.Int.{ints}
 use Rattle.pst_operands.proofs.Products.{le_le, lt_le, le_lt, never, weaker, up_left, down_left, more_times, less_times}
 
 pub at_most_or_more : (x q : ℤ) → (x ≤ℤ q) ⊎ ((q +ℤ pos 1) ≤ℤ x)

@@ -1,5 +1,5 @@
 -- What cuts keep where bits are wanted, and where a remainder is.
-use Rattle.std.proofs.Common.{◌≡◌, ℤ, pos, neg_ℤ, ◌+ℤ◌, ◌-ℤ◌, ◌≤ℤ◌, ◌<ℤ◌, int_rem, Option, Some, arith, sym, subst}
+use Rattle.std.proofs.Common.{◌≡◌, ℤ, pos, ◌+ℤ◌, ◌-ℤ◌, ◌≤ℤ◌, ◌<ℤ◌, int_rem, Some, arith, sym}
 use Rattle.std.proofs.lemmas.Int.{ints}
 use Rattle.pst_num.specs.Range.{greatest}
 use Rattle.pst_num.specs.Bits.{bits_and, bits_or, bits_xor}

@@ -1,8 +1,8 @@
 -- What a wanted quotient tells of the dividend.
-use Rattle.std.proofs.Common.{◌≡◌, ◌⊎◌, inl, inr, ⊎_elim, ℤ, pos, neg_ℤ, nat_abs, ◌<◌, ◌+ℤ◌, ◌-ℤ◌, ◌*ℤ◌, ◌≤ℤ◌, ◌<ℤ◌, int_div, int_rem, arith, refl, sym, ap, subst}
+use Rattle.std.proofs.Common.{◌≡◌, ℤ, pos, ◌+ℤ◌, ◌-ℤ◌, ◌*ℤ◌, ◌≤ℤ◌, ◌<ℤ◌, int_div, int_rem, arith, sym, subst}
 use Rattle.std.proofs.lemmas.Int.{ints}
 use Rattle.pst_num.specs.Laws.{IsTruncated}
-use Rattle.pst_operands.proofs.Products.{le_le, lt_le, le_lt, never, weaker, either_sign, up_left, down_left, up_right, down_right, more_times, less_times}
+use Rattle.pst_operands.proofs.Products.{le_le, lt_le, le_lt, weaker, up_left, down_left, up_right, down_right, more_times, less_times}
 use Rattle.std.proofs.Math.IntN.{zero-*ℤ}
 use Rattle.pst_operands.proofs.Divisions.{near_positive, near_negative, sum_below, sum_above, before_sum, after_sum}
 

@@ -1,10 +1,10 @@
 -- Numbers that leave a wanted residue, and remainders.
-use Rattle.std.proofs.Common.{◌≡◌, ◌⊎◌, inl, inr, ⊎_elim, ℕ, zero, suc, ◌%◌, ◌<◌, ◌≤◌, ℤ, pos, negsuc, neg_ℤ, nat_abs, ◌+ℤ◌, ◌-ℤ◌, ◌*ℤ◌, ◌≤ℤ◌, ◌<ℤ◌, int_div, int_rem, arith, refl, sym, subst}
+use Rattle.std.proofs.Common.{◌≡◌, ◌⊎◌, ⊎_elim, ℕ, zero, suc, ◌%◌, ◌<◌, ◌≤◌, ℤ, pos, negsuc, neg_ℤ, nat_abs, ◌+ℤ◌, ◌-ℤ◌, ◌*ℤ◌, ◌≤ℤ◌, ◌<ℤ◌, int_div, int_rem, arith, refl, subst}
 use Rattle.std.proofs.lemmas.Int.{ints, rem_below}
 use Rattle.std.proofs.Math.Nat.{mod-le}
 use Rattle.pst_num.specs.Laws.{IsTruncated}
 use Rattle.pst_operands.specs.Residues.{IsResidue}
-use Rattle.pst_operands.proofs.Products.{le_le, lt_le, le_lt, never, weaker, up_left, more_times, less_times}
+use Rattle.pst_operands.proofs.Products.{weaker, up_left, more_times, less_times}
 use Rattle.pst_operands.proofs.Divisions.{near_positive, at_most_or_more, at_most_less_or}
 
 pub residue_of : (x m : ℤ) → IsTruncated x m → pos 0 ≤ℤ x → pos 0 <ℤ m → IsResidue m x (int_rem x m)

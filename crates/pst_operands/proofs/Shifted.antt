@@ -1,5 +1,5 @@
 -- Powers of 2, and what a shift's value tells.
-use Rattle.std.proofs.Common.{◌≡◌, ℕ, ◌*◌, ◌^◌, ◌<◌, ◌≤◌, ℤ, pos, negsuc, ◌+ℤ◌, ◌*ℤ◌, ◌≤ℤ◌, ◌<ℤ◌, nat_lt, Bool, true, false, cond, Option, Some, None, arith, refl, sym, ap, ◌∙◌}
+use Rattle.std.proofs.Common.{◌≡◌, ℕ, ◌*◌, ◌^◌, ◌≤◌, ℤ, pos, negsuc, ◌+ℤ◌, ◌*ℤ◌, ◌≤ℤ◌, ◌<ℤ◌, nat_lt, Bool, true, false, cond, Option, Some, None, arith, refl, sym, ap, ◌∙◌}
 use Rattle.std.specs.Int.{int_shr}
 use Rattle.std.proofs.lemmas.Int.{ints}
 use Rattle.std.proofs.lemmas.Bool.Decides.{nat_tests}
@@ -7,7 +7,6 @@ use Rattle.std.proofs.Math.Pow.{pow_mono}
 use Rattle.pst_num.specs.Range.{in_range}
 use Rattle.pst_num.specs.Arithmetic.{product_of}
 use Rattle.pst_num.specs.Shifts.{shifted_left, shifted_right}
-use Rattle.pst_num.specs.Laws.{IsFloor}
 use Rattle.pst_expr.specs.declared.ranges.Span.{Span}
 use Rattle.pst_expr.specs.Spans.{IsInSpan}
 use Rattle.pst_operands.specs.Powers.{HasPowers}

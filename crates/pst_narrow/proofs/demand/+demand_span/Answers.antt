@@ -1,4 +1,4 @@
-use Rattle.std.proofs.Common.{◌≡◌, sym, subst}
+use Rattle.std.proofs.Common.{sym, subst}
 use Rattle.pst_expr.specs.Tree.{view, Binary}
 use Rattle.pst_narrow.specs.Narrowing.{IsStep, GivesIn}
 use Rattle.pst_narrow.specs.Parts.{GiveIn}

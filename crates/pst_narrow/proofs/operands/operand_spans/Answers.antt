@@ -1,4 +1,4 @@
-use Rattle.std.proofs.Common.{◌≡◌, true, not, sym, ◌∙◌}
+use Rattle.std.proofs.Common.{sym, ◌∙◌}
 use Rattle.pst_expr.specs.Tree.{view}
 use Rattle.pst_narrow.proofs.OperandLemmas.{operands_give}
 use Rattle.pst_narrow.proofs.operands.operand_spans.Goals as goal

@@ -1,6 +1,6 @@
-use Rattle.std.proofs.Common.{rules, ◌≡◌, pos, true, false, Ok, sym, subst, ap, ◌∙◌}
+use Rattle.std.proofs.Common.{rules, ◌≡◌, pos, false, Ok, sym, subst, ap, ◌∙◌}
 use Rattle.pst_expr.specs.Tree.{view, Binary}
-use Rattle.pst_expr.specs.declared.tree.BinaryOp.TheVariants.{And, Or, Implies}
+use Rattle.pst_expr.specs.declared.tree.BinaryOp.TheVariants.{And}
 use Rattle.pst_domain.specs.Laws.{IsNeverTrue}
 use Rattle.pst_narrow.specs.Logic.{IsSurelyTrue}
 use Rattle.pst_narrow.specs.Solutions.{IsMet}

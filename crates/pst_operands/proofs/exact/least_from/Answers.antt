@@ -1,4 +1,4 @@
-use Rattle.std.proofs.Common.{◌≡◌, ℤ, pos, ◌+ℤ◌, ◌-ℤ◌, ◌≤ℤ◌, int_div, int_rem, arith, sym, subst}
+use Rattle.std.proofs.Common.{◌≡◌, pos, ◌+ℤ◌, ◌≤ℤ◌, int_div, int_rem, arith, sym, subst}
 use Rattle.std.proofs.lemmas.Int.{ints, to_z-of_z, quot-rem, rem_below}
 use Rattle.pst_operands.proofs.Divisions.{near_positive, above_zero, up_more, up_whole}
 use Rattle.pst_operands.proofs.exact.least_from.Goals as goal

@@ -1,4 +1,4 @@
-use Rattle.std.proofs.Common.{◌≡◌, ℤ, pos, ◌+ℤ◌, ◌-ℤ◌, ◌≤ℤ◌, int_div, int_rem, arith, sym, subst}
+use Rattle.std.proofs.Common.{◌≡◌, pos, ◌-ℤ◌, ◌≤ℤ◌, int_div, int_rem, arith, sym, subst}
 use Rattle.std.proofs.lemmas.Int.{ints, to_z-of_z, quot-rem, rem_below}
 use Rattle.pst_operands.proofs.Divisions.{near_negative, under_zero, down_less_by_negative, down_whole_by_negative}
 use Rattle.pst_operands.proofs.exact.most_from.Goals as goal

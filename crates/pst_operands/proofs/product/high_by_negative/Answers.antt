@@ -1,4 +1,4 @@
-use Rattle.std.proofs.Common.{◌≡◌, ℤ, pos, FitsSigned, w64, rules, arith}
+use Rattle.std.proofs.Common.{FitsSigned, w64, rules, arith}
 use Rattle.std.specs.Int.{w128}
 use Rattle.std.proofs.lemmas.Int.{ints, to_z-of_z}
 use Rattle.pst_operands.proofs.Factors.{high_lower, high_nearer}

@@ -1,7 +1,6 @@
-use Rattle.std.proofs.Common.{◌≡◌, ℤ, pos, ◌+ℤ◌, ◌-ℤ◌, ◌*ℤ◌, ◌≤ℤ◌, ◌<ℤ◌, FitsSigned, w64, rules, arith, sym, subst}
+use Rattle.std.proofs.Common.{◌≡◌, pos, ◌-ℤ◌, ◌*ℤ◌, ◌≤ℤ◌, ◌<ℤ◌, FitsSigned, w64, rules, arith, sym, subst}
 use Rattle.std.specs.Int.{w128}
 use Rattle.std.proofs.lemmas.Int.{ints, to_z-of_z}
-use Rattle.pst_num.specs.Arithmetic.{sum_of, difference_of}
 use Rattle.pst_operands.specs.Keeps.{Keeps}
 use Rattle.pst_operands.proofs.Exactly.{exact}
 use Rattle.pst_operands.proofs.Dividends.{low_over, low_negative}

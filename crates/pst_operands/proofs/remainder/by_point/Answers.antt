@@ -1,12 +1,9 @@
-use Rattle.std.proofs.Common.{◌≡◌, ◌≢◌, ℤ, pos, neg_ℤ, negsuc, ◌^◌, ◌+ℤ◌, ◌-ℤ◌, ◌*ℤ◌, ◌≤ℤ◌, ◌<ℤ◌, int_div, int_rem, int_lt, int_le, FitsSigned, w64, Some, true, false, not, rules, arith, refl, sym, ap, subst, ◌∙◌}
-use Rattle.std.specs.Int.{w128}
+use Rattle.std.proofs.Common.{pos, ◌≤ℤ◌, ◌<ℤ◌, FitsSigned, w64, rules, arith, subst}
 use Rattle.std.proofs.lemmas.Int.{ints, to_z-of_z}
-use Rattle.pst_expr.specs.Spans.{IsInSpan}
-use Rattle.pst_num.specs.Arithmetic.{remainder_of}
 use Rattle.pst_operands.specs.Residues.{IsResidue}
-use Rattle.pst_operands.proofs.Residues.{residue_of, from_same, from_next, to_same, to_last, over_rest, under_rest}
+use Rattle.pst_operands.proofs.Residues.{residue_of}
 use Rattle.pst_operands.proofs.Dividends.{some_modulus, is_rest}
-use Rattle.pst_operands.proofs.Masks.{rest_at_least, rest_at_most, rest_found, not_negative}
+use Rattle.pst_operands.proofs.Masks.{not_negative}
 use Rattle.pst_operands.proofs.remainder.by_point.Goals as goal
 
 pub returns : goal.returns

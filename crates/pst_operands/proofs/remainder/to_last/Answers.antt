@@ -1,12 +1,8 @@
-use Rattle.std.proofs.Common.{◌≡◌, ◌≢◌, ℤ, pos, neg_ℤ, negsuc, ◌^◌, ◌+ℤ◌, ◌-ℤ◌, ◌*ℤ◌, ◌≤ℤ◌, ◌<ℤ◌, int_div, int_rem, int_lt, int_le, FitsSigned, w64, Some, true, false, not, rules, arith, refl, sym, ap, subst, ◌∙◌}
+use Rattle.std.proofs.Common.{◌≡◌, ◌+ℤ◌, ◌-ℤ◌, FitsSigned, w64, rules, arith, refl}
 use Rattle.std.specs.Int.{w128}
 use Rattle.std.proofs.lemmas.Int.{ints, to_z-of_z}
-use Rattle.pst_expr.specs.Spans.{IsInSpan}
-use Rattle.pst_num.specs.Arithmetic.{remainder_of}
 use Rattle.pst_operands.specs.Residues.{IsResidue}
-use Rattle.pst_operands.proofs.Residues.{residue_of, from_same, from_next, to_same, to_last, over_rest, under_rest}
-use Rattle.pst_operands.proofs.Dividends.{some_modulus, is_rest}
-use Rattle.pst_operands.proofs.Masks.{rest_at_least, rest_at_most, rest_found, not_negative}
+use Rattle.pst_operands.proofs.Residues.{to_same, to_last}
 use Rattle.pst_operands.proofs.remainder.to_last.Goals as goal
 
 pub returns-then-left-wanted : goal.returns-then-left-wanted

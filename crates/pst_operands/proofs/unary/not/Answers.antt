@@ -1,7 +1,3 @@
-use Rattle.std.proofs.Common.{◌≡◌, ◌≢◌, ℤ, pos, neg_ℤ, negsuc, ◌^◌, ◌+ℤ◌, ◌-ℤ◌, ◌*ℤ◌, ◌≤ℤ◌, ◌<ℤ◌, int_div, int_rem, int_lt, int_le, FitsSigned, w64, Some, true, false, not, rules, arith, refl, sym, ap, subst, ◌∙◌}
-use Rattle.std.specs.Int.{w128}
-use Rattle.std.proofs.lemmas.Int.{ints, to_z-of_z}
-use Rattle.pst_expr.specs.Spans.{IsInSpan}
 use Rattle.pst_expr.specs.Value.{is_false}
 use Rattle.pst_operands.proofs.Compared.{true_of, zero_in, is_zero}
 use Rattle.pst_operands.proofs.unary.not.Goals as goal
