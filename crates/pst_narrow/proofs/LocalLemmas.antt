@@ -1,16 +1,14 @@
 -- What a constraint narrows rests on the bounds of its own variables alone.
-use Rattle.std.proofs.Common.{◌≡◌, ◌⊎◌, inl, inr, ⊎_elim, ℕ, zero, suc, ◌<◌, ◌≤◌, ℤ, ◌≤ℤ◌, int_le, ◌&&◌, Bool, true, false, cond, List, [], ◌∷◌, length, get_or, Option, Some, None, refl, sym, ap, subst, ◌∙◌, arith}
+use Rattle.std.proofs.Common.{◌≡◌, ⊎_elim, ℕ, zero, suc, ℤ, ◌≤ℤ◌, int_le, ◌&&◌, Bool, true, false, cond, List, [], ◌∷◌, length, Option, Some, None, refl, sym, ap, subst, ◌∙◌, arith}
 use Rattle.std.proofs.lemmas.Int.{ints}
 use Rattle.std.proofs.lemmas.Bool.{cases_lt, and_parts}
 use Rattle.std.proofs.lemmas.List.{get_or_past}
 use Rattle.pst_expr.specs.declared.ranges.Span.{Span}
-use Rattle.pst_expr.specs.Spans.{IsInSpan}
 use Rattle.pst_expr.specs.Tree.{Expression}
-use Rattle.pst_expr.specs.Value.{value, variable_value}
+use Rattle.pst_expr.specs.Value.{variable_value}
 use Rattle.pst_domain.specs.Bounds.{bound_of, Holds, AreWithin}
 use Rattle.pst_narrow.specs.Solutions.{IsMet, IsTruth}
 use Rattle.pst_narrow.specs.Narrowing.{Narrows, HaveNone}
-use Rattle.pst_narrow.specs.Mentions.{Mentions}
 use Rattle.pst_narrow.specs.Local.{LiesWithin, LieWithin, IsLocal, IsLocallyUnmet, NarrowingIsLocal}
 use Rattle.pst_narrow.proofs.MentionLemmas.{values_same}
 

@@ -1,19 +1,21 @@
 -- What a logical operator says of its operands where it is met.
-use Rattle.std.proofs.Common.{◌≡◌, ◌≢◌, ℤ, pos, ◌≤ℤ◌, ◌<ℤ◌, Bool, true, false, cond, List, Option, Some, None, option_map, IfSome, Result, refl, sym, ap, ◌∙◌, arith}
+use Rattle.std.proofs.Common.{◌≡◌, ◌≢◌, ℤ, pos, ◌<ℤ◌, Bool, true, false, cond, List, Option, Some, None, option_map, IfSome, Result, refl, ap, arith}
 use Rattle.std.proofs.lemmas.Int.{ints}
 use Rattle.std.proofs.lemmas.Bool.Decides.{Decides-int_eq}
 use Rattle.pst_base.specs.declared.memory.NoMemory.{NoMemory}
 use Rattle.pst_expr.specs.declared.ranges.Span.{Span}
+use Rattle.pst_expr.specs.declared.tree.UnaryOp.TheVariants.{Not}
 use Rattle.pst_expr.specs.declared.tree.BinaryOp.TheVariants.{And, Or, Implies}
 use Rattle.pst_expr.specs.Spans.{IsInSpan}
 use Rattle.pst_expr.specs.Tree.{Expression, Binary}
-use Rattle.pst_expr.specs.Value.{value, is_false, truth_of, by_left}
-use Rattle.pst_domain.specs.Bounds.{Holds, AreWithin}
+use Rattle.pst_expr.specs.Value.{value, unary_value, number_of, is_false, truth_of, by_left}
+use Rattle.pst_domain.specs.Bounds.{Holds}
 use Rattle.pst_domain.specs.Laws.{IsNeverTrue, HoldsValues}
 use Rattle.pst_narrow.specs.declared.trail.Former.{Former}
 use Rattle.pst_narrow.specs.Solutions.{IsMet, IsTruth}
-use Rattle.pst_narrow.specs.Narrowing.{IsStep}
-use Rattle.pst_narrow.specs.Logic.{IsSurelyTrue}
+use Rattle.pst_operands.specs.Keeps.{KeepsOperand}
+use Rattle.pst_narrow.specs.Narrowing.{IsStep, IsIn, GivesIn}
+use Rattle.pst_narrow.specs.Logic.{IsSurelyTrue, GivesTruthIn}
 use Rattle.pst_narrow.proofs.NarrowLemmas.{step_from, step_then}
 
 -- a number whose truth is a truth is one
@@ -103,3 +105,36 @@ surely_above e bounds s t h values within = above s (value e values) t (h values
 
 pub surely_under : (e : Expression) (bounds : List (Option Span)) (s : Span) → s.high <ℤ pos 0 → HoldsValues (Some s) e bounds → IsSurelyTrue e bounds
 surely_under e bounds s t h values within = under s (value e values) t (h values within)
+
+-- ---- what is false, and what is true in a span
+
+abbrev nothing_true : Span
+nothing_true = record { low = pos 0; high = pos 0 }
+
+zero_in : (x : ℤ) → x ≡ pos 0 → IsInSpan x nothing_true
+zero_in x e = (omega (arith, ints, e), omega (arith, ints, e))
+
+unimplied : (x : ℤ) (b : Option ℤ) (c : Bool) → is_false x ≡ c → IfSome b (λ v. v ≡ pos 0) → IsTruth (cond c (Some (pos 1)) (option_map truth_of b)) → IsInSpan x nothing_true
+unimplied x b true e z h = zero_in x ((Decides-int_eq x (pos 0)).0 e)
+unimplied x b false e z h = absurd (no_truth b z (mapped_is b h))
+
+implies_false_of : (a b : Option ℤ) → IfSome b (λ v. v ≡ pos 0) → IsTruth (by_left a (option_map truth_of b) (Some (pos 1))) → IsIn nothing_true a
+implies_false_of None b z h = absurd h
+implies_false_of (Some x) b z h = unimplied x b (is_false x) refl z h
+
+pub implies_left : (p q : Expression) (a b : List (Option Span)) (t u : List Former) (r : Result Bool NoMemory) → IsNeverTrue q a → IsStep (GivesIn p (record { low = pos 0; high = pos 0 })) a b t u r → IsStep (IsMet (Binary Implies p q)) a b t u r
+implies_left p q a b t u r never h = step_from (IsMet (Binary Implies p q)) (GivesIn p (record { low = pos 0; high = pos 0 })) a b t u r h (λ values met within. implies_false_of (value p values) (value q values) (never values within) met)
+
+not_false : (x : ℤ) → x ≢ pos 0 → is_false x ≡ false
+not_false x h = go (is_false x) refl
+  where
+    go : (c : Bool) → is_false x ≡ c → c ≡ false
+    go true e = absurd (h ((Decides-int_eq x (pos 0)).0 e))
+    go false e = refl
+
+true_in : (s new : Span) → KeepsOperand (unary_value Not) s nothing_true new → (v : Option ℤ) → Holds (Some s) v → IsTruth v → IsIn new v
+true_in s new keeps None h m = absurd m
+true_in s new keeps (Some x) h m = keeps x (pos 0) h (zero_in (pos 0) refl) (ap (λ b. Some (number_of b)) (not_false x m))
+
+pub truth_gives : (e : Expression) (bounds : List (Option Span)) (s new : Span) → HoldsValues (Some s) e bounds → KeepsOperand (unary_value Not) s (record { low = pos 0; high = pos 0 }) new → GivesTruthIn e new bounds
+truth_gives e bounds s new sound keeps values within met = true_in s new keeps (value e values) (sound values within) met

@@ -1,5 +1,5 @@
 -- Variables that don't stand in an expression don't matter to it.
-use Rattle.std.proofs.Common.{◌≡◌, ◌⊎◌, inl, inr, ℕ, zero, suc, ◌+◌, ◌-◌, ◌<◌, ◌≤◌, ℤ, pos, negsuc, ◌-ℤ◌, ◌≤ℤ◌, int_le, nat_abs, nat_lt, Bool, true, false, cond, List, [], ◌∷◌, length, map, take, drop, get_or, Option, Some, None, option_and_then, refl, sym, ap, subst, ◌∙◌, arith}
+use Rattle.std.proofs.Common.{◌≡◌, inl, inr, ℕ, zero, suc, ◌+◌, ◌-◌, ◌<◌, ◌≤◌, ℤ, pos, negsuc, ◌-ℤ◌, ◌≤ℤ◌, int_le, nat_abs, nat_lt, Bool, true, false, cond, List, [], ◌∷◌, length, map, take, drop, get_or, Option, Some, None, option_and_then, refl, sym, ap, subst, ◌∙◌, arith}
 use Rattle.std.specs.Int.{int_min, int_max}
 use Rattle.std.proofs.lemmas.Int.{ints, clamps}
 use Rattle.std.proofs.lemmas.Bool.Decides.{nat_tests}
@@ -11,7 +11,7 @@ use Rattle.pst_domain.specs.Bounds.{bound_of, HasVariablesBelow}
 use Rattle.pst_domain.specs.Cut.{cut_span}
 use Rattle.pst_domain.specs.Interval.{interval, unary_span, binary_span}
 use Rattle.pst_domain.specs.Element.{joined_all, elements, element_span}
-use Rattle.pst_narrow.specs.Mentions.{IsElement, Mentions, SameValues, SameBounds}
+use Rattle.pst_narrow.specs.Mentions.{Mentions, SameValues, SameBounds}
 
 -- ---- values
 

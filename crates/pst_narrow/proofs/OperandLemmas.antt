@@ -1,63 +1,84 @@
--- Spans of the operands of sums and differences.
-use Rattle.std.proofs.Common.{◌≡◌, ℤ, ◌+ℤ◌, ◌-ℤ◌, ◌≤ℤ◌, List, Bool, true, false, cond, Option, Some, None, refl, sym, subst, arith}
-use Rattle.std.specs.Int.{int_min, int_max}
-use Rattle.std.proofs.lemmas.Int.{ints, clamps}
-use Rattle.pst_num.specs.Range.{is_in_range, in_range}
+-- Operands of which the values are wanted.
+use Rattle.std.proofs.Common.{◌≡◌, ℤ, List, true, Option, Some, None, option_and_then, refl, subst}
 use Rattle.pst_expr.specs.declared.ranges.Span.{Span}
 use Rattle.pst_expr.specs.Spans.{IsInSpan}
-use Rattle.pst_expr.specs.declared.tree.BinaryOp.TheVariants.{Add, Sub}
+use Rattle.pst_expr.specs.declared.tree.UnaryOp.{UnaryOp}
+use Rattle.pst_expr.specs.declared.tree.BinaryOp.{BinaryOp}
+use Rattle.pst_expr.specs.declared.tree.BinaryOp.TheVariants.{Mul, Div, Rem, Add, Sub, Shl, Shr, Less, LessOrEqual, Greater, GreaterOrEqual, Equal, NotEqual, BitAnd, BitXor, BitOr, And, Or, Implies}
 use Rattle.pst_expr.specs.Tree.{Expression}
-use Rattle.pst_expr.specs.Value.{both, value}
+use Rattle.pst_expr.specs.Value.{value, unary_value, binary_value}
 use Rattle.pst_domain.specs.Bounds.{Holds}
+use Rattle.pst_domain.specs.Laws.{HoldsValues}
+use Rattle.pst_operands.specs.declared.operands.Operands.{Operands}
+use Rattle.pst_operands.specs.Keeps.{KeepsOperand}
+use Rattle.pst_operands.specs.Operands.{KeepOperands, applied}
 use Rattle.pst_narrow.specs.declared.parts.Parts.{Parts}
 use Rattle.pst_narrow.specs.Narrowing.{IsIn}
-use Rattle.pst_narrow.specs.Operands.{least_from, most_to, of_sum, of_difference, AreOperands, GiveOperands}
+use Rattle.pst_narrow.specs.Operands.{needs_both, GiveOperands, GivesOperand}
 use Rattle.pst_narrow.specs.Parts.{AreBoth}
 
--- a number of a span that lies between two numbers
-from_low : (x z : ℤ) (s : Span) → IsInSpan x s → z ≤ℤ x → least_from (in_range z) s ≤ℤ x
-from_low x z s at above = go (is_in_range z)
-  where
-    go : (b : Bool) → least_from (cond b (Some z) None) s ≤ℤ x
-    go true = omega (arith, ints, clamps, at.0, above)
-    go false = at.0
+nothing_left : (op : BinaryOp) (b : Option ℤ) → binary_value op None b ≡ None
+nothing_left Mul b = refl
+nothing_left Div b = refl
+nothing_left Rem b = refl
+nothing_left Add b = refl
+nothing_left Sub b = refl
+nothing_left Shl b = refl
+nothing_left Shr b = refl
+nothing_left Less b = refl
+nothing_left LessOrEqual b = refl
+nothing_left Greater b = refl
+nothing_left GreaterOrEqual b = refl
+nothing_left Equal b = refl
+nothing_left NotEqual b = refl
+nothing_left BitAnd b = refl
+nothing_left BitXor b = refl
+nothing_left BitOr b = refl
+nothing_left And b = refl
+nothing_left Or b = refl
+nothing_left Implies b = refl
 
-to_high : (x z : ℤ) (s : Span) → IsInSpan x s → x ≤ℤ z → x ≤ℤ most_to (in_range z) s
-to_high x z s at below = go (is_in_range z)
-  where
-    go : (b : Bool) → x ≤ℤ most_to (cond b (Some z) None) s
-    go true = omega (arith, ints, clamps, at.1, below)
-    go false = at.1
+nothing_right : (op : BinaryOp) (x : ℤ) → needs_both op ≡ true → binary_value op (Some x) None ≡ None
+nothing_right Mul x e = refl
+nothing_right Div x e = refl
+nothing_right Rem x e = refl
+nothing_right Add x e = refl
+nothing_right Sub x e = refl
+nothing_right Shl x e = refl
+nothing_right Shr x e = refl
+nothing_right Less x e = refl
+nothing_right LessOrEqual x e = refl
+nothing_right Greater x e = refl
+nothing_right GreaterOrEqual x e = refl
+nothing_right Equal x e = refl
+nothing_right NotEqual x e = refl
+nothing_right BitAnd x e = refl
+nothing_right BitXor x e = refl
+nothing_right BitOr x e = refl
+nothing_right And x e = absurd cc
+nothing_right Or x e = absurd cc
+nothing_right Implies x e = absurd cc
 
-sums_are : (spans : Parts) (w : Span) → AreOperands ◌+ℤ◌ spans w (of_sum spans w)
-sums_are spans w x y left right at = (
-  (from_low x (w.low -ℤ spans.right.high) spans.left left (omega (arith, ints, right.1, at.0)), to_high x (w.high -ℤ spans.right.low) spans.left left (omega (arith, ints, right.0, at.1))),
-  (from_low y (w.low -ℤ spans.left.high) spans.right right (omega (arith, ints, left.1, at.0)), to_high y (w.high -ℤ spans.left.low) spans.right right (omega (arith, ints, left.0, at.1))),
-)
+-- a value that is wanted
+there : (w : Span) (v : Option ℤ) → IsIn w v → (z : ℤ) × (v ≡ Some z) × IsInSpan z w
+there w None h = absurd h
+there w (Some z) h = (z, refl, h)
 
-differences_are : (spans : Parts) (w : Span) → AreOperands ◌-ℤ◌ spans w (of_difference spans w)
-differences_are spans w x y left right at = (
-  (from_low x (w.low +ℤ spans.right.low) spans.left left (omega (arith, ints, right.0, at.0)), to_high x (w.high +ℤ spans.right.high) spans.left left (omega (arith, ints, right.1, at.1))),
-  (from_low y (spans.left.low -ℤ w.high) spans.right right (omega (arith, ints, left.0, at.1)), to_high y (spans.left.high -ℤ w.low) spans.right right (omega (arith, ints, left.1, at.0))),
-)
+module _ (op : BinaryOp) (s t w : Span) (new : Operands) (strict : needs_both op ≡ true) (keeps : KeepOperands (applied op) (record { left = s; right = t }) w new) where
+  of_values : (a b : Option ℤ) → Holds (Some s) a → Holds (Some t) b → IsIn w (binary_value op a b) → IsIn new.left a × IsIn new.right b
+  of_values None b h k given = absurd (subst (IsIn w) (nothing_left op b) given)
+  of_values (Some x) None h k given = absurd (subst (IsIn w) (nothing_right op x strict) given)
+  of_values (Some x) (Some y) h k given =
+      let found = there w (binary_value op (Some x) (Some y)) given in
+      (keeps.left x y found.0 h k found.2 found.1, keeps.right x y found.0 h k found.2 found.1)
 
--- a value that is there is the exact number
-exact : (z : ℤ) (w : Span) → IsIn w (in_range z) → IsInSpan z w
-exact z w h = go (is_in_range z) h
-  where
-    go : (b : Bool) → IsIn w (cond b (Some z) None) → IsInSpan z w
-    go true k = k
-    go false k = absurd k
+pub operands_give : (op : BinaryOp) (p q : Expression) (bounds : List (Option Span)) (spans : Parts) (w : Span) (new : Operands) → needs_both op ≡ true → AreBoth p q bounds spans → KeepOperands (applied op) (record { left = spans.left; right = spans.right }) w new → GiveOperands op p q w (record { left = new.left; right = new.right }) bounds
+operands_give op p q bounds spans w new strict both keeps values within given =
+    of_values op spans.left spans.right w new strict keeps (value p values) (value q values) (both.left values within) (both.right values within) given
 
-operands_of : (f : ℤ → ℤ → ℤ) (spans : Parts) (wanted : Span) (parts : Parts) (p q : Option ℤ) → AreOperands f spans wanted parts → Holds (Some spans.left) p → Holds (Some spans.right) q → IsIn wanted (both (λ x y. in_range (f x y)) p q) → IsIn parts.left p × IsIn parts.right q
-operands_of f spans wanted parts None q are h k given = absurd given
-operands_of f spans wanted parts (Some x) None are h k given = absurd given
-operands_of f spans wanted parts (Some x) (Some y) are h k given = are x y h k (exact (f x y) wanted given)
+of_value : (op : UnaryOp) (s w new : Span) → KeepsOperand (unary_value op) s w new → (a : Option ℤ) → Holds (Some s) a → IsIn w (option_and_then (unary_value op) a) → IsIn new a
+of_value op s w new keeps None h given = absurd given
+of_value op s w new keeps (Some x) h given = let found = there w (unary_value op x) given in keeps x found.0 h found.2 found.1
 
-pub sum_gives : (p q : Expression) (bounds : List (Option Span)) (spans : Parts) (w : Span) → AreBoth p q bounds spans → GiveOperands Add p q w (of_sum spans w) bounds
-sum_gives p q bounds spans w h values within given =
-    operands_of ◌+ℤ◌ spans w (of_sum spans w) (value p values) (value q values) (sums_are spans w) (h.left values within) (h.right values within) given
-
-pub difference_gives : (p q : Expression) (bounds : List (Option Span)) (spans : Parts) (w : Span) → AreBoth p q bounds spans → GiveOperands Sub p q w (of_difference spans w) bounds
-difference_gives p q bounds spans w h values within given =
-    operands_of ◌-ℤ◌ spans w (of_difference spans w) (value p values) (value q values) (differences_are spans w) (h.left values within) (h.right values within) given
+pub operand_gives : (op : UnaryOp) (p : Expression) (bounds : List (Option Span)) (s w new : Span) → HoldsValues (Some s) p bounds → KeepsOperand (unary_value op) s w new → GivesOperand op p w new bounds
+operand_gives op p bounds s w new sound keeps values within given = of_value op s w new keeps (value p values) (sound values within) given

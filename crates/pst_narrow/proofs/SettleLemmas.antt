@@ -1,10 +1,9 @@
 -- Looking at constraints again where a bound of one of their variables moved.
-use Rattle.std.proofs.Common.{◌≡◌, ◌⊎◌, inl, inr, ℕ, zero, suc, ◌+◌, ◌-◌, ◌<◌, ◌≤◌, ℤ, pos, List, [], ◌∷◌, ◌++◌, length, map, take, drop, get_or, Bool, true, false, not, Option, Some, None, option_map, Result, Ok, All, IfSome, refl, sym, ap, subst, ◌∙◌, arith}
-use Rattle.std.specs.Prelude.{slice_get, Contains}
+use Rattle.std.proofs.Common.{◌≡◌, ◌⊎◌, inl, inr, ℕ, zero, suc, ◌+◌, ◌-◌, ◌<◌, ◌≤◌, List, [], ◌∷◌, ◌++◌, length, map, drop, get_or, Bool, true, false, not, Option, Some, None, option_map, Result, Ok, refl, sym, ap, subst, ◌∙◌, arith}
+use Rattle.std.specs.Prelude.{Contains}
 use Rattle.std.specs.Global.{Vec}
-use Rattle.std.proofs.lemmas.Bool.{cases_lt}
-use Rattle.std.proofs.lemmas.List.{length-append, length-map, drop_at, drop_all, drop-append-le, get_or-set_other, get_or_append_left, get_or_at, get_or_default, get_or-drop, length-drop, drop_more}
-use Rattle.std.proofs.lemmas.List.Elements.{All-append, All-nil}
+use Rattle.std.proofs.lemmas.List.{length-append, length-map, drop_at, drop_all, drop-append-le, get_or-set_other, get_or_default, get_or-drop, length-drop, drop_more}
+use Rattle.std.proofs.lemmas.List.Elements.{All-append}
 use Rattle.std.proofs.lemmas.Option.{slice_get-get_or, slice_get-map, slice_get_read, slice_get_within}
 use Rattle.pst_base.specs.declared.memory.NoMemory.{NoMemory}
 use Rattle.pst_expr.specs.declared.ranges.Span.{Span}
@@ -12,19 +11,19 @@ use Rattle.pst_expr.specs.declared.tree.Expr.{Expr}
 use Rattle.pst_expr.specs.Tree.{Expression, view}
 use Rattle.pst_expr.specs.Value.{value}
 use Rattle.pst_domain.specs.Bounds.{bound_of, AreUpright}
-use Rattle.pst_domain.specs.Interval.{interval, is_refused}
+use Rattle.pst_domain.specs.Interval.{is_refused}
 use Rattle.pst_domain.specs.Laws.{IsNeverTrue}
 use Rattle.pst_narrow.specs.declared.trail.Former.{Former}
 use Rattle.pst_narrow.specs.declared.watch.Watch.{Watch}
 use Rattle.pst_narrow.specs.Trail.{put_back, AreBelow, Extends}
 use Rattle.pst_narrow.specs.Solutions.{IsMet, AreMet}
-use Rattle.pst_narrow.specs.Narrowing.{IsStep, HaveNone, AreOpen}
+use Rattle.pst_narrow.specs.Narrowing.{IsStep, AreOpen}
 use Rattle.pst_narrow.specs.Cuts.{CutIsMade}
 use Rattle.pst_narrow.specs.Mentions.{Mentions}
-use Rattle.pst_narrow.specs.Watch.{Rows, Has, IsRow, IsNumbered, IsWatch}
+use Rattle.pst_narrow.specs.Watch.{IsRow, IsNumbered, IsWatch}
 use Rattle.pst_narrow.specs.Settled.{IsQuiet, IsUnrefused, QuietAreOpen, AreLookedAt, IsOfRow}
 use Rattle.pst_narrow.proofs.NarrowLemmas.{step_self, step_then, step_true}
-use Rattle.pst_narrow.proofs.ListLemmas.{at, AreRevised, none_revised, one_step, one_revised, never_met}
+use Rattle.pst_narrow.proofs.ListLemmas.{at, AreRevised, none_revised, one_revised, never_met}
 use Rattle.pst_narrow.proofs.MentionLemmas.{spans_same}
 
 -- ---- changes that don't concern a constraint

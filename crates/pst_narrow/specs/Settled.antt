@@ -1,6 +1,5 @@
 -- Constraints that are looked at again where a bound of one of their variables moved.
-use Rattle.std.specs.Prelude.{◌≡◌, ℕ, ◌⊎◌, List, length, drop, All, Bool, true, false, Option, Result, Ok, Contains}
-use Rattle.pst_base.specs.declared.memory.NoMemory.{NoMemory}
+use Rattle.std.specs.Prelude.{◌≡◌, ℕ, ◌⊎◌, List, length, drop, All, false, Option, Contains}
 use Rattle.pst_expr.specs.declared.ranges.Span.{Span}
 use Rattle.pst_expr.specs.Tree.{Expression}
 use Rattle.pst_domain.specs.Interval.{interval, is_refused}

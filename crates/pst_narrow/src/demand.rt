@@ -1,11 +1,11 @@
-// The variables of an expression, cut through sums and differences.
+// The variables of an expression, cut through its operators.
 ghost use Rattle.std.specs.Prelude.{◌≡◌, ◌<◌, length, true, Ok, Some};
 ghost use Rattle.pst_expr.specs.Tree.{view};
 ghost use Rattle.pst_domain.specs.Bounds.{AreUpright, IsInside, HasVariablesBelow};
 ghost use Rattle.pst_narrow.specs.Narrowing.{IsStep, GivesIn};
 ghost use Rattle.pst_narrow.specs.Cuts.{IsSide, side};
 
-use crate::operands::operand_spans;
+use crate::operands::{operand_span, operand_spans};
 use crate::require::require;
 use crate::trail::Trail;
 use pst_base::NoMemory;
@@ -27,17 +27,25 @@ pub fn demand_span(
     ensures step { IsStep (GivesIn (view expr.now) wanted) bounds.old bounds.new trail.old trail.new result }
     ensures side { result ≡ Ok true → IsSide (view expr.now) → IsInside (side (view expr.now) bounds.new) (Some wanted) }
 {
-    let Expr::Binary(op, left, right) = expr else {
-        return require(expr, wanted, bounds, trail);
-    };
-    if expr.left_end().0 > LONGEST {
-        return Ok(true);
+    match expr {
+        Expr::Unary(op, operand) => {
+            let Some(span) = operand_span(*op, operand, wanted, bounds) else {
+                return Ok(true);
+            };
+            demand_span(operand, span, bounds, trail)
+        }
+        Expr::Binary(op, left, right) => {
+            if expr.left_end().0 > LONGEST {
+                return Ok(true);
+            }
+            let Some(parts) = operand_spans(*op, left, right, wanted, bounds) else {
+                return Ok(true);
+            };
+            if !demand_span(right, parts.right, bounds, trail)? {
+                return Ok(false);
+            }
+            demand_span(left, parts.left, bounds, trail)
+        }
+        _ => require(expr, wanted, bounds, trail),
     }
-    let Some(parts) = operand_spans(*op, left, right, wanted, bounds) else {
-        return Ok(true);
-    };
-    if !demand_span(right, parts.right, bounds, trail)? {
-        return Ok(false);
-    }
-    demand_span(left, parts.left, bounds, trail)
 }

@@ -1,4 +1,4 @@
-use Rattle.std.proofs.Common.{◌≡◌, sym, subst}
+use Rattle.std.proofs.Common.{sym, subst}
 use Rattle.std.proofs.lemmas.Result.{on_ok_weaker}
 use Rattle.pst_expr.specs.Tree.{view}
 use Rattle.pst_narrow.specs.Mentions.{Mentions, IsElement, AreNoted}

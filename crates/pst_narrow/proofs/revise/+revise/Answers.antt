@@ -1,12 +1,12 @@
-use Rattle.std.proofs.Common.{rules, ◌≡◌, true, false, Ok, sym, subst, ap, ◌∙◌}
+use Rattle.std.proofs.Common.{rules, ◌≡◌, pos, false, Ok, sym, subst, ap, ◌∙◌}
 use Rattle.pst_expr.specs.Tree.{view, Binary}
-use Rattle.pst_expr.specs.declared.tree.BinaryOp.TheVariants.{And, Or, Implies}
+use Rattle.pst_expr.specs.declared.tree.BinaryOp.TheVariants.{And}
 use Rattle.pst_domain.specs.Laws.{IsNeverTrue}
 use Rattle.pst_narrow.specs.Logic.{IsSurelyTrue}
 use Rattle.pst_narrow.specs.Solutions.{IsMet}
-use Rattle.pst_narrow.specs.Narrowing.{IsStep}
+use Rattle.pst_narrow.specs.Narrowing.{IsStep, GivesIn}
 use Rattle.pst_narrow.proofs.NarrowLemmas.{step_err, step_as, not_is_true}
-use Rattle.pst_narrow.proofs.LogicLemmas.{and_step, and_first, or_right, or_left, implies_right}
+use Rattle.pst_narrow.proofs.LogicLemmas.{and_step, and_first, or_right, or_left, implies_right, implies_left}
 use Rattle.pst_narrow.proofs.revise.+revise.Goals as goal
 
 pub returns-in_err-revise-in-And-clause-step : goal.returns-in_err-revise-in-And-clause-step
@@ -86,3 +86,16 @@ returns-then-is_surely_true-clause-step t c =
     let sure : IsSurelyTrue l a = subst (λ z. IsSurelyTrue (view z) a) c.deref-in-Implies.ensures (c.is_surely_true.ensures c.if-is_surely_true.true) in
     let right : IsStep (IsMet r) a b t1 u q = subst (λ z. IsStep (IsMet (view z)) a b t1 u q) c.deref-then-is_surely_true.ensures c.revise-then-is_surely_true.ensures.step in
     subst (λ z. IsStep (IsMet (view z)) a b t1 u q) (sym c.in-Binary.is) (subst (λ o. IsStep (IsMet (Binary o l r)) a b t1 u q) (sym c.in-Implies.is) (implies_right l r a b t1 u q sure right))
+
+pub returns-then-refused-3-clause-step : goal.returns-then-refused-3-clause-step
+returns-then-refused-3-clause-step t c =
+    let l = view c.in-Binary.left.value in
+    let r = view c.in-Binary.right.value in
+    let a = c.args.bounds.now in
+    let b = c.demand_span.new.bounds in
+    let t1 = c.args.trail.now in
+    let u = c.demand_span.new.trail in
+    let q = c.demand_span.result in
+    let never : IsNeverTrue r a = subst (λ z. IsNeverTrue (view z) a) c.deref-in-Implies-2.ensures (c.refused-in-Implies.ensures.sound c.if-refused-3.true) in
+    let left : IsStep (GivesIn l (record { low = pos 0; high = pos 0 })) a b t1 u q = subst (λ z. IsStep (GivesIn (view z) (record { low = pos 0; high = pos 0 })) a b t1 u q) c.deref-then-refused-3.ensures c.demand_span.ensures.step in
+    subst (λ z. IsStep (IsMet (view z)) a b t1 u q) (sym c.in-Binary.is) (subst (λ o. IsStep (IsMet (Binary o l r)) a b t1 u q) (sym c.in-Implies.is) (implies_left l r a b t1 u q never left))

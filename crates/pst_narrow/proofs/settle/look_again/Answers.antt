@@ -1,4 +1,4 @@
-use Rattle.std.proofs.Common.{◌≡◌, not, Ok, sym, ◌∙◌}
+use Rattle.std.proofs.Common.{not, Ok, sym, ◌∙◌}
 use Rattle.pst_expr.specs.Tree.{view}
 use Rattle.pst_narrow.proofs.NarrowLemmas.{ok_not_false}
 use Rattle.pst_narrow.proofs.SettleLemmas.{tested_only, ok_not_true}

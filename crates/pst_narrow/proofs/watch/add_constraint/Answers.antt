@@ -1,4 +1,4 @@
-use Rattle.std.proofs.Common.{◌≡◌, ◌+◌, ◌<◌, ◌^◌, [], ◌++◌, ◌∷◌, inl, inr, ℕ, length, map, sym, subst, ap, ◌∙◌, arith}
+use Rattle.std.proofs.Common.{◌≡◌, ◌^◌, inl, inr, length, map, subst}
 use Rattle.std.specs.Prelude.{Contains}
 use Rattle.pst_expr.specs.Tree.{view}
 use Rattle.pst_domain.specs.Bounds.{HasVariablesBelow}

@@ -1,4 +1,4 @@
-use Rattle.std.proofs.Common.{◌≡◌, ◌<◌, length, sym, subst, arith}
+use Rattle.std.proofs.Common.{arith}
 use Rattle.pst_narrow.proofs.NotedLemmas.{item_in, item_is, for_none, for_more, for_all}
 use Rattle.pst_narrow.proofs.watch.add_to_rows.Goals as goal
 

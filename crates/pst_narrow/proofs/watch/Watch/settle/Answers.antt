@@ -1,4 +1,4 @@
-use Rattle.std.proofs.Common.{rules, ◌≡◌, ◌<◌, List, length, map, get_or, true, false, None, Ok, sym, subst, ap, ◌∙◌, arith}
+use Rattle.std.proofs.Common.{rules, ◌≡◌, ◌<◌, List, length, map, get_or, true, false, None, Ok, subst, ap, ◌∙◌, arith}
 use Rattle.std.proofs.lemmas.List.{get_or_default, length-map}
 use Rattle.pst_expr.specs.Tree.{view}
 use Rattle.pst_narrow.specs.declared.trail.Former.{Former}

@@ -1,0 +1,12 @@
+mod Exactly
+mod Products
+mod Divisions
+mod Factors
+mod Quotients
+mod Dividends
+mod Residues
+mod Shifted
+mod Digits
+mod Summands
+mod Compared
+mod Masks
