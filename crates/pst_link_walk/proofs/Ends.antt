@@ -12,12 +12,12 @@ use Rattle.pst_longer.proofs.Goes.{Stands as Relates, After, Goes, stands, goes_
 use Rattle.pst_longer.proofs.Readers.{goes_tree, goes_supply}
 use Rattle.pst_longer.proofs.Read.{Any, any_fields, AnyWay, any_ways}
 use Rattle.pst_supply.specs.Walks.{Kept as Supply}
-use Rattle.pst_link_walk.specs.Walks.{Kept, tree_reading, reading, IsUsed, IsEnd, AtEnd}
+use Rattle.pst_link_walk.specs.Walks.{Kept, tree_reading, reading, IsUsed, IsEnd, AtEnd, HasTree}
 use Rattle.pst_link_walk.specs.Made.{IsInside, choices_of, IsBehind, Stands}
 use Rattle.pst_link_walk.proofs.Cut.{Cuts, cuts_tree, cuts_supply, cuts_then}
 use Rattle.pst_link_walk.proofs.Used.{next_used, back_inside}
 use Rattle.pst_link_walk.proofs.Plain.{IsPlain, IfThere, plain_tree}
-use Rattle.pst_link_walk.proofs.Walking.{tree_place, supply_place, inside_answer, behind_reads, tree_plain}
+use Rattle.pst_link_walk.proofs.Walking.{tree_on, tree_place, supply_place, inside_answer, behind_reads, tree_plain}
 
 -- sources change neither the level nor the first objects
 abbrev SameRest : Scenario → Scenario → Type 0
@@ -63,6 +63,12 @@ module _ (m : Model) (root seed level : ℕ) where
       subst (AtEnd (kept_at (xs ++ ys))) (sym (behind_reads m root seed level xs k behind ys))
       (behind_end xs ys behind.tree behind.place (tree_place (view_model m) seed root level xs behind.tree behind.place behind.reads)
       (tree_plain m root seed level xs behind.tree behind.place [] behind.reads) S refl behind.used (same_supply (view_model m) seed behind.tree behind.place ys))
+
+  -- a walk over the sources stands behind the activity
+  pub behind_tree : (xs : List ℕ) (supply : Option Supply) (k : Supply) → supply ≡ Some k → Stands m root seed level xs supply → HasTree (kept_at (xs ++ choices_of supply))
+  behind_tree xs supply k is stands =
+      let behind : IsBehind m root seed level xs k = subst (Stands m root seed level xs) is stands in
+      (behind.tree, behind.place, choices_of supply, tree_on (view_model m) seed root level xs behind.tree behind.place [] behind.reads (choices_of supply))
 
   -- ---- the whole reading, as a function of the choices
 

@@ -47,3 +47,7 @@ abbrev pub AtEnd : Kept → Reading → Type 0
 AtEnd k (Wants s n) = (s.level ≡ k.level) × (s.firsts ≡ [])
 AtEnd k Stops = Unit {0}
 AtEnd k (Reads s place left) = IsEnd k s place left
+
+-- the activity is read through
+abbrev pub HasTree : Kept → Type 0
+HasTree k = (tree : Scenario) × (place : ℕ) × (left : List ℕ) × (tree_reading k.model k.root k.seed k.level k.choices ≡ Reads tree place left)

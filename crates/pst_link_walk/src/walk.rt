@@ -1,9 +1,9 @@
 //! Walks through the choices of an activity and of its sources.
-ghost use Rattle.std.specs.Prelude.{◌≡◌, ℕ, ◌+◌, ◌++◌, ◌<◌, IfOk, OnOk, OnErr, length, slice_get, []};
+ghost use Rattle.std.specs.Prelude.{◌≡◌, ℕ, ◌+◌, ◌++◌, ◌<◌, true, IfOk, OnOk, OnErr, length, slice_get, []};
 ghost use Rattle.pst_model.specs.ModelView.{view_model};
 ghost use Rattle.pst_legal.specs.ValueReading.{answer_of};
 ghost use Rattle.pst_shape.specs.Walks.{next_of, IfRead, HasDigit};
-ghost use Rattle.pst_link_walk.specs.Walks.{with_choice, tree_reading, reading, answer, IsUsed, AtEnd};
+ghost use Rattle.pst_link_walk.specs.Walks.{with_choice, tree_reading, reading, answer, IsUsed, AtEnd, HasTree};
 ghost use Rattle.pst_link_walk.specs.Made.{shape_of, IsInside, Begins, Goes};
 ghost use Rattle.pst_link_walk.specs.News.{IsSize, IsNews, OpensFrom, AreChanged, act_of, far_act};
 
@@ -230,6 +230,21 @@ impl<'a> LinkWalk<'a> {
     {
         let count = sum(self.made, self.linked)?;
         Ok(count)
+    }
+
+    /// Whether the activity is read through, so that sources are being chosen or have been.
+    pub fn is_behind(&self) -> bool
+        ensures { result ≡ true → HasTree self.now }
+    {
+        match &self.supply {
+            None => false,
+            Some(_supply) => true,
+        }
+    }
+
+    /// How many sources are chosen.
+    pub fn sources(&self) -> u64 {
+        self.linked
     }
 
     /// The nodes so far, in preorder.

@@ -1,5 +1,5 @@
 -- What is told of the constraints of a list, by its parts.
-use Rattle.std.proofs.Common.{◌≡◌, ℕ, List, [], ◌++◌, Bool, Option, Some, None, refl, sym, ap, ◌∙◌, subst}
+use Rattle.std.proofs.Common.{◌≡◌, ℕ, List, [], ◌++◌, Bool, Option, Some, None, refl, sym, ap, ◌∙◌, subst, append-nil}
 use Rattle.pst_model.specs.declared.model.Model.{Model}
 use Rattle.pst_model.specs.ModelTree.{ModelTree}
 use Rattle.pst_model.specs.ModelView.{view_model}
@@ -7,14 +7,16 @@ use Rattle.pst_scen.specs.declared.act.Act.{Act}
 use Rattle.pst_scen.specs.declared.tree.Node.{Node}
 use Rattle.pst_scen.specs.declared.scenario.First.{First}
 use Rattle.pst_scen.specs.declared.scenario.Scenario.{Scenario}
-use Rattle.pst_legal.specs.ValueReading.{Answer, Options, Dead, Whole}
+use Rattle.pst_legal.specs.Reading.{Reading, Wants, Stops, Reads}
+use Rattle.pst_legal.specs.ValueReading.{Answer, Options, Dead, Whole, answer_of}
 use Rattle.pst_shape.specs.Walks.{IfRead}
 use Rattle.pst_read_nodes.specs.Laws.{NodesStandForPieces}
 use Rattle.pst_refusals.specs.Answers.{StandEarlier, TellsRefusals}
 use Rattle.pst_plan_so_far.specs.Laws.{ReadsSources}
+use Rattle.pst_order_ahead.specs.LaidOut.{ReadsTree}
 use Rattle.pst_value_walk.specs.Walks.{Kept as Values, answer as value_answer}
 use Rattle.pst_value_walk.specs.Walks.{IfRead as ValueRead}
-use Rattle.pst_link_walk.specs.Walks.{Kept, reading, AtEnd}
+use Rattle.pst_link_walk.specs.Walks.{Kept, reading, AtEnd, HasTree}
 use Rattle.pst_link_walk.specs.Walks.{answer as link_answer}
 use Rattle.pst_link_walk.specs.Made.{IsInside}
 use Rattle.pst_list_walk.specs.Walks.{answer, IsRead}
@@ -32,6 +34,12 @@ made_copy (Options s n) level nodes read acts firsts same none ns acs =
 made_copy Dead level nodes read acts firsts same none ns acs = tt
 made_copy (Whole s) level nodes read acts firsts same none ns acs =
     ap (λ x. scenario_by level x acts firsts) (same ∙ ns) ∙ ap (λ x. scenario_by level s.nodes x firsts) acs ∙ ap (λ x. scenario_by level s.nodes s.actions x) none
+
+-- a scenario that is being linked has the level that was asked for and no first objects
+linked_in : (k : Kept) (r : Reading) (s : Scenario) → IsInside r → AtEnd k r → IfRead (answer_of r) (λ t. s ≡ linked_of k.level t) → IfRead (answer_of r) (λ t. s ≡ t)
+linked_in k (Wants t n) s inside end same = same ∙ same_scenario t k.level t.nodes t.actions [] (sym end.0) refl refl (sym end.1)
+linked_in k Stops s inside end same = tt
+linked_in k (Reads t place left) s inside end same = absurd inside
 
 pub told_of : (m : ModelTree) (s : Scenario) (nodes : List Node) (actions : List Act) (firsts : List First) (r : Bool) → nodes ≡ s.nodes → actions ≡ s.actions → firsts ≡ s.firsts → TellsRefusals m (scenario_by s.level nodes actions firsts) r
     → TellsRefusals m s r
@@ -76,6 +84,20 @@ module _ (m : Model) (root seed level : ℕ) where
       subst (λ a. IfRead a (λ s. TellsRefusals (view_model m) s r)) (inside_is links values e none stands)
       (tells (view_model m) (link_answer links) level nodes acts firsts r (subst (λ n. IfRead (link_answer links) (λ s. n ≡ s.level)) of_level (inside_level links inside end)) ns acs
       (subst (λ f. IfRead (link_answer links) (λ s. f ≡ s.firsts)) (sym empty) (inside_firsts links inside end)) told)
+
+  pub inside_copied : (links : Kept) (values : Option Values) (s : Scenario) → links ≡ kept_at m root seed level links.choices → values ≡ None → Stands m root seed level links.choices values
+      → AtEnd links (reading links) → IfRead (link_answer links) (λ t. s ≡ linked_of level t) → IfRead (answer (all_of links.choices values)) (λ t. s ≡ t)
+  inside_copied links values s e none stands end same =
+      let inside : IsInside (reading links) = subst (λ k. IsInside (reading k)) (sym e) (none_stands m root seed level links.choices values none stands) in
+      let of_level : level ≡ links.level = sym (ap (λ (x : Kept). x.level) e) in
+      subst (λ a. IfRead a (λ t. s ≡ t)) (inside_is links values e none stands)
+      (linked_in links (reading links) s inside end (subst (λ n. IfRead (link_answer links) (λ t. s ≡ linked_of n t)) of_level same))
+
+  -- the activity is read through
+  pub inside_tree : (links : Kept) (values : Option Values) → links ≡ kept_at m root seed level links.choices → values ≡ None → HasTree links → ReadsTree (view_model m) root seed level (links.choices ++ choices_of values)
+  inside_tree links values e none has =
+      subst (λ o. ReadsTree (view_model m) root seed level (links.choices ++ choices_of o)) (sym none)
+      (subst (λ xs. ReadsTree (view_model m) root seed level xs) (sym (append-nil links.choices)) (subst HasTree e has))
 
   -- ---- and behind them
 

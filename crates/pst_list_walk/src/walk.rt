@@ -6,6 +6,7 @@ ghost use Rattle.pst_shape.specs.Walks.{next_of, IfRead, HasDigit};
 ghost use Rattle.pst_link_walk.specs.Walks.{Kept, with_choice};
 ghost use Rattle.pst_link_walk.specs.Walks.{answer as link_answer};
 ghost use Rattle.pst_plan_so_far.specs.Laws.{ReadsSources};
+ghost use Rattle.pst_order_ahead.specs.LaidOut.{ReadsTree};
 ghost use Rattle.pst_refusals.specs.Answers.{StandEarlier, TellsRefusals};
 ghost use Rattle.pst_legal.specs.First.{NoneRefused};
 ghost use Rattle.pst_new_refusals.specs.Far.{has_far};
@@ -29,6 +30,24 @@ use std::alloc::Global;
 
 // How many actions are so few that a plan is asked for at each claim.
 const FEW_ACTIONS: usize = 128;
+
+// How many nodes are so few that the order is judged at each link.
+const FEW_NODES: usize = 512;
+
+// How many nodes are so many that it is judged behind the sources alone.
+const MANY_NODES: usize = 4096;
+
+// How many links are so few that the order of more nodes isn't judged yet.
+const FEW_LINKS: u64 = 32;
+
+// Whether the order is to be judged at so many nodes and links: at each link where there are few nodes, and where there
+// are more, as often as there are twice as many links.
+fn is_to_be_judged(nodes: usize, links: u64) -> bool {
+    if nodes <= FEW_NODES {
+        return true;
+    }
+    nodes <= MANY_NODES && links >= FEW_LINKS && links & (links - 1) == 0
+}
 
 // What the sources came to, in a copy.
 fn copy_linked(alloc: Global, links: &LinkWalk<'_>, level: u32) -> Result<Scenario, NoMemory>
@@ -458,6 +477,29 @@ impl<'a> ListWalk<'a> {
         match &self.values {
             None => None,
             Some(values) => Some(values.scenario()),
+        }
+    }
+
+    /// The scenario so far, in a copy, where its activity is read through and its sources are being linked. It is given
+    /// where its order is to be judged: at each link where there are few nodes, and where there are more, as often as
+    /// there are twice as many links.
+    pub fn linking(&self) -> Result<Option<Scenario>, NoMemory>
+        ensures read { IfOk result (λ o. IfSome o (λ t. IfRead (answer self.now) (λ s. t ≡ s))) }
+        ensures tree { IfOk result (λ o. IfSome o (λ t. ReadsTree (view_model self.now.model) self.now.root self.now.seed self.now.level self.now.choices)) }
+    {
+        match &self.values {
+            Some(_) => Ok(None),
+            None => {
+                if !self.links.is_behind() {
+                    return Ok(None);
+                }
+                if !is_to_be_judged(self.links.nodes().len(), self.links.sources()) {
+                    return Ok(None);
+                }
+                self.links.ends();
+                let linked = copy_linked(self.alloc, &self.links, self.level)?;
+                Ok(Some(linked))
+            }
         }
     }
 

@@ -1,0 +1,3 @@
+mod Why
+mod Ahead
+mod Built

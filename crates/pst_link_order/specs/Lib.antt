@@ -1,0 +1,4 @@
+pub mod Reasons
+pub mod Takes
+pub mod Written
+pub mod Outcomes

@@ -1,0 +1,4 @@
+pub mod Chain
+pub mod Comes
+pub mod Refused
+pub mod Laid
