@@ -1,10 +1,10 @@
 //! How many options a blank has, and which value each is.
-ghost use Rattle.std.specs.Prelude.{◌≡◌, ◌<◌, pos, get_or, slice_get};
+ghost use Rattle.std.specs.Prelude.{◌≡◌, ◌<◌, pos, get_or, slice_get, IfSome};
 ghost use Rattle.std.specs.Option.{option_and_then};
 ghost use Rattle.pst_expr.specs.Spans.{values, size_of};
 ghost use Rattle.pst_model.specs.ModelView.{view_model};
 ghost use Rattle.pst_legal.specs.Blanks.{domain_in, instances_in, options, option_value};
-ghost use Rattle.pst_blanks.specs.Blanks.{read_blank, blank_of};
+ghost use Rattle.pst_blanks.specs.Blanks.{read_blank, blank_of, blank_value};
 ghost use Rattle.pst_blanks.specs.Placed.{IsPlaced, IsValue};
 
 use crate::blank::{Blank, Place};
@@ -77,4 +77,31 @@ pub(crate) fn value(model: &Model, acts: &[Act], blank: Blank, option: u64) -> i
     ensures { result ≡ option_value (view_model model.now) acts.now (read_blank blank) option }
 {
     value_at(fields(model, acts, blank), number(blank), option)
+}
+
+// The number of an instance, as a value.
+fn instance_value(option: u64) -> Option<i64>
+    ensures { IfSome result (λ v. v ≡ pos option) }
+{
+    match i64::try_from(option) {
+        Ok(value) => Some(value),
+        Err(_) => None,
+    }
+}
+
+/// The value that is the option of that number of a blank, and nothing where the number of an instance is no
+/// value.
+pub fn value_of(model: &Model, scenario: &Scenario, place: &Place, option: u64) -> Option<i64>
+    requires { option < options (view_model model.now) scenario.now.actions (blank_of place.now) }
+    ensures { IfSome result (λ v. v ≡ blank_value (view_model model.now) scenario.now.actions (blank_of place.now) option) }
+{
+    let acts = scenario.actions.as_slice();
+    let blank = place.blank;
+    match blank {
+        Blank::Instance { .. } => instance_value(option),
+        Blank::OfFirst { .. } => Some(value(model, acts, blank, option)),
+        Blank::OfAct { .. } => Some(value(model, acts, blank, option)),
+        Blank::OfOutput { .. } => Some(value(model, acts, blank, option)),
+        Blank::OfClaim { .. } => Some(value(model, acts, blank, option)),
+    }
 }
