@@ -10,7 +10,7 @@ ghost use Rattle.pst_refusals.specs.Answers.{StandEarlier, TellsRefusals};
 ghost use Rattle.pst_legal.specs.First.{NoneRefused};
 ghost use Rattle.pst_new_refusals.specs.Far.{has_far};
 ghost use Rattle.pst_new_refusals.specs.Newly.{StaysFree};
-ghost use Rattle.pst_list_walk.specs.Walks.{answer, IsRead, HasFront};
+ghost use Rattle.pst_list_walk.specs.Walks.{answer, IsRead, HasFront, HasValue};
 ghost use Rattle.pst_list_walk.specs.Made.{kept_at, linked_of, Begins, Goes};
 ghost use Rattle.pst_list_walk.specs.Free.{IfPlace, IsFreed, Frees};
 
@@ -371,6 +371,19 @@ impl<'a> ListWalk<'a> {
                 let count = in_memory(links)?;
                 Ok(Some(count))
             }
+        }
+    }
+
+    /// Behind the sources, the value of the option that a digit names of the blank at hand: of a claim the number of
+    /// the instance. Nothing before, and where that is no value.
+    pub fn value(&self, digit: u64) -> Option<i64>
+        requires { HasDigit (answer self.now) digit }
+        ensures { IfSome result (λ v. HasValue self.now digit v) }
+    {
+        self.links.ends();
+        match &self.values {
+            None => None,
+            Some(values) => values.value(digit),
         }
     }
 
