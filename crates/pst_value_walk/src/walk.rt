@@ -7,10 +7,11 @@ ghost use Rattle.pst_legal.specs.Reading.{option_at};
 ghost use Rattle.pst_blanks.specs.Blanks.{blank_of};
 ghost use Rattle.pst_blanks.specs.Placed.{IsPlaced, ArePlaced, AreRising, Keeps};
 ghost use Rattle.pst_value_walk.specs.Walks.{Kept, with_choice, answer, next_of, IfRead, HasDigit, blank_at, IsBlank, IsFilled};
-ghost use Rattle.pst_value_walk.specs.Choices.{cleared_at, IsChoice, HasOption, shown_by, option_of, IsNamed, IsValueOf};
+ghost use Rattle.pst_value_walk.specs.Choices.{cleared_at, IsChoice, HasOption, shown_by, option_of, IsNamed, IsValueOf, HasDomainOf, IsDomainAt};
 
 use pst_base::NoMemory;
-use pst_blanks::{Blank, Place, begin, clear, fill, options, value_of};
+use pst_blanks::{Blank, Place, begin, clear, domain, fill, options, value_of};
+use pst_expr::Domain;
 use pst_model::Model;
 use pst_rng::start;
 use pst_scen::{Next, Scenario};
@@ -113,6 +114,21 @@ fn value_at(
     };
     let option = option_of(model, scenario, &at, seed, number, digit);
     value_of(model, scenario, &at, option)
+}
+
+// The values that the blank of that number may have, and nothing for the instance of a claim.
+fn domain_at<'a>(
+    model: &'a Model,
+    scenario: &Scenario,
+    places: &[Place],
+    made: usize,
+) -> Option<&'a Domain>
+    ensures { IfSome result (λ domain. HasDomainOf (view_model model.now) (map blank_of places.now) made scenario.now domain.now) }
+{
+    let Some(at) = place_at(places, made) else {
+        return None;
+    };
+    domain(model, scenario, &at)
 }
 
 // Fills the blank of that number with the option that a digit names.
@@ -260,6 +276,14 @@ impl<'a> ValueWalk<'a> {
             self.made.len(),
             digit,
         )
+    }
+
+    /// The values that the blank at hand may have, in ascending order. Nothing for the instance of a claim, and at the
+    /// end.
+    pub fn domain(&self) -> Option<&'a Domain>
+        ensures { IfSome result (λ domain. IsDomainAt self.now domain.now) }
+    {
+        domain_at(self.model, &self.scenario, &self.places, self.made.len())
     }
 
     /// Makes a choice at the place where the walk stands.
