@@ -5,3 +5,4 @@ pub mod Firsts
 pub mod Listed
 pub mod Cleared
 pub mod Puts
+pub mod Domains

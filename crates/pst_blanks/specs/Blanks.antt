@@ -1,7 +1,8 @@
 -- Blanks as the program keeps them, and the list of all.
-use Rattle.std.specs.Prelude.{ℕ, ◌+◌, List, [], ◌∷◌, ◌++◌, length, map, Bool, if◌then◌else◌, Option, Some, None, slice_get, flat_map}
+use Rattle.std.specs.Prelude.{◌≡◌, ℕ, ℤ, pos, ◌+◌, List, [], ◌∷◌, ◌++◌, length, map, Bool, if◌then◌else◌, Option, Some, None, slice_get, flat_map}
 use Rattle.std.specs.List.{enumerate_from, range_with_len}
 use Rattle.std.specs.Option.{option_and_then}
+use Rattle.pst_expr.specs.declared.ranges.Span.{Span}
 use Rattle.pst_model.specs.declared.action.Field.{Field}
 use Rattle.pst_model.specs.declared.action.Claim.{Claim}
 use Rattle.pst_model.specs.declared.model.Serve.{Serve}
@@ -10,7 +11,7 @@ use Rattle.pst_model.specs.ModelTree.{ModelTree, ActionTree}
 use Rattle.pst_scen.specs.declared.act.Act.{Act}
 use Rattle.pst_scen.specs.declared.act.Filled.{Filled}
 use Rattle.pst_legal.specs.Types.{type_of, served_claim, pool_object, is_output}
-use Rattle.pst_legal.specs.Blanks.{Blank as Read, Instance, OfFirst, OfAct, OfOutput, OfClaim, fields_of, claims_of, act_fields, claim_blanks, value_blanks, used_state_pools}
+use Rattle.pst_legal.specs.Blanks.{Blank as Read, Instance, OfFirst, OfAct, OfOutput, OfClaim, fields_of, claims_of, act_fields, claim_blanks, value_blanks, used_state_pools, domain_of, option_value}
 use Rattle.pst_blanks.specs.declared.blank.Blank.{Blank}
 use Rattle.pst_blanks.specs.declared.blank.Blank.TheVariants as blank
 use Rattle.pst_blanks.specs.declared.blank.Place.{Place}
@@ -28,6 +29,22 @@ blank_of place = read_blank place.blank
 -- the instances of all claims, and then all values
 abbrev pub all_blanks : ModelTree → List Act → List Read
 all_blanks m acts = claim_blanks m acts ++ value_blanks m acts
+
+-- the value that is the option of that number: of a claim the number of the instance
+abbrev pub blank_value : ModelTree → List Act → Read → ℕ → ℤ
+blank_value m acts (Instance act claim) k = pos k
+blank_value m acts (OfFirst pool field) k = option_value m acts (OfFirst pool field) k
+blank_value m acts (OfAct act field) k = option_value m acts (OfAct act field) k
+blank_value m acts (OfOutput act reference field) k = option_value m acts (OfOutput act reference field) k
+blank_value m acts (OfClaim act claim field) k = option_value m acts (OfClaim act claim field) k
+
+-- these are the values that a blank for one may have
+abbrev pub IsDomainOf : ModelTree → List Act → Read → List Span → Type 0
+IsDomainOf m acts (Instance act claim) spans = ⊥
+IsDomainOf m acts (OfFirst pool field) spans = spans ≡ domain_of m acts (OfFirst pool field)
+IsDomainOf m acts (OfAct act field) spans = spans ≡ domain_of m acts (OfAct act field)
+IsDomainOf m acts (OfOutput act reference field) spans = spans ≡ domain_of m acts (OfOutput act reference field)
+IsDomainOf m acts (OfClaim act claim field) spans = spans ≡ domain_of m acts (OfClaim act claim field)
 
 -- the same for the field of that number
 abbrev pub with_field : Blank → ℕ → Blank

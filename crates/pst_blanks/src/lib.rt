@@ -17,5 +17,5 @@ mod pools;
 
 pub use beginning::begin;
 pub use blank::{Blank, Place};
-pub use counting::options;
+pub use counting::{domain, options, value_of};
 pub use filling::{clear, fill};

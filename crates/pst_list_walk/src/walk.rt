@@ -1,5 +1,6 @@
 //! Walks through whole lists of choices.
 ghost use Rattle.std.specs.Prelude.{◌≡◌, ℕ, ◌+◌, ◌<◌, ◌≤◌, true, false, IfOk, IfSome, OnOk, OnErr, length, []};
+ghost use Rattle.pst_rng.specs.Words.{start_of};
 ghost use Rattle.pst_model.specs.ModelView.{view_model};
 ghost use Rattle.pst_model.specs.Sound.{IsSound};
 ghost use Rattle.pst_shape.specs.Walks.{next_of, IfRead, HasDigit};
@@ -11,19 +12,21 @@ ghost use Rattle.pst_refusals.specs.Answers.{StandEarlier, TellsRefusals};
 ghost use Rattle.pst_legal.specs.First.{NoneRefused};
 ghost use Rattle.pst_new_refusals.specs.Far.{has_far};
 ghost use Rattle.pst_new_refusals.specs.Newly.{StaysFree};
-ghost use Rattle.pst_list_walk.specs.Walks.{answer, IsRead, HasFront};
+ghost use Rattle.pst_list_walk.specs.Walks.{answer, IsRead, HasFront, HasValue, HasDomain};
 ghost use Rattle.pst_list_walk.specs.Made.{kept_at, linked_of, Begins, Goes};
 ghost use Rattle.pst_list_walk.specs.Free.{IfPlace, IsFreed, Frees};
 
 use pst_base::{Items, NoMemory};
 use pst_blanks::Blank;
 use pst_copies::copy_nodes;
+use pst_expr::Domain;
 use pst_known::Scene;
 use pst_link_walk::LinkWalk;
 use pst_model::Model;
 use pst_new_refusals::{has_far, some_newly_refused};
 use pst_read_nodes::nodes_stand_for_pieces;
 use pst_refusals::some_refused;
+use pst_rng::start;
 use pst_scen::{Act, First, Next, Node, Scenario};
 use pst_value_walk::ValueWalk;
 use std::alloc::Global;
@@ -391,6 +394,40 @@ impl<'a> ListWalk<'a> {
                 Ok(Some(count))
             }
         }
+    }
+
+    /// Behind the sources, the value of the option that a digit names of the blank at hand: of a claim the number of
+    /// the instance. Nothing before, and where that is no value.
+    pub fn value(&self, digit: u64) -> Option<i64>
+        requires { HasDigit (answer self.now) digit }
+        ensures { IfSome result (λ v. HasValue self.now digit v) }
+    {
+        self.links.ends();
+        match &self.values {
+            None => None,
+            Some(values) => values.value(digit),
+        }
+    }
+
+    /// Behind the sources, the values that the blank at hand may have, in ascending order. Nothing before, for the
+    /// instance of a claim, and at the end.
+    pub fn domain(&self) -> Option<&'a Domain>
+        ensures { IfSome result (λ domain. HasDomain self.now domain.now) }
+    {
+        self.links.ends();
+        match &self.values {
+            None => None,
+            Some(values) => values.domain(),
+        }
+    }
+
+    /// Where the seed begins among so many options of the place at hand.
+    pub fn start(&self, count: u64) -> Result<u64, NoMemory>
+        requires { 0 < count }
+        ensures { IfOk result (λ s. s ≡ start_of self.now.seed (length self.now.choices) count) }
+    {
+        let place = self.count()?;
+        Ok(start(self.seed, place as u64, count))
     }
 
     /// Makes a choice at the place where the walk stands.

@@ -1,6 +1,7 @@
 -- The choices of a walk: what each did, and what stands at the end of them.
-use Rattle.std.specs.Prelude.{◌≡◌, ℕ, ◌+◌, ◌<◌, List, [], ◌∷◌, ◌++◌, length, map, nat_lt, if◌then◌else◌, Option, Some, None, slice_get}
+use Rattle.std.specs.Prelude.{◌≡◌, ℕ, ℤ, ◌+◌, ◌<◌, List, [], ◌∷◌, ◌++◌, length, map, nat_lt, if◌then◌else◌, Option, Some, None, slice_get}
 use Rattle.pst_rng.specs.Words.{start_of}
+use Rattle.pst_expr.specs.declared.ranges.Span.{Span}
 use Rattle.pst_model.specs.declared.model.Model.{Model}
 use Rattle.pst_model.specs.ModelTree.{ModelTree}
 use Rattle.pst_scen.specs.declared.next.Next.{Next}
@@ -10,10 +11,11 @@ use Rattle.pst_legal.specs.Blanks.{Blank, options}
 use Rattle.pst_legal.specs.Reading.{option_at}
 use Rattle.pst_legal.specs.ValueReading.{with_option, with_firsts}
 use Rattle.pst_blanks.specs.declared.blank.Place.{Place}
-use Rattle.pst_blanks.specs.Blanks.{blank_of, all_blanks}
+use Rattle.pst_blanks.specs.Blanks.{blank_of, all_blanks, blank_value, IsDomainOf}
 use Rattle.pst_blanks.specs.Placed.{ArePlaced, AreRising}
 use Rattle.pst_blanks.specs.Filling.{cleared}
-use Rattle.pst_value_walk.specs.Walks.{Kept}
+use Rattle.pst_model.specs.ModelView.{view_model}
+use Rattle.pst_value_walk.specs.Walks.{Kept, IfRead, answer, blank_at}
 
 -- the digits, of choices latest first
 abbrev pub digits_of : List ℕ → List ℕ
@@ -46,6 +48,34 @@ AreChoices m seed place blanks (digit ∷ older) s =
 -- the option that a digit names of a blank
 abbrev pub option_of : ModelTree → ℕ → ℕ → Scenario → Blank → ℕ → ℕ
 option_of m seed place s blank digit = option_at (start_of seed place (options m s.actions blank)) (options m s.actions blank) digit
+
+-- the value of that option
+abbrev pub value_by : ModelTree → ℕ → ℕ → Scenario → Blank → ℕ → ℤ
+value_by m seed place s blank digit = blank_value m s.actions blank (option_of m seed place s blank digit)
+
+-- the value of the option of the blank of that number that a digit names
+pub record IsNamed (m : ModelTree) (seed place : ℕ) (blanks : List Blank) (number digit : ℕ) (s : Scenario) (v : ℤ) : Type 0 where
+  pub blank : Blank
+  pub is : slice_get blanks number ≡ Some blank
+  pub value : v ≡ value_by m seed (place + number) s blank digit
+
+-- so it is at the blank at hand
+pub record IsValueOf (k : Kept) (digit : ℕ) (v : ℤ) : Type 0 where
+  pub blank : Blank
+  pub is : blank_at k (length k.choices) ≡ Some blank
+  pub value : IfRead (answer k) (λ s. v ≡ value_by (view_model k.model) k.seed (k.place + length k.choices) s blank digit)
+
+-- the blank of that number is one for a value, which may have these values
+pub record HasDomainOf (m : ModelTree) (blanks : List Blank) (number : ℕ) (s : Scenario) (spans : List Span) : Type 0 where
+  pub blank : Blank
+  pub is : slice_get blanks number ≡ Some blank
+  pub domain : IsDomainOf m s.actions blank spans
+
+-- so is the blank at hand
+pub record IsDomainAt (k : Kept) (spans : List Span) : Type 0 where
+  pub blank : Blank
+  pub is : blank_at k (length k.choices) ≡ Some blank
+  pub domain : IfRead (answer k) (λ s. IsDomainOf (view_model k.model) s.actions blank spans)
 
 -- there is a blank of that number, and the digit names one of its options
 pub record HasOption (m : ModelTree) (blanks : List Blank) (number digit : ℕ) (s : Scenario) : Type 0 where

@@ -1,5 +1,5 @@
 //! Walks through the choices of claimed instances and values.
-ghost use Rattle.std.specs.Prelude.{◌≡◌, ℕ, ◌+◌, ◌<◌, IfOk, OnOk, OnErr, length, map, slice_get, nat_lt, if◌then◌else◌, []};
+ghost use Rattle.std.specs.Prelude.{◌≡◌, ℕ, ◌+◌, ◌<◌, IfOk, IfSome, OnOk, OnErr, length, map, slice_get, nat_lt, if◌then◌else◌, []};
 ghost use Rattle.pst_model.specs.ModelView.{view_model};
 ghost use Rattle.pst_scen.specs.declared.next.Next.TheVariants as next;
 ghost use Rattle.pst_legal.specs.Blanks.{options};
@@ -7,10 +7,11 @@ ghost use Rattle.pst_legal.specs.Reading.{option_at};
 ghost use Rattle.pst_blanks.specs.Blanks.{blank_of};
 ghost use Rattle.pst_blanks.specs.Placed.{IsPlaced, ArePlaced, AreRising, Keeps};
 ghost use Rattle.pst_value_walk.specs.Walks.{Kept, with_choice, answer, next_of, IfRead, HasDigit, blank_at, IsBlank, IsFilled};
-ghost use Rattle.pst_value_walk.specs.Choices.{cleared_at, IsChoice, HasOption, shown_by, option_of};
+ghost use Rattle.pst_value_walk.specs.Choices.{cleared_at, IsChoice, HasOption, shown_by, option_of, IsNamed, IsValueOf, HasDomainOf, IsDomainAt};
 
 use pst_base::NoMemory;
-use pst_blanks::{Blank, Place, begin, clear, fill, options};
+use pst_blanks::{Blank, Place, begin, clear, domain, fill, options, value_of};
+use pst_expr::Domain;
 use pst_model::Model;
 use pst_rng::start;
 use pst_scen::{Next, Scenario};
@@ -89,6 +90,45 @@ fn option_of(
 {
     let count = options(model, scenario, place);
     option_from(start(seed, number, count), count, digit)
+}
+
+// The value of the option that a digit names of the blank of that number.
+fn value_at(
+    model: &Model,
+    scenario: &Scenario,
+    places: &[Place],
+    seed: u64,
+    place: u64,
+    made: usize,
+    digit: u64,
+) -> Option<i64>
+    requires placed { ArePlaced (view_model model.now) scenario.now places.now }
+    requires digit { HasOption (view_model model.now) (map blank_of places.now) made digit scenario.now }
+    ensures { IfSome result (λ v. IsNamed (view_model model.now) seed place (map blank_of places.now) made digit scenario.now v) }
+{
+    let Some(at) = place_at(places, made) else {
+        return None;
+    };
+    let Ok(number) = place_after(place, made) else {
+        return None;
+    };
+    let option = option_of(model, scenario, &at, seed, number, digit);
+    value_of(model, scenario, &at, option)
+}
+
+// The values that the blank of that number may have, and nothing for the instance of a claim.
+fn domain_at<'a>(
+    model: &'a Model,
+    scenario: &Scenario,
+    places: &[Place],
+    made: usize,
+) -> Option<&'a Domain>
+    ensures { IfSome result (λ domain. HasDomainOf (view_model model.now) (map blank_of places.now) made scenario.now domain.now) }
+{
+    let Some(at) = place_at(places, made) else {
+        return None;
+    };
+    domain(model, scenario, &at)
 }
 
 // Fills the blank of that number with the option that a digit names.
@@ -219,6 +259,31 @@ impl<'a> ValueWalk<'a> {
             return None;
         }
         blank_of(&self.places, self.made.len() - 1)
+    }
+
+    /// The value of the option that a digit names of the blank at hand: of a claim the number of the instance.
+    /// Nothing where that is no value.
+    pub fn value(&self, digit: u64) -> Option<i64>
+        requires { HasDigit (answer self.now) digit }
+        ensures { IfSome result (λ v. IsValueOf self.now digit v) }
+    {
+        value_at(
+            self.model,
+            &self.scenario,
+            &self.places,
+            self.seed,
+            self.place,
+            self.made.len(),
+            digit,
+        )
+    }
+
+    /// The values that the blank at hand may have, in ascending order. Nothing for the instance of a claim, and at the
+    /// end.
+    pub fn domain(&self) -> Option<&'a Domain>
+        ensures { IfSome result (λ domain. IsDomainAt self.now domain.now) }
+    {
+        domain_at(self.model, &self.scenario, &self.places, self.made.len())
     }
 
     /// Makes a choice at the place where the walk stands.
