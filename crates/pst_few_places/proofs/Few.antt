@@ -1,11 +1,13 @@
 -- No list that keeps the choices of the places reads a legal scenario.
 use Rattle.std.proofs.Common.{◌≡◌, ℕ, [], ◌∷◌, refl, sym, ap, ◌∙◌, subst}
 use Rattle.pst_scen.specs.declared.scenario.Scenario.{Scenario}
+use Rattle.pst_scen.specs.Refusals.{IsUnrefused}
 use Rattle.pst_legal.specs.Blanks.{claim_blanks, value_blanks}
 use Rattle.pst_legal.specs.Reading.{Reading, Wants, Stops, Reads, then_read}
 use Rattle.pst_legal.specs.ValueReading.{Whole, answer_of, with_firsts, read_values}
 use Rattle.pst_legal.specs.Constraints.{Holds}
 use Rattle.pst_built.proofs.Values.{IsSameOrder}
+use Rattle.pst_read_legal.specs.Laws.{LegalIsUnrefused}
 use Rattle.pst_whole_ahead.proofs.Ahead.{sources_on}
 use Rattle.pst_few_places.specs.Fillings.{all_blanks, named}
 use Rattle.pst_few_places.specs.Laws.{FewPlacesRefuse}
@@ -17,8 +19,8 @@ whole_end Stops t e = absurd cc
 whole_end (Reads s place []) t e = let same : s ≡ t = cc in (place, ap (λ v. Reads v place []) same)
 whole_end (Reads s place (d ∷ left)) t e = absurd cc
 
-pub refuse : FewPlacesRefuse
-refuse m root seed level front present u place places front_reads none other agree t legal =
+pub refuse : LegalIsUnrefused → FewPlacesRefuse
+refuse unrefused m root seed level front present u place places front_reads none other agree t legal =
     let start = with_firsts m u in
     let same : IsSameOrder u start = record { level = refl; nodes = refl; acts = refl; kinds = refl; references = refl } in
     let values : answer_of (read_values m seed u place other) ≡ Whole t =
@@ -27,4 +29,4 @@ refuse m root seed level front present u place places front_reads none other agr
     let joined = sym (blanks_join m seed (claim_blanks m u.actions) (value_blanks m u.actions) start place other) ∙ end.1 in
     let chosen = blanks_named m seed u (all_blanks m u) start place other t end.0 same joined in
     none (named m seed u.actions (all_blanks m u) place other) chosen.options (λ i kept. named_at m seed u.actions (all_blanks m u) place other present i (agree i kept))
-    (subst (Holds m) chosen.is legal.legal.holds)
+    (subst (Holds m) chosen.is legal.legal.holds) (subst IsUnrefused chosen.is (unrefused m root t legal.legal))

@@ -1,5 +1,5 @@
 -- Conflicts of few places behind the sources, and what these places rest on.
-use Rattle.std.proofs.Common.{◌≡◌, ℕ, suc, ◌+◌, ◌-◌, ◌<◌, List, [], ◌∷◌, ◌++◌, take, length, Bool, true, false, ◌&&◌, nat_eq, nat_lt, if◌then◌else◌, Some, None, refl, sym, ap, ap₂, ◌∙◌, subst, ⊎_elim, append_assoc, length-append, arith}
+use Rattle.std.proofs.Common.{◌≡◌, ℕ, zero, suc, ◌+◌, ◌-◌, ◌<◌, List, [], ◌∷◌, ◌++◌, take, length, get_or, Bool, true, false, ◌&&◌, nat_eq, nat_lt, if◌then◌else◌, Some, None, refl, sym, ap, ap₂, ◌∙◌, subst, ⊎_elim, append_assoc, length-append, arith}
 use Rattle.std.specs.Prelude.{slice_get, Contains}
 use Rattle.std.proofs.lemmas.Bool.{ltb-true}
 use Rattle.pst_rng.specs.Words.{start_of}
@@ -18,10 +18,10 @@ use Rattle.pst_few_places.specs.Fillings.{all_blanks}
 use Rattle.pst_few_places.specs.Laws.{AgreeAt, FewPlacesRefuse}
 use Rattle.pst_few_places.proofs.Named.{blanks_join}
 use Rattle.pst_search_loop.specs.declared.conflict.Conflict.{Conflict}
-use Rattle.pst_search_loop.specs.Kept.{Kept, answer, Agrees, IsWithin, IsConflict, Rests}
+use Rattle.pst_search_loop.specs.Kept.{Kept, answer, Agrees, IsWithin, IsConflict, Rests, Excludes}
 use Rattle.pst_search_places.specs.Facts.{begins, have_same, sources_of, front_of, fact_by}
-use Rattle.pst_search_places.specs.Laws.{IsByPlaces, IsBehind, IsOfPlaces, NoneHold, FewPlacesConflict, PlacesRestOnTheSources}
-use Rattle.pst_search_places.proofs.Lists.{eq_self, both_true, take_all, take_behind, take_length, take_get, get_behind, get_last, same_some, some_same, list_begins, begins_goes}
+use Rattle.pst_search_places.specs.Laws.{IsByPlaces, IsBehind, IsOfPlaces, NoneHold, FewPlacesConflict, FewPlacesExclude, PlacesRestOnTheSources}
+use Rattle.pst_search_places.proofs.Lists.{eq_self, both_true, take_all, take_behind, take_length, take_get, get_front, get_behind, get_last, some_at, same_some, some_same, list_begins, begins_goes}
 use Rattle.pst_search_places.proofs.Facts.{told, tells}
 
 -- ---- what blanks read
@@ -208,6 +208,50 @@ module _ (k : Kept) (by : IsByPlaces k) (front present : List ℕ) (u : Scenario
       (subst (λ o. fact_by o k.level choices level (front ++ rest) ≡ true) (sym which)
       (ap₂ ◌&&◌ (ap (λ v. nat_eq v k.level) e ∙ eq_self k.level) (ap₂ ◌&&◌ starts (some_same (slice_get choices n) (slice_get (front ++ rest) n) digit own its))))
 
+  -- ---- options that are excluded
+
+  -- the option of a fact
+  option_told : (digit : ℕ) (rest : List ℕ) (level : ℕ) → k.facts k.level (k.choices ++ digit ∷ []) level (front ++ rest) ≡ true → slice_get rest (length present) ≡ Some digit
+  option_told digit rest level holds =
+      let choices = k.choices ++ digit ∷ [] in
+      let many = count in
+      let long : length choices ≡ length k.choices + 1 = length-append k.choices (digit ∷ []) in
+      let n = length choices - 1 in
+      let at : n ≡ length k.choices = omega (arith, long) in
+      let is : choices ≡ front ++ (present ++ digit ∷ []) = ap (λ zs. zs ++ digit ∷ []) behind.choices ∙ append_assoc front present (digit ∷ []) in
+      let which : front_of (sources_of k.model k.root k.seed k.level choices) ≡ Some (length front) =
+      ap (λ zs. front_of (sources_of k.model k.root k.seed k.level zs)) is ∙ ap front_of (on (present ++ digit ∷ [])) ∙ longer_some u (length front) digit present in
+      let fact : fact_by (front_of (sources_of k.model k.root k.seed k.level choices)) k.level choices level (front ++ rest) ≡ true = told k by choices level (front ++ rest) holds in
+      let plain : fact_by (Some (length front)) k.level choices level (front ++ rest) ≡ true = subst (λ o. fact_by o k.level choices level (front ++ rest) ≡ true) which fact in
+      let first = both_true (nat_eq level k.level) (begins (take (length front) choices) (front ++ rest) && have_same n choices (front ++ rest)) plain in
+      let second = both_true (begins (take (length front) choices) (front ++ rest)) (have_same n choices (front ++ rest)) first.1 in
+      let same = same_some (slice_get choices n) (slice_get (front ++ rest) n) second.1 in
+      let own : slice_get choices n ≡ Some digit = ap (slice_get choices) at ∙ get_last k.choices digit in
+      sym (get_behind front rest (length present)) ∙ ap (slice_get (front ++ rest)) (sym (at ∙ many)) ∙ same.2 ∙ sym same.1 ∙ own
+
+  agree_with : (places : List ℕ) (digit : ℕ) (rest : List ℕ) → slice_get rest (length present) ≡ Some digit → ((i : ℕ) → Contains places i → i < length present)
+      → ((i : ℕ) → Contains places i → i < length present → slice_get rest i ≡ slice_get present i) → AgreeAt (length present ∷ places) rest (present ++ digit ∷ [])
+  agree_with places digit rest here inside same i (zero, l, e) = subst (λ j. slice_get rest j ≡ slice_get (present ++ digit ∷ []) j) e (here ∙ sym (get_last present digit))
+  agree_with places digit rest here inside same i (suc q, l, e) =
+      let there : Contains places i = (q, omega (arith, l), e) in
+      let small = inside i there in
+      let own : slice_get present i ≡ Some (get_or present i 0) = some_at present i small in
+      same i there small ∙ own ∙ sym (get_front present (digit ∷ []) i (get_or present i 0) own)
+
+  pub excludes : FewPlacesRefuse → (c : Conflict) (places : List ℕ) (digit : ℕ) → ((i : ℕ) → Contains places i → i < length present)
+      → NoneHold k.model k.seed u (length front) (present ++ digit ∷ []) (length present ∷ places) → IsOfPlaces c (length front) places → Excludes k c digit
+  excludes few c places digit inside none of = record {
+    none = λ level other agrees holds sought.
+        let goes = begins_goes front other (begins_front c places level other of agrees) in
+        let here : slice_get goes.more (length present) ≡ Some digit =
+        option_told digit goes.more level (subst (λ ys. k.facts k.level (k.choices ++ digit ∷ []) level ys ≡ true) goes.is holds) in
+        let same : AgreeAt (length present ∷ places) goes.more (present ++ digit ∷ []) =
+        agree_with places digit goes.more here inside (same_there c places level goes.more of (subst (Agrees k c level) goes.is agrees)) in
+        let e = agrees.same_level of.on_level in
+        few k.model k.root k.seed k.level front (present ++ digit ∷ []) u (length front) (length present ∷ places) behind.reads none goes.more same sought.0
+        (subst (λ ys. ReadsLegal k.model k.root k.seed k.level ys sought.0) goes.is (subst (λ v. ReadsLegal k.model k.root k.seed v other sought.0) e sought.1));
+  }
+
   pub rests : (c : Conflict) (s : Scenario) (n : ℕ) → IsOfPlaces c (length front) [] → answer k ≡ Options s n → Rests k n c
   rests c s n of is = record {
     within = within c [] (λ i (q, l, e). let bad : ⊥ = omega (arith, l) in absurd bad) of;
@@ -224,6 +268,9 @@ module _ (k : Kept) (by : IsByPlaces k) (front present : List ℕ) (u : Scenario
 
 pub few_conflict : FewPlacesRefuse → FewPlacesConflict
 few_conflict few k c front present places u by behind inside none of = conflicts k by front present u behind few c places inside none of
+
+pub few_exclude : FewPlacesRefuse → FewPlacesExclude
+few_exclude few k c front present places digit u by behind inside none of = excludes k by front present u behind few c places digit inside none of
 
 pub rest_on_sources : PlacesRestOnTheSources
 rest_on_sources k c front present u s n by behind of is = rests k by front present u behind c s n of is

@@ -1,7 +1,8 @@
 -- Conflicts that name places behind the sources, and what these places rest on.
-use Rattle.std.specs.Prelude.{◌≡◌, ℕ, ◌+◌, ◌<◌, ◌⊎◌, List, [], ◌++◌, length, true, Contains}
+use Rattle.std.specs.Prelude.{◌≡◌, ℕ, ◌+◌, ◌<◌, ◌⊎◌, List, [], ◌∷◌, ◌++◌, length, true, Contains}
 use Rattle.pst_model.specs.ModelTree.{ModelTree}
 use Rattle.pst_scen.specs.declared.scenario.Scenario.{Scenario}
+use Rattle.pst_scen.specs.Refusals.{IsUnrefused}
 use Rattle.pst_legal.specs.Reading.{Reads}
 use Rattle.pst_legal.specs.Constraints.{Holds}
 use Rattle.pst_legal.specs.ValueReading.{Options, with_firsts}
@@ -10,7 +11,7 @@ use Rattle.pst_few_places.specs.Fillings.{all_blanks, AreOptions, filled, named}
 use Rattle.pst_few_places.specs.Laws.{AgreeAt}
 use Rattle.pst_search_loop.specs.declared.conflict.Conflict.{Conflict}
 use Rattle.pst_search_loop.specs.Conflicts.{Has, IsAmong, IsEarlier}
-use Rattle.pst_search_loop.specs.Kept.{Kept, answer, FactsHold, IsConflict, Rests}
+use Rattle.pst_search_loop.specs.Kept.{Kept, answer, FactsHold, IsConflict, Rests, Excludes}
 use Rattle.pst_search_places.specs.Facts.{sources_of, place_facts}
 
 -- choices stand for places
@@ -33,11 +34,11 @@ pub record IsOfPlaces (c : Conflict) (front : ℕ) (places : List ℕ) : Type 0 
   pub within : (p : ℕ) → Has c p → (p < front) ⊎ ((i : ℕ) × Contains places i × (p ≡ front + i))
   pub on_level : c.on_level ≡ true
 
--- no options that agree at these places with those that the present choices name keep all constraints
+-- no options that agree at these places with those that the present choices name keep all constraints, and aren't refused by a plan
 abbrev pub NoneHold : ModelTree → ℕ → Scenario → ℕ → List ℕ → List ℕ → Type 0
 NoneHold m seed u place present places =
     (chosen : List ℕ) → AreOptions m u.actions (all_blanks m u) chosen → AgreeAt places chosen (named m seed u.actions (all_blanks m u) place present)
-    → Holds m (filled m (all_blanks m u) chosen (with_firsts m u)) → ⊥
+    → Holds m (filled m (all_blanks m u) chosen (with_firsts m u)) → IsUnrefused (filled m (all_blanks m u) chosen (with_firsts m u)) → ⊥
 
 -- ---- laws
 
@@ -56,12 +57,21 @@ abbrev pub PlacesRestOnEarlierOnes : Type 0
 PlacesRestOnEarlierOnes =
     (k : Kept) (c : Conflict) (s : Scenario) (n : ℕ) → IsByPlaces k → IsEarlier c (length k.choices) → answer k ≡ Options s n → Rests k n c
 
--- Where no options that agree at some places keep all constraints, these places, and the last one up to the sources, are a conflict.
+-- Where no options that agree at some places are kept by all constraints and a plan, these places, and the last one up to the
+-- sources, are a conflict.
 abbrev pub FewPlacesConflict : Type 0
 FewPlacesConflict =
     (k : Kept) (c : Conflict) (front present places : List ℕ) (u : Scenario) → IsByPlaces k → IsBehind k front present u
     → ((i : ℕ) → Contains places i → i < length present) → NoneHold k.model k.seed u (length front) present places
     → IsOfPlaces c (length front) places → IsConflict k c
+
+-- Where it is so with one more choice, at its place and at some before it, no legal scenario that agrees at these and at the last
+-- one up to the sources has that choice's option.
+abbrev pub FewPlacesExclude : Type 0
+FewPlacesExclude =
+    (k : Kept) (c : Conflict) (front present places : List ℕ) (digit : ℕ) (u : Scenario) → IsByPlaces k → IsBehind k front present u
+    → ((i : ℕ) → Contains places i → i < length present) → NoneHold k.model k.seed u (length front) (present ++ digit ∷ []) (length present ∷ places)
+    → IsOfPlaces c (length front) places → Excludes k c digit
 
 -- A place behind the sources rests on the last one up to them alone.
 abbrev pub PlacesRestOnTheSources : Type 0

@@ -1,5 +1,5 @@
 //! Laws of conflicts by places.
-ghost use Rattle.pst_search_places.specs.Laws.{PlaceFactsHold, BarrenListsConflict, PlacesRestOnEarlierOnes, FewPlacesConflict, PlacesRestOnTheSources};
+ghost use Rattle.pst_search_places.specs.Laws.{PlaceFactsHold, BarrenListsConflict, PlacesRestOnEarlierOnes, FewPlacesConflict, FewPlacesExclude, PlacesRestOnTheSources};
 
 use pst_few_places::few_places_refuse;
 use pst_longer::places_go_on;
@@ -22,10 +22,18 @@ pub fn places_rest_on_earlier_ones()
     places_go_on();
 }
 
-/// Behind the sources, where no options that agree at some places keep all constraints, these places and the
-/// last one up to the sources are a conflict.
+/// Behind the sources, where no options that agree at some places keep all constraints without that a plan
+/// refuses them, these places and the last one up to the sources are a conflict.
 pub fn few_places_conflict()
     ensures { FewPlacesConflict }
+{
+    few_places_refuse();
+}
+
+/// Where that is so with one more choice, at its place and at some before it, its option is excluded by the
+/// choices at these and at the last place up to the sources.
+pub fn few_places_exclude()
+    ensures { FewPlacesExclude }
 {
     few_places_refuse();
 }

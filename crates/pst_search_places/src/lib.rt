@@ -9,7 +9,7 @@ mod laws;
 mod places;
 
 pub use laws::{
-    barren_lists_conflict, few_places_conflict, place_facts_hold, places_rest_on_earlier_ones,
-    places_rest_on_the_sources,
+    barren_lists_conflict, few_places_conflict, few_places_exclude, place_facts_hold,
+    places_rest_on_earlier_ones, places_rest_on_the_sources,
 };
 pub use places::of_places;

@@ -2,13 +2,22 @@
 use Rattle.std.proofs.Common.{◌≡◌, ℕ, zero, suc, ◌+◌, ◌<◌, ◌≤◌, ℤ, List, [], ◌∷◌, ◌++◌, length, map, take, Bool, true, false, Option, Some, None, refl, sym, ap, ◌∙◌, subst, length-append, arith}
 use Rattle.std.specs.Prelude.{Ok, Contains, option_to_list}
 use Rattle.std.specs.Global.{Vec}
+use Rattle.pst_expr.specs.declared.ranges.Span.{Span}
 use Rattle.pst_expr.specs.declared.tree.Expr.{Expr}
 use Rattle.pst_expr.specs.Tree.{view}
+use Rattle.pst_expr.specs.Spans.{size_of}
+use Rattle.pst_expr.specs.Value.{variable_value}
+use Rattle.pst_domain.specs.Bounds.{AreInside}
+use Rattle.pst_narrow.specs.Narrowing.{AreOpen}
 use Rattle.pst_reasons.specs.declared.reasons.Narrowed.{Narrowed}
 use Rattle.pst_reasons.specs.declared.step.Given.{Given}
 use Rattle.pst_reasons.specs.Giving.{IsKept, IsAt, IsTakenBack, start_of, given_too}
-use Rattle.pst_reasons.specs.Reasons.{AreReasons}
-use Rattle.pst_value_search.specs.Values.{Kept, point, points_from, points, Refuses}
+use Rattle.pst_reasons.specs.Giving.{with_given}
+use Rattle.pst_reasons.specs.Laws.{GivenSpansRefuseNothing}
+use Rattle.pst_reasons.specs.Reasons.{Agree, AreReasons}
+use Rattle.pst_fitting.specs.declared.fitting.Fitting.{Fitting}
+use Rattle.pst_fitting.specs.Passed.{Passes}
+use Rattle.pst_value_search.specs.Values.{Kept, point, points_from, points, Refuses, RefusesNothing, Skips}
 use Rattle.pst_value_search.specs.Made.{IsRefused, AreGiven, IsThere, GivesValue}
 use Rattle.pst_value_search.proofs.Points.{length_points, points_more, more_reasons}
 
@@ -38,6 +47,50 @@ refused_told n values places r = record {
   reasons = more_reasons (map view n.constraints.items) (length n.given.items + 1) values (start_of n) places r.reasons;
   within = λ i there. let l = r.within i there in let f = r.fewer in omega (arith, l, f);
 }
+
+-- where none is refused
+pub nothing_refused : GivenSpansRefuseNothing → (n : Narrowed) (values : List ℤ) (o : Option (Vec ℕ)) → o ≡ None → IsKept n → AreGiven o n values
+    → RefusesNothing (record { constraints = n.constraints.items; bounds = start_of n; values = values })
+nothing_refused law n values o none kept given bounds inside =
+    let own : n.given.items ≡ points values = subst (λ x. AreGiven x n values) none given in
+    law n bounds kept (subst (λ gs. AreInside (with_given (start_of n) gs) bounds) (sym own) inside)
+
+-- ---- values that are skipped
+
+pub skips_passed : (n : Narrowed) (values : List ℤ) (o : Option (Vec ℕ)) (variable : ℕ) (spans : List Span) (start from : ℕ) (found : Fitting) → o ≡ None → AreGiven o n values → variable ≡ length values
+    → Passes n variable spans start from found → Skips (record { constraints = n.constraints.items; bounds = start_of n; values = values }) spans start from found
+skips_passed n values o variable spans start from found none given count passes =
+    let own : n.given.items ≡ points values = subst (λ x. AreGiven x n values) none given in
+    record {
+      least = passes.least;
+      most = passes.most;
+      within = λ i there. let l = passes.below i there in let many : length n.given.items ≡ length values = ap length own ∙ length_points 0 values in omega (arith, l, many);
+      each = λ place low high value at vs met lies agree is.
+          passes.passed place low high value at vs (record { met = met; start = lies; agree = subst (λ gs. Agree found.reasons.items gs vs) (sym own) agree }) (ap (variable_value vs) count ∙ is);
+    }
+
+none_contained : (i : ℕ) → Contains [] i → ⊥
+none_contained i (q, l, e) = omega (arith, l)
+
+pub skips_nothing : (k : Kept) (spans : List Span) (start from : ℕ) (found : Fitting) → found.place ≡ from → found.reasons.items ≡ [] → from ≤ size_of spans → Skips k spans start from found
+skips_nothing k spans start from found at none most = record {
+  least = omega (arith, at);
+  most = omega (arith, at, most);
+  within = λ i there. absurd (none_contained i (subst (λ xs. Contains xs i) none there));
+  each = λ place low high value is. let bad : ⊥ = omega (arith, low, high, at) in absurd bad;
+}
+
+abbrev pub seen_as : List Expr → List (Option Span) → List ℤ → Kept
+seen_as constraints bounds values = record { constraints = constraints; bounds = bounds; values = values }
+
+-- the same is seen where the same spans are given
+pub same_seen : (old new : Narrowed) (values : List ℤ) → IsAt old new old.given.items → seen_as new.constraints.items (start_of new) values ≡ seen_as old.constraints.items (start_of old) values
+same_seen old new values at = ap (λ (cs : Vec Expr). seen_as cs.items (start_of new) values) at.constraints ∙ ap (λ b. seen_as old.constraints.items b values) at.start
+
+pub same_given : (old new : Narrowed) (values : List ℤ) (o : Option (Vec ℕ)) → o ≡ None → AreGiven o old values → IsAt old new old.given.items → AreGiven o new values
+same_given old new values o none given at =
+    let own : old.given.items ≡ points values = subst (λ x. AreGiven x old values) none given in
+    subst (λ x. AreGiven x new values) (sym none) (at.given_is ∙ own)
 
 -- ---- one value more
 

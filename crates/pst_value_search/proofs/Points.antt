@@ -89,6 +89,18 @@ few_reasons es given count start places many reasons vs met within agree =
 
 -- ---- values that agree
 
+pub get_more : (xs ys : List ℤ) (i : ℕ) (v : ℤ) → slice_get xs i ≡ Some v → slice_get (xs ++ ys) i ≡ Some v
+get_more [] ys i v e = absurd (none-some v e)
+get_more (x ∷ xs) ys zero v e = e
+get_more (x ∷ xs) ys (suc i) v e = get_more xs ys i v e
+
+pub get_next : (xs : List ℤ) (v : ℤ) → slice_get (xs ++ v ∷ []) (length xs) ≡ Some v
+get_next [] v = refl
+get_next (x ∷ xs) v = get_next xs v
+
+pub contains_more : (x : ℕ) (xs : List ℕ) (i : ℕ) → Contains xs i → Contains (x ∷ xs) i
+contains_more x xs i (k, l, e) = (suc k, omega (arith, l), e)
+
 pub values_agree : (places : List ℕ) (values : List ℤ) (vs : List (Option ℤ)) → ((i : ℕ) (v : ℤ) → Contains places i → slice_get values i ≡ Some v → variable_value vs i ≡ Some v) → Agree places (points values) vs
 values_agree places values vs same k g e there =
     let p = point_at 0 values k g e in

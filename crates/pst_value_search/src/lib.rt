@@ -4,5 +4,5 @@
 mod laws;
 mod valued;
 
-pub use laws::refusals_hold_nothing;
+pub use laws::{excluded_values_hold_nothing, refusals_hold_nothing};
 pub use valued::Valued;

@@ -1,16 +1,19 @@
 //! Values that are given one after another.
-ghost use Rattle.std.specs.Prelude.{◌≡◌, ℕ, ℤ, ◌<◌, ◌++◌, length, map, filter, nat_lt, if◌then◌else◌, [], ◌∷◌, IfOk, IfSome, OnOk, OnErr};
+ghost use Rattle.std.specs.Prelude.{◌≡◌, ℕ, ℤ, ◌<◌, ◌≤◌, ◌++◌, length, map, filter, nat_lt, if◌then◌else◌, [], ◌∷◌, None, IfOk, IfSome, OnOk, OnErr};
 ghost use Rattle.pst_expr.specs.Tree.{view};
+ghost use Rattle.pst_expr.specs.Spans.{size_of};
 ghost use Rattle.pst_domain.specs.Bounds.{AreUpright};
 ghost use Rattle.pst_narrow.specs.Narrowing.{HaveVariablesBelow};
-ghost use Rattle.pst_reasons.specs.Giving.{IsKept};
-ghost use Rattle.pst_value_search.specs.Values.{with_value, Refuses, Begins};
+ghost use Rattle.pst_reasons.specs.Giving.{IsKept, IsAt};
+ghost use Rattle.pst_fitting.specs.Passed.{Passes};
+ghost use Rattle.pst_value_search.specs.Values.{with_value, Refuses, RefusesNothing, Skips, Begins};
 ghost use Rattle.pst_value_search.specs.Made.{IsThere, GivesValue};
 
 use pst_base::NoMemory;
 use pst_domain::Bounds;
-use pst_expr::{Expr, Span};
-use pst_reasons::Narrowed;
+use pst_expr::{Domain, Expr, Span};
+use pst_fitting::{Fitting, first_fitting};
+use pst_reasons::{Narrowed, given_spans_refuse_nothing};
 use std::alloc::Global;
 use std::marker::Model;
 
@@ -71,6 +74,28 @@ fn give_to(
             Ok(Some(kept))
         }
     }
+}
+
+// The first value of the variable of that number that fits, from a place of the order on.
+fn first_for(
+    alloc: Global,
+    narrowed: &mut Narrowed,
+    number: usize,
+    domain: &Domain,
+    start: u64,
+    from: u64,
+) -> Result<Fitting, NoMemory>
+    requires kept { IsKept narrowed.old }
+    requires start { start < size_of domain.now }
+    requires from { from ≤ size_of domain.now }
+    ensures at { IsAt narrowed.old narrowed.new narrowed.old.given.items }
+    ensures passes { IfOk result (λ found. Passes narrowed.old number domain.now start from found) }
+{
+    if number >= narrowed.bounds.spans().len() || number >= u32::MAX as usize {
+        return Err(NoMemory);
+    }
+    let found = first_fitting(alloc, narrowed, number as u32, domain, start, from)?;
+    Ok(found)
 }
 
 /// Variables, by number, that are given values one after another, under constraints. Contracts see the constraints,
@@ -158,13 +183,35 @@ impl Valued {
     }
 
     /// Why the values can't be: places of them, such that no values that meet the constraints and lie within the
-    /// bounds are the same there. Nothing where that isn't known.
+    /// bounds are the same there. Nothing where no constraint is refused at them.
     pub fn refusal(&self) -> Option<&[u32]>
-        ensures { IfSome result (λ places. Refuses self.now places.now) }
+        ensures why { IfSome result (λ places. Refuses self.now places.now) }
+        ensures none { result ≡ None → RefusesNothing self.now }
     {
+        given_spans_refuse_nothing();
         match &self.refused {
             None => None,
             Some(places) => Some(places.as_slice()),
         }
+    }
+
+    /// The first value of the next variable, from a place of the seed's order on, that can be given, and why those
+    /// before it can't be. The values are those of the domain, and the order begins at the one of that index.
+    pub fn skip(&mut self, domain: &Domain, start: u64, from: u64) -> Result<Fitting, NoMemory>
+        requires start { start < size_of domain.now }
+        requires from { from ≤ size_of domain.now }
+        ensures same { self.new ≡ self.old }
+        ensures skips { IfOk result (λ found. Skips self.old domain.now start from found) }
+    {
+        let is_refused = is_some(&self.refused);
+        if is_refused {
+            return Ok(Fitting {
+                place: from,
+                reasons: Vec::new(self.alloc),
+            });
+        }
+        let number = self.values.len();
+        let found = first_for(self.alloc, &mut self.narrowed, number, domain, start, from)?;
+        Ok(found)
     }
 }
