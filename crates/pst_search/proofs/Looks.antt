@@ -26,6 +26,9 @@ use Rattle.pst_search_loop.specs.declared.walker.Look.{Look}
 use Rattle.pst_search_loop.specs.declared.walker.Look.TheVariants as look
 use Rattle.pst_search.specs.Readings.{kept_of, barren_at, IsAnswer}
 use Rattle.pst_plan_so_far.specs.Laws.{ReadsSources, PlansRefuseLists, SourcesAreBuilt}
+use Rattle.pst_order_ahead.specs.LaidOut.{IsLaidOut, ReadsTree}
+use Rattle.pst_order_ahead.specs.Ahead.{IsRefusedAhead}
+use Rattle.pst_order_ahead.specs.Laws.{TreesAreLaidOut, RefusalsAheadStay}
 use Rattle.pst_search.specs.Judging.{TellsPlan, TellsLegal}
 
 next_dead : (a : Answer) → next_of a ≡ next.Dead → a ≡ Dead
@@ -81,6 +84,24 @@ module _ (k : Kept) where
 
   pub built_at : SourcesAreBuilt → IsRead (answer k) → ReadsSources (view_model k.model) k.root k.seed k.level k.choices → (s : Scenario) → IfRead (answer k) (λ t. s ≡ t) → IsBuilt s
   built_at built is sources s same = built_by built (answer k) refl is sources s same
+
+  -- ---- the order so far
+
+  laid_by : TreesAreLaidOut → (a : Answer) → answer k ≡ a → IsRead a → ReadsTree (view_model k.model) k.root k.seed k.level k.choices → (s : Scenario) → IfRead a (λ t. s ≡ t) → IsLaidOut s
+  laid_by laid (Options t n) e is tree s same = laid (view_model k.model) k.root k.seed k.level k.choices s tree (subst (λ a. HasRead a s) (sym e) (sym same))
+  laid_by laid (Whole t) e is tree s same = laid (view_model k.model) k.root k.seed k.level k.choices s tree (subst (λ a. HasRead a s) (sym e) (sym same))
+  laid_by laid Dead e is tree s same = absurd is
+
+  pub laid_at : TreesAreLaidOut → IsRead (answer k) → ReadsTree (view_model k.model) k.root k.seed k.level k.choices → (s : Scenario) → IfRead (answer k) (λ t. s ≡ t) → IsLaidOut s
+  laid_at laid is tree s same = laid_by laid (answer k) refl is tree s same
+
+  ordered_by : RefusalsAheadStay → (a : Answer) → answer k ≡ a → IsRead a → (s : Scenario) → IfRead a (λ t. s ≡ t) → IsRefusedAhead s → barren_at k
+  ordered_by law (Options t n) e is s same refused = law (view_model k.model) k.root k.seed k.level k.choices s (subst (λ a. HasRead a s) (sym e) (sym same)) refused
+  ordered_by law (Whole t) e is s same refused = law (view_model k.model) k.root k.seed k.level k.choices s (subst (λ a. HasRead a s) (sym e) (sym same)) refused
+  ordered_by law Dead e is s same refused = absurd is
+
+  pub order_barren : RefusalsAheadStay → IsRead (answer k) → (s : Scenario) → IfRead (answer k) (λ t. s ≡ t) → IsRefusedAhead s → barren_at k
+  order_barren law is s same refused = ordered_by law (answer k) refl is s same refused
 
   -- ---- whole scenarios
 

@@ -15,8 +15,10 @@ use crate::judging::{has_plan, judge};
 use pst_base::NoMemory;
 use pst_built::whole_readings_are_built;
 use pst_graph::plan_of;
+use pst_link_order::is_refused_ahead;
 use pst_list_walk::ListWalk;
 use pst_longer::{dead_stays_dead, whole_lists_end};
+use pst_order_ahead::{refusals_ahead_stay, trees_are_laid_out};
 use pst_plan_so_far::{plans_refuse_lists, sources_are_built};
 use pst_read_legal::{legal_is_unrefused, planned_readings_are_legal};
 use pst_read_nodes::nodes_stand_for_pieces;
@@ -64,7 +66,35 @@ fn plan_refuses(alloc: Global, lists: &ListWalk<'_>) -> Result<bool, NoMemory>
     Ok(!planned)
 }
 
-// A place or a whole scenario, unless a constraint or the plan refuses what is read.
+// Whether the order of what is linked so far refuses it, where it is to be judged.
+fn order_refuses(alloc: Global, lists: &ListWalk<'_>) -> Result<bool, NoMemory>
+    requires { IsRead (answer lists.now) }
+    ensures { IfOk result (λ r. r ≡ true → barren_at lists.now) }
+{
+    trees_are_laid_out();
+    refusals_ahead_stay();
+    let linking = lists.linking()?;
+    let Some(scenario) = linking else {
+        return Ok(false);
+    };
+    let refused = is_refused_ahead(alloc, &scenario)?;
+    Ok(refused)
+}
+
+// Whether the plan of what is linked refuses it, or its order while it is being linked.
+fn is_unplanned(alloc: Global, lists: &ListWalk<'_>) -> Result<bool, NoMemory>
+    requires { IsRead (answer lists.now) }
+    ensures { IfOk result (λ r. r ≡ true → barren_at lists.now) }
+{
+    let disordered = order_refuses(alloc, lists)?;
+    if disordered {
+        return Ok(true);
+    }
+    let unplanned = plan_refuses(alloc, lists)?;
+    Ok(unplanned)
+}
+
+// A place or a whole scenario, unless a constraint, the order or the plan refuses what is read.
 fn unless_refused(alloc: Global, lists: &ListWalk<'_>, shown: Look) -> Result<Look, NoMemory>
     requires sound { IsSound (view_model lists.now.model) }
     requires read { IsRead (answer lists.now) }
@@ -77,7 +107,7 @@ fn unless_refused(alloc: Global, lists: &ListWalk<'_>, shown: Look) -> Result<Lo
         let conflict = closed(alloc, lists)?;
         return Ok(Look::Closed(conflict));
     }
-    let unplanned = plan_refuses(alloc, lists)?;
+    let unplanned = is_unplanned(alloc, lists)?;
     if unplanned {
         let conflict = closed(alloc, lists)?;
         return Ok(Look::Closed(conflict));
