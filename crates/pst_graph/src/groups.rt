@@ -170,7 +170,7 @@ fn join_all(groups: &mut Vec<u32>, scenario: &Scenario, count: u32)
 
 /// The group of each action, in time that grows with the number of references and the length of the
 /// longest way along streams.
-pub(crate) fn groups_of(
+pub fn groups_of(
     alloc: Global,
     scenario: &Scenario,
     count: u32,

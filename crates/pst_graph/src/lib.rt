@@ -17,5 +17,6 @@ mod uses;
 mod whole;
 mod writes;
 
+pub use groups::groups_of;
 pub use planning::{PlanEnd, plan_of};
 pub use whole::plan;

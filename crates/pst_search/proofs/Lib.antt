@@ -1,3 +1,4 @@
 pub mod Looks
+pub mod Short
 pub mod Plans
 pub mod Ends

@@ -7,5 +7,6 @@ mod first;
 mod judging;
 mod looking;
 mod reading;
+mod shortage;
 
 pub use first::{SearchEnd, search};

@@ -12,6 +12,7 @@ ghost use Rattle.pst_search.specs.Readings.{kept_of, barren_at, IsAnswer, IsFoun
 
 use crate::copies::copy_scenario;
 use crate::judging::{has_plan, judge};
+use crate::shortage::is_short;
 use pst_base::NoMemory;
 use pst_built::whole_readings_are_built;
 use pst_graph::plan_of;
@@ -49,13 +50,17 @@ fn closed(alloc: Global, lists: &ListWalk<'_>) -> Result<Conflict, NoMemory>
     Ok(all)
 }
 
-// Whether the plan refuses what is read, where that may just have become known.
+// Whether the plan refuses what is read, or there are too few instances for its claims, where that may just have become
+// known.
 fn plan_refuses(alloc: Global, lists: &ListWalk<'_>) -> Result<bool, NoMemory>
     requires { IsRead (answer lists.now) }
     ensures { IfOk result (λ r. r ≡ true → barren_at lists.now) }
 {
     sources_are_built();
     plans_refuse_lists();
+    if is_short(alloc, lists)? {
+        return Ok(true);
+    }
     if !lists.is_to_be_planned() {
         return Ok(false);
     }

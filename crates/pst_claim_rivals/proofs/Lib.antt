@@ -1,0 +1,4 @@
+pub mod Lists
+pub mod Listed
+pub mod Once
+pub mod Differ

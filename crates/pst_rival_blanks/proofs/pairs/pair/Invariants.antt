@@ -1,0 +1,6 @@
+use Rattle.std.proofs.Common.{All}
+use Rattle.pst_rival_blanks.specs.Pairs.{IsPairOf}
+use Rattle.pst_rival_blanks.proofs.pairs.pair.Given as goal
+
+abbrev pub invariant-loop-compared : goal.invariant-loop-compared
+invariant-loop-compared l = All (IsPairOf l.listing.scenario.now l.listing.claims.now) l.initial.pairs.items → All (IsPairOf l.listing.scenario.now l.listing.claims.now) l.pairs.items
