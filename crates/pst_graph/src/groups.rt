@@ -170,11 +170,7 @@ fn join_all(groups: &mut Vec<u32>, scenario: &Scenario, count: u32)
 
 /// The group of each action, in time that grows with the number of references and the length of the
 /// longest way along streams.
-pub fn groups_of(
-    alloc: Global,
-    scenario: &Scenario,
-    count: u32,
-) -> Result<Vec<u32>, NoMemory>
+pub fn groups_of(alloc: Global, scenario: &Scenario, count: u32) -> Result<Vec<u32>, NoMemory>
     requires linked { IsLinked scenario.now }
     requires count { count ≡ length scenario.now.actions }
     ensures { IfOk result (λ groups. (length groups.items ≡ length scenario.now.actions) × ((a : ℕ) → a < length scenario.now.actions → IsGroupNumber scenario.now a (get_or groups.items a 0))) }
