@@ -1,0 +1,58 @@
+//! The table of narrowing and of the search for values: what is answered on systems of constraints is compared with
+//! answers that were worked out by hand, or by a plain enumeration in another language.
+//!
+//! `stdin` is the table, in the form that `pst_cases` describes. What each call answers stands at the function that
+//! makes it. A system is written as the domains of its variables, ` | `, and its constraints with `;` between them.
+#![tactic(auto)]
+
+mod expressions;
+mod giving;
+mod systems;
+mod values;
+
+use pst_base::NoMemory;
+use pst_cases::{Heading, Score, framed, joined_lines, repeated};
+use std::alloc::{AllocError, Global};
+use std::io;
+use std::io::Read;
+
+/// The most bytes that are read.
+const LIMIT: u64 = 1 << 24;
+
+// What is answered to a call on a text.
+fn answer(alloc: Global, heading: &Heading, text: &str) -> Result<String, NoMemory> {
+    match heading.call.as_str() {
+        "bounds" => values::narrowed(alloc, text),
+        "given" => giving::given(alloc, text),
+        "fitting" => giving::fitting(alloc, text),
+        "refused" => giving::refused(alloc, text),
+        _ => values::solutions(alloc, heading.number, text),
+    }
+}
+
+// What must be answered to a case, and what is.
+fn compared(alloc: Global, heading: &Heading, line: &str) -> Result<(String, String), AllocError> {
+    let (owed, text) = line.split_once(": ").unwrap_or((line, ""));
+    let whole = framed(alloc, heading.frame.as_str(), text)?;
+    let written = repeated(alloc, whole.as_str())?;
+    let wanted = String::from_str(alloc, owed)?;
+    let found = match answer(alloc, heading, written.as_str()) {
+        Ok(text) => text,
+        Err(_) => String::from_str(alloc, "no memory")?,
+    };
+    Ok((wanted, found))
+}
+
+fn main(rt: HostRuntime) -> io::Result<()> {
+    let alloc = rt.alloc();
+    let table = io::read_to_string(alloc, rt.reader().take(LIMIT))?;
+    let mut heading = Heading::new(alloc);
+    let mut score = Score::new();
+    for line in &joined_lines(alloc, table.as_str())? {
+        if !heading.take(line.as_str())? {
+            let (wanted, found) = compared(alloc, &heading, line.as_str())?;
+            score.count(&rt, line.as_str(), wanted.as_str(), found.as_str())?;
+        }
+    }
+    score.print(&rt)
+}
