@@ -55,6 +55,7 @@ pub struct SeatedLane<T: Target> {
 fn hand_over<
     's,
     'a,
+    'j,
     E,
     N: Name + Send + Sync,
     T: Target + Send + 's,
@@ -63,19 +64,19 @@ fn hand_over<
 >(
     scope: &Scope<'s, E>,
     rt: &'s R,
-    job: Job<'s, G>,
+    job: &'s Job<'j, G>,
     post: &'s Post,
     desk: &'s SharedDesk<'a, N>,
     seated: SeatedLane<T>,
 ) -> Begun<N, T>
-    requires sound { IsSound (view_model job.model.now) }
-    requires types { HasTypes (view_model job.model.now) job.scenario.now }
+    requires sound { IsSound (view_model job.now.model.now) }
+    requires types { HasTypes (view_model job.now.model.now) job.now.scenario.now }
     requires post { post.now ≡ N.table }
     requires lanes { N.table.words ≡ N.lanes }
     requires seat { seated.seat ≡ fresh_seat N.table seated.seat.lane }
     ensures { MatchResult result
-        (λ h. (h.promise.lane ≡ seated.seat.lane) × (h.promise.model.value ≡ job.model.now) × (h.promise.scenario.value ≡ job.scenario.now) × (told T.calls T.faults h.promise.before.value ≡ told T.calls T.faults seated.lane))
-        (λ r. Worked (view_model job.model.now) job.scenario.now N.table seated.seat.lane (told T.calls T.faults seated.lane) (told T.calls T.faults r.lane) r.seat r.stop) }
+        (λ h. (h.promise.lane ≡ seated.seat.lane) × (h.promise.model.value ≡ job.now.model.now) × (h.promise.scenario.value ≡ job.now.scenario.now) × (told T.calls T.faults h.promise.before.value ≡ told T.calls T.faults seated.lane))
+        (λ r. Worked (view_model job.now.model.now) job.now.scenario.now N.table seated.seat.lane (told T.calls T.faults seated.lane) (told T.calls T.faults r.lane) r.seat r.stop) }
 {
     let SeatedLane { lane, seat } = seated;
     let owes: Owes<N, T> = Owes {
@@ -88,8 +89,8 @@ fn hand_over<
     match scope.spawn_with(
         owes,
         move || -> Returned<T>
-            requires { IsSound (view_model job.model.now) × HasTypes (view_model job.model.now) job.scenario.now × (post.now ≡ N.table) × (N.table.words ≡ N.lanes) × (seat ≡ fresh_seat N.table seat.lane) }
-            ensures { Worked (view_model job.model.now) job.scenario.now N.table seat.lane (told T.calls T.faults lane) (told T.calls T.faults result.lane) result.seat result.stop }
+            requires { IsSound (view_model job.now.model.now) × HasTypes (view_model job.now.model.now) job.now.scenario.now × (post.now ≡ N.table) × (N.table.words ≡ N.lanes) × (seat ≡ fresh_seat N.table seat.lane) }
+            ensures { Worked (view_model job.entry.now.model.now) job.entry.now.scenario.now N.table seat.lane (told T.calls T.faults lane) (told T.calls T.faults result.lane) result.seat result.stop }
         { work(rt, job, post, desk, lane, seat) },
     ) {
         Ok(child) => Ok(child),
@@ -104,6 +105,7 @@ fn hand_over<
 fn start_one<
     's,
     'a,
+    'j,
     E,
     N: Name + Send + Sync,
     T: Target + Send + 's,
@@ -112,20 +114,20 @@ fn start_one<
 >(
     scope: &Scope<'s, E>,
     rt: &'s R,
-    job: Job<'s, G>,
+    job: &'s Job<'j, G>,
     post: &'s Post,
     desk: &'s SharedDesk<'a, N>,
     seated: SeatedLane<T>,
     first: bool,
 ) -> Begun<N, T>
-    requires sound { IsSound (view_model job.model.now) }
-    requires types { HasTypes (view_model job.model.now) job.scenario.now }
+    requires sound { IsSound (view_model job.now.model.now) }
+    requires types { HasTypes (view_model job.now.model.now) job.now.scenario.now }
     requires post { post.now ≡ N.table }
     requires lanes { N.table.words ≡ N.lanes }
     requires seat { seated.seat ≡ fresh_seat N.table seated.seat.lane }
     ensures { MatchResult result
-        (λ h. (h.promise.lane ≡ seated.seat.lane) × (h.promise.model.value ≡ job.model.now) × (h.promise.scenario.value ≡ job.scenario.now) × (told T.calls T.faults h.promise.before.value ≡ told T.calls T.faults seated.lane))
-        (λ r. Worked (view_model job.model.now) job.scenario.now N.table seated.seat.lane (told T.calls T.faults seated.lane) (told T.calls T.faults r.lane) r.seat r.stop) }
+        (λ h. (h.promise.lane ≡ seated.seat.lane) × (h.promise.model.value ≡ job.now.model.now) × (h.promise.scenario.value ≡ job.now.scenario.now) × (told T.calls T.faults h.promise.before.value ≡ told T.calls T.faults seated.lane))
+        (λ r. Worked (view_model job.now.model.now) job.now.scenario.now N.table seated.seat.lane (told T.calls T.faults seated.lane) (told T.calls T.faults r.lane) r.seat r.stop) }
 {
     if first {
         let SeatedLane { lane, seat } = seated;
@@ -138,6 +140,7 @@ fn start_one<
 fn start_all<
     's,
     'a,
+    'j,
     E,
     N: Name + Send + Sync,
     T: Target + Send + 's,
@@ -146,22 +149,22 @@ fn start_all<
 >(
     scope: &Scope<'s, E>,
     rt: &'s R,
-    job: Job<'s, G>,
+    job: &'s Job<'j, G>,
     post: &'s Post,
     desk: &'s SharedDesk<'a, N>,
     crew: Vec<SeatedLane<T>>,
     begun: Vec<Begun<N, T>>,
 ) -> Vec<Begun<N, T>>
-    requires sound { IsSound (view_model job.model.now) }
-    requires types { HasTypes (view_model job.model.now) job.scenario.now }
+    requires sound { IsSound (view_model job.now.model.now) }
+    requires types { HasTypes (view_model job.now.model.now) job.now.scenario.now }
     requires post { post.now ≡ N.table }
     requires lanes { N.table.words ≡ N.lanes }
     requires crew { (k : ℕ) (d : _) → k < vec_len crew → (slice_index_or crew.items k d).seat ≡ fresh_seat N.table k }
     requires room { (vec_len begun ≡ 0) × (vec_len crew ≤ vec_capacity begun) }
     ensures count { vec_len result ≡ vec_len crew }
     ensures each { Backwards (λ k m b. MatchResult b
-        (λ h. (h.promise.lane ≡ k) × (h.promise.model.value ≡ job.model.now) × (h.promise.scenario.value ≡ job.scenario.now) × (told T.calls T.faults h.promise.before.value ≡ told T.calls T.faults m.lane))
-        (λ r. Worked (view_model job.model.now) job.scenario.now N.table k (told T.calls T.faults m.lane) (told T.calls T.faults r.lane) r.seat r.stop)) (vec_len crew) result.items crew.items }
+        (λ h. (h.promise.lane ≡ k) × (h.promise.model.value ≡ job.now.model.now) × (h.promise.scenario.value ≡ job.now.scenario.now) × (told T.calls T.faults h.promise.before.value ≡ told T.calls T.faults m.lane))
+        (λ r. Worked (view_model job.now.model.now) job.now.scenario.now N.table k (told T.calls T.faults m.lane) (told T.calls T.faults r.lane) r.seat r.stop)) (vec_len crew) result.items crew.items }
 {
     let mut crew = crew;
     let mut begun = begun;
@@ -219,36 +222,36 @@ pub fn run_workers<
     R: Threads + Wait + Sync,
 >(
     rt: &R,
-    job: Job<'_, G>,
+    job: &Job<'_, G>,
     post: &Post,
     desk: &SharedDesk<'_, N>,
     crew: Vec<SeatedLane<T>>,
     begun: Vec<Begun<N, T>>,
     returned: Vec<Returned<T>>,
 ) -> Vec<Returned<T>>
-    requires sound { IsSound (view_model job.model.now) }
-    requires types { HasTypes (view_model job.model.now) job.scenario.now }
+    requires sound { IsSound (view_model job.now.model.now) }
+    requires types { HasTypes (view_model job.now.model.now) job.now.scenario.now }
     requires post { post.now ≡ N.table }
     requires lanes { N.table.words ≡ N.lanes }
     requires crew { (k : ℕ) (d : _) → k < vec_len crew → (slice_index_or crew.items k d).seat ≡ fresh_seat N.table k }
     requires room { (vec_len begun ≡ 0) × (vec_len crew ≤ vec_capacity begun) }
     requires more { (vec_len returned ≡ 0) × (vec_len crew ≤ vec_capacity returned) }
     ensures count { vec_len result ≡ vec_len crew }
-    ensures each { Forwards (λ k m r. Worked (view_model job.model.now) job.scenario.now N.table k (told T.calls T.faults m.lane) (told T.calls T.faults r.lane) r.seat r.stop) result.items crew.items }
+    ensures each { Forwards (λ k m r. Worked (view_model job.now.model.now) job.now.scenario.now N.table k (told T.calls T.faults m.lane) (told T.calls T.faults r.lane) r.seat r.stop) result.items crew.items }
 {
     let was = Snapshot::of(&crew);
     let begun = thread::scope(
         thread::scope_env(),
         rt,
         move |scope| -> Vec<Begun<N, T>>
-            requires models { IsSound (view_model job.model.now) × HasTypes (view_model job.model.now) job.scenario.now }
+            requires models { IsSound (view_model job.now.model.now) × HasTypes (view_model job.now.model.now) job.now.scenario.now }
             requires post { (post.now ≡ N.table) × (N.table.words ≡ N.lanes) }
             requires crew { (k : ℕ) (d : _) → k < vec_len crew → (slice_index_or crew.items k d).seat ≡ fresh_seat N.table k }
             requires room { (vec_len begun ≡ 0) × (vec_len crew ≤ vec_capacity begun) }
             ensures count { vec_len result ≡ vec_len crew }
             ensures each { Backwards (λ k m b. MatchResult b
-                (λ h. (h.promise.lane ≡ k) × (h.promise.model.value ≡ job.model.now) × (h.promise.scenario.value ≡ job.scenario.now) × (told T.calls T.faults h.promise.before.value ≡ told T.calls T.faults m.lane))
-                (λ r. Worked (view_model job.model.now) job.scenario.now N.table k (told T.calls T.faults m.lane) (told T.calls T.faults r.lane) r.seat r.stop)) (vec_len crew) result.items crew.items }
+                (λ h. (h.promise.lane ≡ k) × (h.promise.model.value ≡ job.entry.now.model.now) × (h.promise.scenario.value ≡ job.entry.now.scenario.now) × (told T.calls T.faults h.promise.before.value ≡ told T.calls T.faults m.lane))
+                (λ r. Worked (view_model job.entry.now.model.now) job.entry.now.scenario.now N.table k (told T.calls T.faults m.lane) (told T.calls T.faults r.lane) r.seat r.stop)) (vec_len crew) result.items crew.items }
         { start_all(scope, rt, job, post, desk, crew, begun) },
     );
     join_all(rt, job.model, job.scenario, begun, was, returned)

@@ -8,6 +8,7 @@
 
 mod crew;
 mod shared;
+mod signals;
 mod worker;
 
 pub use crew::{Begun, SeatedLane, run_workers};

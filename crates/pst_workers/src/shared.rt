@@ -1,33 +1,17 @@
 //! The desk of a run behind its lock, and where the workers sleep.
 ghost use Rattle.std.specs.Prelude.{◌≡◌, ◌<◌, ◌≤◌, ◌++◌, ◌∷◌, [], MatchOption};
 
+use crate::signals::Signals;
 use pst_desk::{Desk, Name};
 use pst_post::{LaneSeat, MOST_LANES, Post};
 use pst_scen::Event;
-use std::array;
-use std::sync::{Condvar, Mutex, Wait};
+use std::sync::{Mutex, Wait};
 
-/// The desk of a run behind its lock, with a condition variable for each lane, on which the worker of that lane sleeps.
+/// The desk of a run behind its lock, with the signals on which the workers sleep.
 #[derive(Drop)]
 pub struct SharedDesk<'a, N: Name> {
     desk: Mutex<Desk<'a, N>>,
-    moved: [Condvar; MOST_LANES],
-}
-
-// Records the end of what the lane handed back, and opens and posts what can start then. It tells which lanes have something to
-// do now: those on which actions started, or all, where nothing more comes.
-fn move_on<N: Name>(desk: &mut Desk<'_, N>, post: &Post, lane: u32) -> [bool; MOST_LANES]
-    requires post { post.now ≡ N.table }
-    requires lanes { N.table.words ≡ N.lanes }
-    requires lane { lane < N.lanes }
-{
-    desk.ended(post, lane);
-    let before = desk.book().trace().len();
-    desk.turn(post);
-    if desk.stopped() || desk.book().finished() {
-        return [true; MOST_LANES];
-    }
-    started_since(desk.book().trace(), before)
+    signals: Signals,
 }
 
 // The lanes on which actions start in the events behind the first ones.
@@ -43,18 +27,34 @@ fn started_since(trace: &[Event], before: usize) -> [bool; MOST_LANES] {
     started
 }
 
+// Records the end of what the lane handed back, and opens and posts what can start then. It tells which lanes can go on: those on
+// which actions started, or all, where nothing more comes.
+fn move_on<N: Name>(desk: &mut Desk<'_, N>, post: &Post, lane: u32) -> [bool; MOST_LANES]
+    requires post { post.now ≡ N.table }
+    requires lanes { N.table.words ≡ N.lanes }
+    requires lane { lane < N.lanes }
+{
+    let _ended = desk.ended(post, lane);
+    let before = desk.book().trace().len();
+    let _turned = desk.turn(post);
+    if desk.stopped() || desk.book().finished() {
+        return [true; MOST_LANES];
+    }
+    started_since(desk.book().trace(), before)
+}
+
 impl<'a, N: Name> SharedDesk<'a, N> {
     /// Puts a desk behind a lock.
     pub fn new(desk: Desk<'a, N>) -> SharedDesk<'a, N> {
         SharedDesk {
             desk: Mutex::new(desk),
-            moved: array::from_fn(|_| Condvar::new()),
+            signals: Signals::new(),
         }
     }
 
     /// The desk, once no worker shares it any more.
     pub fn into_desk(self) -> Desk<'a, N> {
-        let SharedDesk { desk, moved: _ } = self;
+        let SharedDesk { desk, signals: _ } = self;
         desk.into_inner()
     }
 
@@ -62,14 +62,13 @@ impl<'a, N: Name> SharedDesk<'a, N> {
     /// looks under the lock, under which actions are posted, so no wake-up falls between.
     pub(crate) fn next<R: Wait>(&self, rt: &R, post: &Post, seat: &mut LaneSeat) -> Option<u32>
         requires post { seat.old.table ≡ post.now }
-        requires words { post.now.words ≤ 16 }
         requires idle { seat.old.fetched ≡ seat.old.finished }
         ensures table { seat.new.table ≡ seat.old.table }
         ensures lane { seat.new.lane ≡ seat.old.lane }
         ensures finished { seat.new.finished ≡ seat.old.finished }
         ensures fetched { MatchOption result (seat.new.fetched ≡ seat.old.fetched) (λ act. seat.new.fetched ≡ seat.old.fetched ++ act ∷ []) }
     {
-        let lane = seat.lane() as usize;
+        let lane = seat.lane();
         for _ in rt.forever() {
             let guard = self.desk.lock(rt);
             if let Some(act) = post.fetch(seat) {
@@ -78,7 +77,7 @@ impl<'a, N: Name> SharedDesk<'a, N> {
             if guard.stopped() || guard.book().finished() {
                 return None;
             }
-            drop(self.moved[lane].wait(rt, guard));
+            drop(self.signals.wait(rt, lane, guard));
         }
         unreachable!()
     }
@@ -89,19 +88,16 @@ impl<'a, N: Name> SharedDesk<'a, N> {
         requires lanes { N.table.words ≡ N.lanes }
         requires lane { lane < N.lanes }
     {
-        let can_go_on = move_on(&mut *self.desk.lock(rt), post, lane);
-        for number in 0..MOST_LANES {
-            if can_go_on[number] {
-                self.moved[number].notify_one();
-            }
-        }
+        let can_go_on = {
+            let mut guard = self.desk.lock(rt);
+            move_on(&mut *guard, post, lane)
+        };
+        self.signals.wake(&can_go_on);
     }
 
     /// Stops the run: no group starts any more. It wakes all workers, which find it out.
     pub(crate) fn stop<R: Wait>(&self, rt: &R) {
         self.desk.lock(rt).stop();
-        for number in 0..MOST_LANES {
-            self.moved[number].notify_one();
-        }
+        self.signals.wake(&[true; MOST_LANES]);
     }
 }

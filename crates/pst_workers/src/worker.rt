@@ -18,7 +18,6 @@ use std::alloc::Global;
 use std::sync::Wait;
 
 /// What bodies are run with: the model and the scenario, and the gate that a worker passes before each.
-#[derive(Clone, Copy)]
 pub struct Job<'s, G: Gate> {
     /// What memory is taken from.
     pub alloc: Global,
@@ -53,18 +52,18 @@ pub struct Returned<T: Target> {
 /// Runs what is posted to the lane, until nothing more comes or a body doesn't end, and then stops the run.
 pub(crate) fn work<N: Name, T: Target, G: Gate, R: Wait>(
     rt: &R,
-    job: Job<'_, G>,
+    job: &Job<'_, G>,
     post: &Post,
     desk: &SharedDesk<'_, N>,
     lane: T,
     seat: LaneSeat,
 ) -> Returned<T>
-    requires sound { IsSound (view_model job.model.now) }
-    requires types { HasTypes (view_model job.model.now) job.scenario.now }
+    requires sound { IsSound (view_model job.now.model.now) }
+    requires types { HasTypes (view_model job.now.model.now) job.now.scenario.now }
     requires post { post.now ≡ N.table }
     requires lanes { N.table.words ≡ N.lanes }
     requires seat { seat ≡ fresh_seat N.table seat.lane }
-    ensures { Worked (view_model job.model.now) job.scenario.now N.table seat.lane (told T.calls T.faults lane) (told T.calls T.faults result.lane) result.seat result.stop }
+    ensures { Worked (view_model job.now.model.now) job.now.scenario.now N.table seat.lane (told T.calls T.faults lane) (told T.calls T.faults result.lane) result.seat result.stop }
 {
     let mut lane = lane;
     let mut seat = seat;
