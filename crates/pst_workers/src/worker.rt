@@ -18,6 +18,7 @@ use std::alloc::Global;
 use std::sync::Wait;
 
 /// What bodies are run with: the model and the scenario, and the gate that a worker passes before each.
+#[derive(Drop)]
 pub struct Job<'s, G: Gate> {
     /// What memory is taken from.
     pub alloc: Global,
