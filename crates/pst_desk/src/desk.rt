@@ -1,5 +1,5 @@
 //! The desk.
-ghost use Rattle.std.specs.Prelude.{◌≡◌, ◌+◌, ◌<◌, ◌++◌, ◌∷◌, [], ℕ, false, true, IsTrue};
+ghost use Rattle.std.specs.Prelude.{◌≡◌, ◌+◌, ◌<◌, ◌++◌, ◌∷◌, [], ℕ, length, false, true, IsTrue};
 ghost use Rattle.pst_scen.specs.Trace.{Prefix};
 ghost use Rattle.pst_post.specs.Seats.{lane_entry, seat_progress};
 ghost use Rattle.pst_post.specs.Steps.{with_seat};
@@ -132,6 +132,13 @@ impl<'a, N: Name> Desk<'a, N> {
     {
         self.seat.show_width();
         post.gather(&mut self.seat, lane_seat);
+    }
+
+    /// Shows its caller's proof that it has an entry for each lane. It does nothing.
+    pub fn show_width(&self)
+        ensures { length self.now.entries ≡ N.table.words }
+    {
+        self.seat.show_width();
     }
 
     /// Stops it: from now on no group starts.

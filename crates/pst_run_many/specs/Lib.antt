@@ -1,0 +1,4 @@
+pub mod Many
+pub mod Stops
+pub mod Alone
+pub mod Gathered

@@ -1,0 +1,4 @@
+pub mod Rows
+pub mod Runs
+mod Working
+mod Crossing
