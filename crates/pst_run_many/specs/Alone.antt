@@ -1,5 +1,5 @@
 -- What a caller that goes on alone makes of a book and of a lane.
-use Rattle.std.specs.Prelude.{◌≡◌, ◌≢◌, ℕ, ◌≤◌, List, [], ◌∷◌, ◌++◌, length, Result, Ok, Err}
+use Rattle.std.specs.Prelude.{◌≡◌, ◌≢◌, ℕ, ◌<◌, ◌≤◌, List, [], ◌∷◌, ◌++◌, length, Result, Ok, Err}
 use Rattle.pst_model.specs.ModelTree.{ModelTree}
 use Rattle.pst_scen.specs.declared.scenario.Scenario.{Scenario}
 use Rattle.pst_lanes.specs.Lanes.{starts_on, ends_on}
@@ -11,6 +11,12 @@ use Rattle.pst_run_many.specs.declared.stop.LaneStop.{LaneStop}
 pub record GoesOn (old new : View) : Type 0 where
   pub same : new ≡ with_trace old new.trace
   pub longer : length old.trace ≤ length new.trace
+
+-- the same book with one group more started, on lanes on which it leaves what had ended
+pub record HasOpened (old new : View) : Type 0 where
+  pub same : new ≡ with_trace old new.trace
+  pub longer : length old.trace < length new.trace
+  pub ends : (k : ℕ) → ends_on k new.trace ≡ ends_on k old.trace
 
 -- All that started on the lane has ended, on the other lanes the same starts and ends stand, and if the lane's calls were the runs of what had
 -- ended, they are so still.

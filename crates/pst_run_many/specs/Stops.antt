@@ -15,7 +15,8 @@ is_out_of_memory NoMemory = true
 
 -- of the lanes so far and one more, the last one on which memory ran out, or else the first
 abbrev pub earlier_of : Option LaneStop → Option Broken → ℕ → Option LaneStop
-earlier_of first None lane = first
+earlier_of None None lane = None
+earlier_of (Some first) None lane = Some first
 earlier_of None (Some broken) lane = Some (record { lane = lane; broken = broken })
 earlier_of (Some first) (Some broken) lane = if is_out_of_memory broken.end then Some (record { lane = lane; broken = broken }) else Some first
 

@@ -32,7 +32,7 @@ fn gather_one<N: Name>(post: &Post, desk: &mut Desk<'_, N>, seat: LaneSeat)
 
 /// The desk takes in all seats, and the lanes come back in their order. It answers the lane that is told.
 pub(crate) fn gather_all<N: Name, T: Target, G: Gate>(
-    job: Job<'_, G>,
+    job: &Job<'_, G>,
     post: &Post,
     desk: &mut Desk<'_, N>,
     returned: Vec<Returned<T>>,
@@ -42,12 +42,12 @@ pub(crate) fn gather_all<N: Name, T: Target, G: Gate>(
     requires post { post.now ≡ N.table }
     requires lanes { N.table.words ≡ N.lanes }
     requires room { (vec_len lanes.old ≡ 0) × (vec_len returned ≤ vec_capacity lanes.old) }
-    requires each { Forwards (λ k m r. Worked (view_model job.model.now) job.scenario.now N.table k (told T.calls T.faults m.lane) (told T.calls T.faults r.lane) r.seat r.stop) returned.items crew.value.items }
+    requires each { Forwards (λ k m r. Worked (view_model job.now.model.now) job.now.scenario.now N.table k (told T.calls T.faults m.lane) (told T.calls T.faults r.lane) r.seat r.stop) returned.items crew.value.items }
     ensures count { vec_len lanes.new ≡ vec_len returned }
     ensures room { vec_capacity lanes.new ≡ vec_capacity lanes.old }
     ensures home { (k : ℕ) → k < vec_len returned → IsHome (entry_at desk.new.entries k) }
     ensures inside { IfSome result (λ first. first.lane < vec_len returned) }
-    ensures came { Forwards (λ k m t. Came (view_model job.model.now) job.scenario.now result k (entry_at desk.new.entries k).posted (entry_at desk.new.entries k).ended (told T.calls T.faults m.lane) (told T.calls T.faults t)) lanes.new.items crew.value.items }
+    ensures came { Forwards (λ k m t. Came (view_model job.now.model.now) job.now.scenario.now result k (entry_at desk.new.entries k).posted (entry_at desk.new.entries k).ended (told T.calls T.faults m.lane) (told T.calls T.faults t)) lanes.new.items crew.value.items }
 {
     let mut first = None;
     for worker in returned {

@@ -1,0 +1,6 @@
+mod Ends
+mod Lanes
+mod Finishing
+mod Settling
+mod Seating
+mod Endings
