@@ -2,10 +2,12 @@
 //! first in the order of the seed.
 #![tactic(auto)]
 
+mod behind;
 mod copies;
 mod first;
 mod judging;
 mod looking;
 mod reading;
+mod skipping;
 
 pub use first::{SearchEnd, search};
