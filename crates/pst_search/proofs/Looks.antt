@@ -6,6 +6,7 @@ use Rattle.pst_scen.specs.declared.next.Next.TheVariants as next
 use Rattle.pst_scen.specs.declared.scenario.Scenario.{Scenario}
 use Rattle.pst_scen.specs.Refusals.{IsUnrefused}
 use Rattle.pst_legal.specs.Constraints.{Holds}
+use Rattle.pst_legal.specs.First.{NoneRefused}
 use Rattle.pst_legal.specs.ValueReading.{Answer, Options, Dead, Whole, read}
 use Rattle.pst_longer.specs.Laws.{DeadStaysDead, WholeListsEnd}
 use Rattle.pst_built.specs.Laws.{IsConcreteRoot, WholeReadingsAreBuilt}
@@ -51,7 +52,7 @@ module _ (k : Kept) where
   pub refused_barren : RefusedListsAreBarren → IsSound (view_model k.model) → (b : Bool) → b ≡ true → IsRead (answer k) → IfRead (answer k) (λ s. TellsRefusals (view_model k.model) s b) → barren_at k
   refused_barren law sound b e is told = refused_by law sound (answer k) refl is (subst (λ b. IfRead (answer k) (λ s. TellsRefusals (view_model k.model) s b)) e told)
 
-  shows_by : (a : Answer) (shown : Look) → answer k ≡ a → IsAnswer a shown → IfRead a (λ s. TellsRefusals (view_model k.model) s false) → Shows (kept_of k) shown
+  shows_by : (a : Answer) (shown : Look) → answer k ≡ a → IsAnswer a shown → IfRead a (NoneRefused (view_model k.model)) → Shows (kept_of k) shown
   shows_by (Options s n) (look.Options count) e is told = (s, e ∙ ap (Options s) is, told)
   shows_by (Options s n) look.Whole e is told = absurd is
   shows_by (Options s n) (look.Closed c) e is told = absurd is
@@ -60,8 +61,11 @@ module _ (k : Kept) where
   shows_by (Whole s) look.Whole e is told = (s, e, told)
   shows_by (Whole s) (look.Closed c) e is told = absurd is
 
-  pub shows_live : (shown : Look) (b : Bool) → b ≡ false → IsAnswer (answer k) shown → IfRead (answer k) (λ s. TellsRefusals (view_model k.model) s b) → Shows (kept_of k) shown
-  shows_live shown b e is told = shows_by (answer k) shown refl is (subst (λ b. IfRead (answer k) (λ s. TellsRefusals (view_model k.model) s b)) e told)
+  pub shows_live : (shown : Look) → IsAnswer (answer k) shown → IfRead (answer k) (NoneRefused (view_model k.model)) → Shows (kept_of k) shown
+  shows_live shown is free = shows_by (answer k) shown refl is free
+
+  pub none_refused : (b : Bool) → b ≡ false → IfRead (answer k) (λ s. TellsRefusals (view_model k.model) s b) → IfRead (answer k) (NoneRefused (view_model k.model))
+  none_refused b e told = subst (λ b. IfRead (answer k) (λ s. TellsRefusals (view_model k.model) s b)) e told
 
   -- ---- plans
 

@@ -1,4 +1,5 @@
 pub mod Readings
 pub mod Judging
+pub mod Tied
 pub mod Made
 pub mod Searches

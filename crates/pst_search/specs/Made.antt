@@ -4,6 +4,7 @@ use Rattle.pst_model.specs.Sound.{IsSound}
 use Rattle.pst_built.specs.Laws.{IsConcreteRoot}
 use Rattle.pst_link_walk.specs.Walks.{Kept}
 use Rattle.pst_search.specs.declared.reading.Reading.TheInside.{Inside}
+use Rattle.pst_search.specs.Tied.{IsTied}
 
 abbrev pub kept_by : Inside → Kept
 kept_by r = r.lists
@@ -13,5 +14,7 @@ pub record IsGround (k : Kept) : Type 0 where
   pub sound : IsSound (view_model k.model)
   pub concrete : IsConcreteRoot (view_model k.model) k.root
 
-abbrev pub IsReading : Inside → Type 0
-IsReading r = IsGround r.lists
+-- and what is kept of the values behind the sources is of the choices
+pub record IsReading (r : Inside) : Type 0 where
+  pub ground : IsGround r.lists
+  pub tied : IsTied r.lists r.behind

@@ -2,11 +2,13 @@
 //! first in the order of the seed.
 #![tactic(auto)]
 
+mod behind;
 mod copies;
 mod first;
 mod judging;
 mod looking;
 mod reading;
 mod shortage;
+mod skipping;
 
 pub use first::{SearchEnd, search};

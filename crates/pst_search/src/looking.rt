@@ -4,7 +4,8 @@ ghost use Rattle.pst_model.specs.ModelView.{view_model};
 ghost use Rattle.pst_model.specs.Sound.{IsSound};
 ghost use Rattle.pst_scen.specs.declared.next.Next.TheVariants as next_to;
 ghost use Rattle.pst_built.specs.Laws.{IsConcreteRoot};
-ghost use Rattle.pst_shape.specs.Walks.{next_of};
+ghost use Rattle.pst_legal.specs.First.{NoneRefused};
+ghost use Rattle.pst_shape.specs.Walks.{next_of, IfRead};
 ghost use Rattle.pst_list_walk.specs.Walks.{answer, IsRead};
 ghost use Rattle.pst_search_loop.specs.Kept.{Shows, IsConflict, IsWhole, Judges, HasOptions, Rests};
 ghost use Rattle.pst_search_loop.specs.Conflicts.{IsEarlier};
@@ -99,6 +100,21 @@ fn is_unplanned(alloc: Global, lists: &ListWalk<'_>) -> Result<bool, NoMemory>
     Ok(unplanned)
 }
 
+// A place or a whole scenario that refuses no constraint, unless the order or the plan refuses what is read.
+fn unless_unplanned(alloc: Global, lists: &ListWalk<'_>, shown: Look) -> Result<Look, NoMemory>
+    requires unrefused { IfRead (answer lists.now) (NoneRefused (view_model lists.now.model)) }
+    requires read { IsRead (answer lists.now) }
+    requires shown { IsAnswer (answer lists.now) shown }
+    ensures { IfOk result (λ look. Shows (kept_of lists.now) look) }
+{
+    let unplanned = is_unplanned(alloc, lists)?;
+    if unplanned {
+        let conflict = closed(alloc, lists)?;
+        return Ok(Look::Closed(conflict));
+    }
+    Ok(shown)
+}
+
 // A place or a whole scenario, unless a constraint, the order or the plan refuses what is read.
 fn unless_refused(alloc: Global, lists: &ListWalk<'_>, shown: Look) -> Result<Look, NoMemory>
     requires sound { IsSound (view_model lists.now.model) }
@@ -112,12 +128,7 @@ fn unless_refused(alloc: Global, lists: &ListWalk<'_>, shown: Look) -> Result<Lo
         let conflict = closed(alloc, lists)?;
         return Ok(Look::Closed(conflict));
     }
-    let unplanned = is_unplanned(alloc, lists)?;
-    if unplanned {
-        let conflict = closed(alloc, lists)?;
-        return Ok(Look::Closed(conflict));
-    }
-    Ok(shown)
+    unless_unplanned(alloc, lists, shown)
 }
 
 // A dead end.
@@ -138,6 +149,18 @@ pub(crate) fn look_at(alloc: Global, lists: &ListWalk<'_>) -> Result<Look, NoMem
     match lists.next() {
         Next::Options(count) => unless_refused(alloc, lists, Look::Options(count)),
         Next::Whole => unless_refused(alloc, lists, Look::Whole),
+        Next::Dead => dead(alloc, lists),
+    }
+}
+
+/// What the list comes to, where it refuses no constraint.
+pub(crate) fn look_open(alloc: Global, lists: &ListWalk<'_>) -> Result<Look, NoMemory>
+    requires { IfRead (answer lists.now) (NoneRefused (view_model lists.now.model)) }
+    ensures { IfOk result (λ look. Shows (kept_of lists.now) look) }
+{
+    match lists.next() {
+        Next::Options(count) => unless_unplanned(alloc, lists, Look::Options(count)),
+        Next::Whole => unless_unplanned(alloc, lists, Look::Whole),
         Next::Dead => dead(alloc, lists),
     }
 }

@@ -8,7 +8,9 @@ ghost use Rattle.pst_list_walk.specs.Made.{kept_at};
 ghost use Rattle.pst_search_loop.specs.Kept.{IsWhole};
 ghost use Rattle.pst_search.specs.Readings.{IsFound};
 
-use crate::looking::{found_at, judge_at, look_at, rests_on};
+use crate::behind::{Behind, back_at, choose_at, look_behind};
+use crate::looking::{found_at, judge_at, rests_on};
+use crate::skipping::skip_at;
 use pst_base::NoMemory;
 use pst_list_walk::ListWalk;
 use pst_model::Model;
@@ -23,6 +25,7 @@ use std::alloc::Global;
 pub(crate) struct Reading<'a> {
     alloc: Global,
     lists: ListWalk<'a>,
+    behind: Option<Behind>,
 }
 
 impl<'a> std::marker::Model for Reading<'a> {
@@ -56,7 +59,11 @@ impl<'a> Reading<'a> {
         ensures { IfOk result (λ r. r ≡ kept_at model.now root seed 0 []) }
     {
         let lists = ListWalk::new(alloc, model, root, seed, 0)?;
-        Ok(Reading { alloc, lists })
+        Ok(Reading {
+            alloc,
+            lists,
+            behind: None,
+        })
     }
 
     /// The whole scenario of the list, which has a plan, and that plan.
@@ -74,25 +81,26 @@ impl Walker for Reading<'_> {
     ghost kept = { kept_of };
 
     fn look(&self) -> Result<Look, NoMemory> {
-        look_at(self.alloc, &self.lists)
+        look_behind(self.alloc, &self.lists, &self.behind)
     }
 
     fn rests(&self, count: u64) -> Result<Conflict, NoMemory> {
         rests_on(self.alloc, &self.lists, count)
     }
 
-    // Nothing is skipped.
-    fn skip(&mut self, from: u64, _count: u64) -> Result<Skipped, NoMemory> {
-        Ok(Skipped::nothing(self.alloc, from))
+    fn skip(&mut self, from: u64, count: u64) -> Result<Skipped, NoMemory> {
+        skip_at(self.alloc, &self.lists, &mut self.behind, from, count)
     }
 
     fn choose(&mut self, digit: u64) -> Result<(), NoMemory> {
-        self.lists.choose(digit)?;
+        let behind = self.behind.take();
+        self.behind = choose_at(self.alloc, &mut self.lists, behind, digit)?;
         Ok(())
     }
 
     fn back(&mut self) {
-        self.lists.back();
+        let behind = self.behind.take();
+        self.behind = back_at(&mut self.lists, behind);
     }
 
     fn judge(&self) -> Result<Judged, NoMemory> {
@@ -100,6 +108,7 @@ impl Walker for Reading<'_> {
     }
 
     fn begin(&mut self, level: u32) -> Result<(), NoMemory> {
+        self.behind = None;
         self.lists.restart(level)?;
         Ok(())
     }

@@ -9,10 +9,10 @@ pub judge_at-requires-clause-whole : goal.judge_at-requires-clause-whole
 judge_at-requires-clause-whole c = subst (λ k. IsWhole (answer k)) (sym c.self.view_is) c.requires
 
 pub judge_at-requires-clause-sound : goal.judge_at-requires-clause-sound
-judge_at-requires-clause-sound c = c.self.invariant.sound
+judge_at-requires-clause-sound c = c.self.invariant.ground.sound
 
 pub judge_at-requires-clause-concrete : goal.judge_at-requires-clause-concrete
-judge_at-requires-clause-concrete c = c.self.invariant.concrete
+judge_at-requires-clause-concrete c = c.self.invariant.ground.concrete
 
 pub returns : goal.returns
 returns c = subst (λ k. IfOk c.judge_at.result (λ judged. Judges (kept_of k) judged)) c.self.view_is c.judge_at.ensures
