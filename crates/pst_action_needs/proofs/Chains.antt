@@ -5,15 +5,15 @@ use Rattle.std.specs.List.{flat_map}
 use Rattle.std.specs.Option.{option_map_or}
 use Rattle.std.proofs.lemmas.List.{length-append, append-nil}
 use Rattle.std.proofs.lemmas.List.Elements.{filter-append}
-use Rattle.pst_scope.specs.declared.declaration.Declaration.{Declaration}
-use Rattle.pst_scope.specs.declared.declaration.Sort.{Sort}
-use Rattle.pst_scope.specs.Lookups.{base_of}
-use Rattle.pst_scope.specs.Sorts.{is_claim, is_reference}
+use Rattle.pst_ast.specs.declared.scope_declaration.Declaration.{Declaration}
+use Rattle.pst_ast.specs.declared.scope_declaration.Sort.{Sort}
+use Rattle.pst_ast.specs.Lookups.{base_of}
+use Rattle.pst_ast.specs.Sorts.{is_claim, is_reference}
 use Rattle.pst_type_rules.specs.Members.{those_that, own_members}
-use Rattle.pst_inherited.specs.declared.sites.ActionSite.{ActionSite}
-use Rattle.pst_inherited.specs.Bases.{bases_within, with_bases, claims_of, references_of}
-use Rattle.pst_inherited.specs.Found.{after, compound_from, own_sort}
-use Rattle.pst_inherited.specs.Needed.{needs_within}
+use Rattle.pst_tree.specs.declared.sites.ActionSite.{ActionSite}
+use Rattle.pst_tree.specs.Bases.{bases_within, with_bases, claims_of, references_of}
+use Rattle.pst_tree.specs.InheritedFound.{after, compound_from, own_sort}
+use Rattle.pst_tree.specs.Needed.{needs_within}
 use Rattle.pst_action_needs.specs.declared.rows.Inherited.{Inherited}
 use Rattle.pst_action_needs.specs.Inheriting.{IsInherited}
 

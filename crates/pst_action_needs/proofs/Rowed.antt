@@ -2,15 +2,15 @@
 use Rattle.std.proofs.Common.{◌≡◌, refl, sym, subst, ap, ◌∙◌}
 use Rattle.std.specs.Prelude.{ℕ, zero, suc, List, [], ◌∷◌, ◌++◌, Option, Some, None, Result, Ok, Err, OnOk, slice_get}
 use Rattle.std.specs.HashMap.{get}
-use Rattle.pst_scope.specs.declared.declaration.Declaration.{Declaration}
+use Rattle.pst_ast.specs.declared.scope_declaration.Declaration.{Declaration}
 use Rattle.pst_tree.specs.declared.rows.Member.TheVariants as member
 use Rattle.pst_tree.specs.declared.rows.Rows.{Rows}
 use Rattle.pst_tree.specs.Members.{place_key, row_in, same_key}
 use Rattle.pst_tree.specs.Kept.{AreRows}
 use Rattle.pst_type_rules.specs.Members.{those_that}
-use Rattle.pst_inherited.specs.declared.sites.ActionSite.{ActionSite}
-use Rattle.pst_inherited.specs.Needed.{needs_within}
-use Rattle.pst_inherited.proofs.Needing.{references_in, claims_in}
+use Rattle.pst_tree.specs.declared.sites.ActionSite.{ActionSite}
+use Rattle.pst_tree.specs.Needed.{needs_within}
+use Rattle.pst_tree.proofs.Needing.{references_in, claims_in}
 use Rattle.pst_action_needs.specs.declared.rows.Inherited.{Inherited}
 use Rattle.pst_action_needs.specs.declared.rows.NeedSort.{NeedSort}
 use Rattle.pst_action_needs.specs.declared.rows.NeedSort.TheVariants as need

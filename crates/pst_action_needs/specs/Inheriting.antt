@@ -1,12 +1,12 @@
 -- What action types have and do with their bases, as it is kept.
 use Rattle.std.specs.Prelude.{◌≡◌, ℕ, Bool, true, false, List, Vec, Option, Some, None, length, slice_get}
 use Rattle.std.specs.declared.alloc.Global.{Global}
-use Rattle.pst_scope.specs.declared.declaration.Declaration.{Declaration}
-use Rattle.pst_scope.specs.declared.declaration.Sort.{Sort}
-use Rattle.pst_scope.specs.Sorts.{is_claim, is_reference}
-use Rattle.pst_inherited.specs.declared.sites.ActionSite.{ActionSite}
-use Rattle.pst_inherited.specs.Bases.{with_bases, references_of, claims_of, needs_of}
-use Rattle.pst_inherited.specs.Found.{compound_from}
+use Rattle.pst_ast.specs.declared.scope_declaration.Declaration.{Declaration}
+use Rattle.pst_ast.specs.declared.scope_declaration.Sort.{Sort}
+use Rattle.pst_ast.specs.Sorts.{is_claim, is_reference}
+use Rattle.pst_tree.specs.declared.sites.ActionSite.{ActionSite}
+use Rattle.pst_tree.specs.Bases.{with_bases, references_of, claims_of, needs_of}
+use Rattle.pst_tree.specs.InheritedFound.{compound_from}
 use Rattle.pst_action_needs.specs.declared.rows.Inherited.{Inherited}
 use Rattle.pst_action_needs.specs.declared.rows.NeedSort.{NeedSort}
 use Rattle.pst_action_needs.specs.declared.rows.NeedSort.TheVariants as need

@@ -1,19 +1,18 @@
 //! What an action type has and does with its bases.
 ghost use Rattle.std.specs.Prelude.{◌≡◌, ◌++◌, ◌<◌, Some, length, IfOk, OnOk};
 ghost use Rattle.std.specs.List.{flat_map};
-ghost use Rattle.pst_scope.specs.Lookups.{base_of};
+ghost use Rattle.pst_ast.specs.Lookups.{base_of};
 ghost use Rattle.pst_tree.specs.declared.rows.Member.TheVariants as member;
 ghost use Rattle.pst_tree.specs.Kept.{AreRows};
 ghost use Rattle.pst_type_rules.specs.Members.{those_that};
-ghost use Rattle.pst_inherited.specs.Found;
-ghost use Rattle.pst_inherited.specs.Needed.{needs_within};
+ghost use Rattle.pst_tree.specs.InheritedFound;
+ghost use Rattle.pst_tree.specs.Needed.{needs_within};
 ghost use Rattle.pst_action_needs.specs.Inheriting.{IsInherited, is_need_of};
 
+use pst_ast::{Declaration, Sort};
 use pst_base::NoMemory;
 use pst_index::Index;
-use pst_inherited::{ContentSort, Sites, with_bases};
-use pst_scope::{Declaration, Sort};
-use pst_tree::Rows;
+use pst_tree::{ContentSort, Rows, Sites, with_bases};
 use std::alloc::Global;
 
 /// A sort of what pools serve.

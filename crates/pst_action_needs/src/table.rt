@@ -5,12 +5,11 @@ ghost use Rattle.pst_tree.specs.Kept.{AreRows};
 ghost use Rattle.pst_action_needs.specs.Inheriting.{AreInherited, AreNeeds, IsInherited};
 
 use crate::rows::{Inherited, derived, walked};
+use pst_ast::Declaration;
 use pst_base::NoMemory;
 use pst_index::Index;
-use pst_inherited::Sites;
 use pst_members::is_same_action;
-use pst_scope::Declaration;
-use pst_tree::{PlaceKey, Rows, place_key};
+use pst_tree::{PlaceKey, Rows, Sites, place_key};
 use std::alloc::Global;
 use std::collections::HashMap;
 

@@ -6,11 +6,10 @@ ghost use Rattle.pst_path_readings.specs.Set.{view_setting};
 ghost use Rattle.pst_sources.specs.Shown.{sources_of};
 ghost use Rattle.pst_activity_ties.specs.Tied.{end_in};
 
-use pst_ast::{BindNode, EndNode, NextEnd, OtherEnds};
+use pst_ast::{BindNode, Declaration, EndNode, NextEnd, OtherEnds};
 use pst_base::NoMemory;
 use pst_model::Tie;
 use pst_path_readings::Setting;
-use pst_scope::Declaration;
 use pst_sources::Sources;
 use pst_step_parts::{handle_named, handle_of};
 use pst_type_members::MemberSort;

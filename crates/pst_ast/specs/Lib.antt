@@ -42,3 +42,16 @@ pub mod Viable
 pub mod Answers
 pub mod Laws
 pub mod Examples
+pub mod Sorts
+pub mod Declarations
+pub mod Inner
+pub mod InnerKept
+pub mod Lookups
+pub mod Paths
+pub mod Uses
+pub mod Breaches
+pub mod NameRules
+pub mod Scopes
+pub mod ScopeLaws
+pub mod Tried
+pub mod TriedMembers

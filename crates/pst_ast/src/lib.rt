@@ -1,38 +1,130 @@
 //! Syntax trees of the whole grammar, and their laws.
+//!
+//! What the sources declare, what a name stands for where it is used, and which rules of names are
+//! broken: definitions on syntax trees.
 #![tactic(auto)]
 
 mod activity;
 mod body;
 mod constraint;
 mod declaration;
+mod entry;
+mod environment;
 mod expression;
 mod fault;
+mod inner;
 mod instance;
 pub mod laws;
 mod leaf;
+mod referent;
+mod scope_declaration;
+mod scope_laws;
 mod shared;
 
-pub use activity::{
-    ActivityNode, ArmLabel, ArmNode, BindNode, BranchNode, CoreNode, EndNode, GuardNode, JoinNode,
-    NextEnd, OtherEnds, StatementNode, TogetherWord, WeightNode, WithNode,
-};
-pub use body::{ArgumentsNode, BodyNode, BodyStatement, CallNode, SourceNode, ValueNode};
-pub use constraint::{ConstraintContent, ConstraintDeclaration, ConstraintItem, ConstraintNode};
-pub use declaration::{
-    ActionNode, ActionPart, AnswerNode, BaseNode, ClaimNode, ClaimWord, ComponentNode,
-    ComponentPart, EnumItem, EnumNode, EnumValue, FieldNode, FunctionNode, Item, MembersNode,
-    NextEnumItem, NextField, NextParameter, NextTarget, ObjectNode, ObjectPart, ObjectWord,
-    ParameterNode, ParametersNode, PoolBindNode, PoolNode, ReferenceNode, ReferenceWord, SizeNode,
-    TargetNode, TargetsNode, Unit,
-};
-pub use expression::{
-    ExprNode, IndexNode, NextPart, NextRange, PartNode, PathNode, PrimaryNode, RangeNode,
-    RangesNode, UnaryNode,
-};
+pub use activity::ActivityNode;
+pub use activity::ArmLabel;
+pub use activity::ArmNode;
+pub use activity::BindNode;
+pub use activity::BranchNode;
+pub use activity::CoreNode;
+pub use activity::EndNode;
+pub use activity::GuardNode;
+pub use activity::JoinNode;
+pub use activity::NextEnd;
+pub use activity::OtherEnds;
+pub use activity::StatementNode;
+pub use activity::TogetherWord;
+pub use activity::WeightNode;
+pub use activity::WithNode;
+pub use body::ArgumentsNode;
+pub use body::BodyNode;
+pub use body::BodyStatement;
+pub use body::CallNode;
+pub use body::SourceNode;
+pub use body::ValueNode;
+pub use constraint::ConstraintContent;
+pub use constraint::ConstraintDeclaration;
+pub use constraint::ConstraintItem;
+pub use constraint::ConstraintNode;
+pub use declaration::ActionNode;
+pub use declaration::ActionPart;
+pub use declaration::AnswerNode;
+pub use declaration::BaseNode;
+pub use declaration::ClaimNode;
+pub use declaration::ClaimWord;
+pub use declaration::ComponentNode;
+pub use declaration::ComponentPart;
+pub use declaration::EnumItem;
+pub use declaration::EnumNode;
+pub use declaration::EnumValue;
+pub use declaration::FieldNode;
+pub use declaration::FunctionNode;
+pub use declaration::Item;
+pub use declaration::MembersNode;
+pub use declaration::NextEnumItem;
+pub use declaration::NextField;
+pub use declaration::NextParameter;
+pub use declaration::NextTarget;
+pub use declaration::ObjectNode;
+pub use declaration::ObjectPart;
+pub use declaration::ObjectWord;
+pub use declaration::ParameterNode;
+pub use declaration::ParametersNode;
+pub use declaration::PoolBindNode;
+pub use declaration::PoolNode;
+pub use declaration::ReferenceNode;
+pub use declaration::ReferenceWord;
+pub use declaration::SizeNode;
+pub use declaration::TargetNode;
+pub use declaration::TargetsNode;
+pub use declaration::Unit;
+pub use entry::NameMeaning;
+pub use entry::Scopes;
+pub use entry::TypeEntry;
+pub use entry::TypeSort;
+pub use environment::Environment;
+pub use expression::ExprNode;
+pub use expression::IndexNode;
+pub use expression::NextPart;
+pub use expression::NextRange;
+pub use expression::PartNode;
+pub use expression::PathNode;
+pub use expression::PrimaryNode;
+pub use expression::RangeNode;
+pub use expression::RangesNode;
+pub use expression::UnaryNode;
 pub use fault::SyntaxFault;
+pub use inner::Inner;
 pub use instance::Instance;
-pub use leaf::{Name, Number, Operator, PrefixOperator};
-pub use shared::{
-    DomainNode, DotName, LabelNode, LowNode, NamesNode, NextExpr, NextName, PlainNode, ScopedName,
-    TypeName, TypeNode, WidthNode,
-};
+pub use leaf::Name;
+pub use leaf::Number;
+pub use leaf::Operator;
+pub use leaf::PrefixOperator;
+pub use referent::Checked;
+pub use referent::Finding;
+pub use referent::Meant;
+pub use referent::Owner;
+pub use referent::PathPart;
+pub use referent::PathReferent;
+pub use referent::Referent;
+pub use referent::Target;
+pub use referent::Traversal;
+pub use scope_declaration::Declaration;
+pub use scope_declaration::Scope;
+pub use scope_declaration::Sort;
+pub use scope_laws::members_are_tried;
+pub use scope_laws::name_breaches_have_one_least;
+pub use scope_laws::names_are_tried;
+pub use scope_laws::scopes_are_one;
+pub use shared::DomainNode;
+pub use shared::DotName;
+pub use shared::LabelNode;
+pub use shared::LowNode;
+pub use shared::NamesNode;
+pub use shared::NextExpr;
+pub use shared::NextName;
+pub use shared::PlainNode;
+pub use shared::ScopedName;
+pub use shared::TypeName;
+pub use shared::TypeNode;
+pub use shared::WidthNode;

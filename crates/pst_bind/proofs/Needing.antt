@@ -6,17 +6,17 @@ use Rattle.std.proofs.lemmas.List.{drop_more}
 use Rattle.std.proofs.lemmas.List.Elements.{filter_agree}
 use Rattle.pst_ast.specs.declared.instance.Instance.{Instance}
 use Rattle.pst_ast.specs.DeclarationTree.{UnitTree}
-use Rattle.pst_scope.specs.declared.declaration.Declaration.{Declaration}
-use Rattle.pst_scope.specs.declared.declaration.Scope.TheVariants.{Files}
-use Rattle.pst_scope.specs.declared.declaration.Sort.TheVariants.{Component}
-use Rattle.pst_scope.specs.Declarations.{declarations}
-use Rattle.pst_scope.specs.Sorts.{is_action}
+use Rattle.pst_ast.specs.declared.scope_declaration.Declaration.{Declaration}
+use Rattle.pst_ast.specs.declared.scope_declaration.Scope.TheVariants.{Files}
+use Rattle.pst_ast.specs.declared.scope_declaration.Sort.TheVariants.{Component}
+use Rattle.pst_ast.specs.Declarations.{declarations}
+use Rattle.pst_ast.specs.Sorts.{is_action}
 use Rattle.pst_type_rules.specs.Members.{those_that}
 use Rattle.pst_type_rules.specs.Sites.{actions}
-use Rattle.pst_inherited.specs.declared.sites.ActionSite.{ActionSite}
-use Rattle.pst_inherited.specs.Bases.{with_bases}
-use Rattle.pst_inherited.specs.Found.{site_of}
-use Rattle.pst_inherited.proofs.ContentFound.{content_found, concrete_found}
+use Rattle.pst_tree.specs.declared.sites.ActionSite.{ActionSite}
+use Rattle.pst_tree.specs.Bases.{with_bases}
+use Rattle.pst_tree.specs.InheritedFound.{site_of}
+use Rattle.pst_tree.proofs.ContentFound.{content_found, concrete_found}
 use Rattle.pst_bind.specs.Needs.{Need, is_performed, needs}
 use Rattle.pst_bind.specs.ListedNeeds.{added_by, is_performed_by, needs_from, needs_found}
 

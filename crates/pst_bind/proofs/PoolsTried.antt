@@ -1,10 +1,10 @@
 -- Facts about pools in small sources.
 use Rattle.std.proofs.Common.{◌≡◌, refl, arith}
 use Rattle.std.specs.Prelude.{[], ◌∷◌, ◌++◌}
-use Rattle.pst_scope.specs.Declarations.{declarations}
-use Rattle.pst_scope.specs.Lookups.{look_up, declared_at, base_of, member_of, type_of}
+use Rattle.pst_ast.specs.Declarations.{declarations}
+use Rattle.pst_ast.specs.Lookups.{look_up, declared_at, base_of, member_of, type_of}
 use Rattle.pst_type_rules.specs.Sites.{action_at}
-use Rattle.pst_inherited.specs.Bases.{with_bases}
+use Rattle.pst_tree.specs.Bases.{with_bases}
 use Rattle.pst_tree.specs.Instances.{AreInstances}
 use Rattle.pst_tree.specs.Tried.{on}
 use Rattle.pst_tree.proofs.Found.{instances_found}

@@ -5,7 +5,7 @@ use Rattle.std.specs.List.{list_any, Contains}
 use Rattle.std.proofs.lemmas.Bool.{eqb-false}
 use Rattle.pst_ast.specs.declared.instance.Instance.{Instance}
 use Rattle.pst_ast.specs.DeclarationTree.{UnitTree}
-use Rattle.pst_scope.specs.Breaches.{IsNone}
+use Rattle.pst_ast.specs.Breaches.{IsNone}
 use Rattle.pst_bound_pools.specs.Serving.{only_one}
 use Rattle.pst_bind.specs.Needs.{Need, needs, candidates_for}
 use Rattle.pst_bind.specs.PoolRules.{PoolBreach, NoPool, TwoPools}

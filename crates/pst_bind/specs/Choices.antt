@@ -3,8 +3,8 @@ use Rattle.std.specs.Prelude.{◌≡◌, ◌<◌, ℕ, nat_eq, not, List, [], �
 use Rattle.std.specs.List.{list_any}
 use Rattle.pst_base.specs.declared.position.Place.{Place}
 use Rattle.pst_ast.specs.declared.instance.Instance.{Instance}
-use Rattle.pst_scope.specs.declared.referent.Finding.{Finding}
-use Rattle.pst_scope.specs.NameRules.{finding}
+use Rattle.pst_ast.specs.declared.referent.Finding.{Finding}
+use Rattle.pst_ast.specs.NameRules.{finding}
 use Rattle.pst_bind.specs.declared.choices.Choice.{Choice}
 use Rattle.pst_bind.specs.declared.choices.Choice.TheVariants as choice
 use Rattle.pst_bound_pools.specs.declared.default_rows.DefaultRows.{DefaultRows}

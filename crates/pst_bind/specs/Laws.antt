@@ -4,7 +4,7 @@ use Rattle.std.specs.List.{Contains}
 use Rattle.pst_base.specs.declared.position.Place.{Place}
 use Rattle.pst_ast.specs.declared.instance.Instance.{Instance}
 use Rattle.pst_ast.specs.DeclarationTree.{UnitTree}
-use Rattle.pst_scope.specs.Breaches.{IsLeast, IsNone}
+use Rattle.pst_ast.specs.Breaches.{IsLeast, IsNone}
 use Rattle.pst_bind.specs.declared.pool_map.PoolPlace.{PoolPlace}
 use Rattle.pst_bind.specs.declared.pool_map.Served.{Served}
 use Rattle.pst_bound_pools.specs.Serving.{serving_pool}

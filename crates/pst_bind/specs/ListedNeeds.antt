@@ -2,12 +2,12 @@
 use Rattle.std.specs.Prelude.{ℕ, Bool, false, not, ◌&&◌, List, map}
 use Rattle.std.specs.List.{filter, flat_map, enumerate_from}
 use Rattle.pst_ast.specs.declared.instance.Instance.{Instance}
-use Rattle.pst_scope.specs.declared.declaration.Declaration.{Declaration}
-use Rattle.pst_scope.specs.Sorts.{is_action}
+use Rattle.pst_ast.specs.declared.scope_declaration.Declaration.{Declaration}
+use Rattle.pst_ast.specs.Sorts.{is_action}
 use Rattle.pst_type_rules.specs.Members.{those_that}
-use Rattle.pst_inherited.specs.declared.sites.ActionSite.{ActionSite}
-use Rattle.pst_inherited.specs.Bases.{with_bases, needs_of}
-use Rattle.pst_inherited.specs.Found.{is_concrete_by, compound_from}
+use Rattle.pst_tree.specs.declared.sites.ActionSite.{ActionSite}
+use Rattle.pst_tree.specs.Bases.{with_bases, needs_of}
+use Rattle.pst_tree.specs.InheritedFound.{is_concrete_by, compound_from}
 use Rattle.pst_bind.specs.Needs.{Need, homes_of}
 
 abbrev pub need_of : ℕ → Declaration → ℕ → ℕ × Declaration → Need

@@ -4,8 +4,8 @@ use Rattle.std.specs.Option.{option_map_or}
 use Rattle.std.specs.HashMap.{get}
 use Rattle.pst_base.specs.declared.position.Place.{Place}
 use Rattle.pst_base.specs.declared.table.NameId.{NameId}
-use Rattle.pst_scope.specs.declared.declaration.Declaration.{Declaration}
-use Rattle.pst_scope.specs.Lookups.{type_of}
+use Rattle.pst_ast.specs.declared.scope_declaration.Declaration.{Declaration}
+use Rattle.pst_ast.specs.Lookups.{type_of}
 use Rattle.pst_bound_pools.specs.declared.explicit_rows.ExplicitRows.{ExplicitRows}
 use Rattle.pst_bound_pools.specs.declared.default_rows.DefaultRows.{DefaultRows}
 use Rattle.pst_bound_pools.specs.BindRows.{numbers_in, same_target, same_object, target_key, object_key}

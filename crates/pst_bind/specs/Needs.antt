@@ -5,13 +5,13 @@ use Rattle.std.specs.Option.{option_map, option_map_or}
 use Rattle.pst_base.specs.declared.position.Place.{Place}
 use Rattle.pst_ast.specs.declared.instance.Instance.{Instance}
 use Rattle.pst_ast.specs.DeclarationTree.{UnitTree}
-use Rattle.pst_scope.specs.declared.declaration.Declaration.{Declaration}
-use Rattle.pst_scope.specs.Declarations.{declarations}
-use Rattle.pst_scope.specs.Sorts.{is_action, same_place}
+use Rattle.pst_ast.specs.declared.scope_declaration.Declaration.{Declaration}
+use Rattle.pst_ast.specs.Declarations.{declarations}
+use Rattle.pst_ast.specs.Sorts.{is_action, same_place}
 use Rattle.pst_type_rules.specs.Members.{those_that}
 use Rattle.pst_type_rules.specs.Sites.{action_at}
-use Rattle.pst_inherited.specs.Bases.{needs_of}
-use Rattle.pst_inherited.specs.Contents.{is_compound}
+use Rattle.pst_tree.specs.Bases.{needs_of}
+use Rattle.pst_tree.specs.Contents.{is_compound}
 use Rattle.pst_bind.specs.declared.pool_map.Served.{Served}
 use Rattle.pst_bound_pools.specs.Pools.{component_of}
 use Rattle.pst_bound_pools.specs.Serving.{candidates, serving_pool}

@@ -2,8 +2,8 @@
 use Rattle.std.specs.Prelude.{◌≡◌, List, Result, Ok, Err}
 use Rattle.pst_ast.specs.declared.instance.Instance.{Instance}
 use Rattle.pst_ast.specs.DeclarationTree.{UnitTree}
-use Rattle.pst_scope.specs.Breaches.{IsLeast, IsNone}
-use Rattle.pst_scope.specs.declared.referent.Finding.{Finding}
+use Rattle.pst_ast.specs.Breaches.{IsLeast, IsNone}
+use Rattle.pst_ast.specs.declared.referent.Finding.{Finding}
 use Rattle.pst_name_rules.specs.Leasts.{IsLeastOf}
 use Rattle.pst_names.specs.declared.end.RuleEnd.{RuleEnd}
 use Rattle.pst_names.specs.declared.end.RuleEnd.TheVariants as rule_end

@@ -1,7 +1,7 @@
 -- The pools of the component instances, each with its name.
 use Rattle.std.specs.Prelude.{ℕ, List, map}
 use Rattle.pst_ast.specs.declared.instance.Instance.{Instance}
-use Rattle.pst_scope.specs.declared.declaration.Declaration.{Declaration}
+use Rattle.pst_ast.specs.declared.scope_declaration.Declaration.{Declaration}
 use Rattle.pst_bind.specs.declared.pool_map.PoolPlace.{PoolPlace}
 pub use Rattle.pst_bound_pools.specs.Pools.{component_of, component_at, pools_in, pools_at, pools, pool_number}
 

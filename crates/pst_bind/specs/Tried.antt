@@ -8,13 +8,13 @@ use Rattle.pst_ast.specs.declared.declaration.ClaimWord.TheVariants as claiming
 use Rattle.pst_ast.specs.declared.shared.DotName.{DotName}
 use Rattle.pst_ast.specs.ActivityTree.{StatementPlain, CoreDo, WithNothing}
 use Rattle.pst_ast.specs.DeclarationTree.{UnitTree, ItemTree, ItemObject, ComponentPartTree, ComponentPartPool, ComponentPartPoolBind, MakeObject, MakePool, MakePoolBind, TargetsTree, TargetsAll, TargetsSeveral, TargetTree, MakeTarget, MakeNextTarget, ActionPartTree, ActionPartReference, ActionPartClaim, MakeReference, MakeClaim}
-use Rattle.pst_scope.specs.declared.declaration.Declaration.{Declaration}
-use Rattle.pst_scope.specs.declared.declaration.Sort.TheVariants as sort
-use Rattle.pst_scope.specs.Declarations.{declarations, action_declared, member}
+use Rattle.pst_ast.specs.declared.scope_declaration.Declaration.{Declaration}
+use Rattle.pst_ast.specs.declared.scope_declaration.Sort.TheVariants as sort
+use Rattle.pst_ast.specs.Declarations.{declarations, action_declared, member}
 use Rattle.pst_type_rules.specs.TriedMore.{activity}
 use Rattle.pst_tree.specs.Instances.{AreInstances}
 use Rattle.pst_tree.specs.Tried.{on, name, mark, type, alone, two_names, members, component, unit, id, instance}
-use Rattle.pst_inherited.specs.Tried.{an_action, base_named}
+use Rattle.pst_tree.specs.InheritedTried.{an_action, base_named}
 use Rattle.pst_bind.specs.declared.pool_map.PoolPlace.{PoolPlace}
 use Rattle.pst_bind.specs.declared.pool_map.Served.{Served}
 use Rattle.pst_bind.specs.Pools.{pool_places}

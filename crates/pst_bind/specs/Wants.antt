@@ -1,7 +1,7 @@
 -- References and claims with what the default binds come to for them.
 use Rattle.std.specs.Prelude.{◌≡◌, ℕ, List, Some, map, slice_get}
 use Rattle.pst_ast.specs.declared.instance.Instance.{Instance}
-use Rattle.pst_scope.specs.declared.declaration.Declaration.{Declaration}
+use Rattle.pst_ast.specs.declared.scope_declaration.Declaration.{Declaration}
 use Rattle.pst_bind.specs.declared.choices.Choice.{Choice}
 use Rattle.pst_bound_pools.specs.declared.default_rows.DefaultRows.{DefaultRows}
 use Rattle.pst_bind.specs.declared.wants.Wanted.{Wanted}

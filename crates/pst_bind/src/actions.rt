@@ -1,7 +1,7 @@
 //! The references and claims of all action types, judged one after another.
 ghost use Rattle.std.specs.Prelude.{◌≡◌, ◌++◌, ◌+◌, [], None, IfOk, IsTrue, OnOk, if◌then◌else◌, map};
 ghost use Rattle.std.specs.List.{filter_map, flat_map};
-ghost use Rattle.pst_scope.specs.Sorts.{is_action};
+ghost use Rattle.pst_ast.specs.Sorts.{is_action};
 ghost use Rattle.pst_tree.specs.declared.rows.Member.TheVariants as member;
 ghost use Rattle.pst_tree.specs.Kept.{AreRows};
 ghost use Rattle.pst_name_rules.specs.Leasts.{least_at};
@@ -17,10 +17,9 @@ use crate::default_choices::DefaultChoices;
 use crate::judging::{Binds, Judged, judge_homes};
 use crate::wants::{all_wanted, settle_defaults};
 use pst_action_needs::{NeedTable, needs_at};
+use pst_ast::{Declaration, Sort};
 use pst_base::NoMemory;
-use pst_inherited::Sites;
-use pst_scope::{Declaration, Sort};
-use pst_tree::Rows;
+use pst_tree::{Rows, Sites};
 
 // Judges references and claims of an action type in each instance of its component.
 fn judge_needs(

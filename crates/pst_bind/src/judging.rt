@@ -14,11 +14,11 @@ use crate::choices::{Choice, choice_of};
 use crate::pool_map::Served;
 use crate::serving::{explicit_candidates, nearest_default};
 use crate::wants::Wanted;
+use pst_ast::{Declaration, Finding};
 use pst_base::{NoMemory, Place};
 use pst_bound_pools::{DefaultRows, ExplicitRows, InstanceTable, stands_in};
 use pst_index::Index;
 use pst_name_rules::earlier;
-use pst_scope::{Declaration, Finding};
 use std::alloc::Global;
 
 /// What is judged so far.

@@ -1,10 +1,10 @@
 //! The pools of sources, and what they serve.
 ghost use Rattle.std.specs.Prelude.{◌≡◌, IfErr, IfOk, map};
 ghost use Rattle.pst_ast.specs.DeclarationView.{view_unit};
-ghost use Rattle.pst_scope.specs.Breaches.{IsNone};
-ghost use Rattle.pst_scope.specs.Declarations.{declarations as the_declarations};
-ghost use Rattle.pst_scope.specs.NameRules.{NameBreach};
-ghost use Rattle.pst_scope.specs.Scopes.{AreScopes};
+ghost use Rattle.pst_ast.specs.Breaches.{IsNone};
+ghost use Rattle.pst_ast.specs.Declarations.{declarations as the_declarations};
+ghost use Rattle.pst_ast.specs.NameRules.{NameBreach};
+ghost use Rattle.pst_ast.specs.Scopes.{AreScopes};
 ghost use Rattle.pst_tree.specs.Instances.{AreInstances};
 ghost use Rattle.pst_type_rules.specs.TypeRules.{TypeBreach};
 ghost use Rattle.pst_bound_pools.specs.Homes.{home_place};
@@ -17,16 +17,14 @@ use crate::actions::judge;
 use crate::default_choices::are_behind;
 use crate::judging::{Binds, Judged};
 use crate::pool_map::{PoolMap, places};
-use pst_ast::{Instance, Unit};
+use pst_ast::{Finding, Instance, Scopes, Unit};
 use pst_base::{Items, Names, NoMemory, Place};
 use pst_bound_pools::{DefaultRows, ExplicitRows, InstanceTable, PoolTable, components_of};
 use pst_collect::declarations;
 use pst_index::Index;
-use pst_inherited::Sites;
 use pst_names::RuleEnd;
 use pst_pool_binds::{default_binds, explicit_binds};
-use pst_scope::{Finding, Scopes};
-use pst_tree::{Member, Rows, Tree};
+use pst_tree::{Member, Rows, Sites, Tree};
 use std::alloc::Global;
 
 // The pools of explicit binds.

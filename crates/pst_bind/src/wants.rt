@@ -5,10 +5,10 @@ ghost use Rattle.pst_bind.specs.Wants.{AreWanted, IsWanted, need_in};
 
 use crate::choices::Choice;
 use crate::default_choices::DefaultChoices;
+use pst_ast::Declaration;
 use pst_base::NoMemory;
 use pst_bound_pools::{DefaultRows, InstanceTable};
 use pst_index::Index;
-use pst_scope::Declaration;
 use std::alloc::Global;
 
 /// A reference or claim, and what the default binds come to for it in the first instances.

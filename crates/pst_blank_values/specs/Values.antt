@@ -6,7 +6,7 @@ use Rattle.pst_scen.specs.declared.act.Act.{Act}
 use Rattle.pst_scen.specs.declared.act.Filled.{Filled}
 use Rattle.pst_scen.specs.declared.scenario.Scenario.{Scenario}
 use Rattle.pst_legal.specs.Blanks.{Blank, Instance, OfFirst, OfAct, OfOutput, OfClaim, option_value}
-use Rattle.pst_more_known.specs.Onward.{Row}
+use Rattle.pst_built.specs.Onward.{Row}
 use Rattle.pst_few_places.specs.Fillings.{all_blanks}
 use Rattle.pst_blank_values.specs.Rows.{stands_in}
 

@@ -8,8 +8,8 @@ use Rattle.pst_ast.specs.declared.body.BodyStatement.{Row_of-BodyStatement, end_
 use Rattle.pst_ast.specs.declared.body.BodyStatement.TheBlock.{hidden-the_row-BodyStatement-0}
 use Rattle.pst_ast.specs.declared.body.BodyStatement.TheVariants as the_body_statement
 use Rattle.pst_ast.specs.BodyView.{view_body_statement, view_body_statement_row}
-use Rattle.pst_scope.specs.declared.declaration.Declaration.{Declaration}
-use Rattle.pst_scope.specs.Declarations.{in_body_row, in_body_statement}
+use Rattle.pst_ast.specs.declared.scope_declaration.Declaration.{Declaration}
+use Rattle.pst_ast.specs.Declarations.{in_body_row, in_body_statement}
 
 body_statement_row : (owner scope : Place) {n : _} (k : Row_of-BodyStatement n) → in_body_row owner scope (view_body_statement_row k) ≡ flat_map (in_body_statement owner scope) (map view_body_statement (items-the_row-BodyStatement n k))
 body_statement_row owner scope end_of-BodyStatement = refl

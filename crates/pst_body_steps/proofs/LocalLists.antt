@@ -9,8 +9,8 @@ use Rattle.pst_ast.specs.declared.shared.LabelNode.{LabelNode}
 use Rattle.pst_ast.specs.declared.body.BodyStatement.{BodyStatement}
 use Rattle.pst_ast.specs.BodyTree.{BodyStatementTree}
 use Rattle.pst_ast.specs.BodyView.{view_body_statement}
-use Rattle.pst_scope.specs.declared.declaration.Declaration.{Declaration}
-use Rattle.pst_scope.specs.Declarations.{index_of}
+use Rattle.pst_ast.specs.declared.scope_declaration.Declaration.{Declaration}
+use Rattle.pst_ast.specs.Declarations.{index_of}
 use Rattle.pst_type_rules.specs.Limits.{is_local}
 use Rattle.pst_type_rules.specs.Members.{those_that}
 

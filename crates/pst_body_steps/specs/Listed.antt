@@ -5,8 +5,8 @@ use Rattle.pst_ast.specs.declared.leaf.Name.{Name}
 use Rattle.pst_ast.specs.SharedTree.{PlainTree}
 use Rattle.pst_ast.specs.BodyTree.{BodyStatementTree, ValueTree}
 use Rattle.pst_model.specs.BodyTree.{BodyStepTree, Declare, BodyRow, NoBody, MoreBody, body_of}
-use Rattle.pst_scope.specs.declared.declaration.Declaration.{Declaration}
-use Rattle.pst_scope.specs.Uses.{with_inner}
+use Rattle.pst_ast.specs.declared.scope_declaration.Declaration.{Declaration}
+use Rattle.pst_ast.specs.Uses.{with_inner}
 use Rattle.pst_terms.specs.Sources.{Sources}
 use Rattle.pst_terms.specs.Readings.{Setting}
 use Rattle.pst_elab_rules.specs.Spans.{plain_span}

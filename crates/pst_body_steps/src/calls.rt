@@ -7,7 +7,7 @@ ghost use Rattle.pst_elab_rules.specs.Bodies as tree;
 ghost use Rattle.pst_model.specs.ConstraintTree.{view_constraint};
 ghost use Rattle.pst_model.specs.ModelView.{view_source};
 ghost use Rattle.pst_path_readings.specs.Set.{view_setting};
-ghost use Rattle.pst_scope.specs.Uses.{next_expr};
+ghost use Rattle.pst_ast.specs.Uses.{next_expr};
 ghost use Rattle.pst_sources.specs.Shown.{sources_of};
 ghost use Rattle.pst_terms.specs.Readings as reading;
 

@@ -5,17 +5,16 @@ ghost use Rattle.pst_elab_rules.specs.Bodies as tree;
 ghost use Rattle.pst_elab_rules.specs.Types.{setting_of};
 ghost use Rattle.pst_model.specs.ModelView.{view_body_step};
 ghost use Rattle.pst_path_readings.specs.Set.{view_setting};
-ghost use Rattle.pst_scope.specs.declared.referent.Owner.TheVariants as owner;
+ghost use Rattle.pst_ast.specs.declared.referent.Owner.TheVariants as owner;
 ghost use Rattle.pst_sources.specs.Shown.{sources_of};
 ghost use Rattle.pst_body_steps.specs.Listed.{with_locals};
 
 use crate::locals::locals_in;
 use crate::statements::add_statements;
-use pst_ast::BodyNode;
+use pst_ast::{BodyNode, Declaration, Environment, Inner, Owner};
 use pst_base::NoMemory;
 use pst_model::BodyStep;
 use pst_path_readings::Setting;
-use pst_scope::{Declaration, Environment, Inner, Owner};
 use pst_type_numbers::Numbered;
 use std::alloc::Global;
 

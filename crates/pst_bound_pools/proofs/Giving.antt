@@ -7,8 +7,8 @@ use Rattle.std.proofs.lemmas.Bool.{eqb-true}
 use Rattle.std.proofs.lemmas.Bool.Decides.{nat_tests}
 use Rattle.std.proofs.lemmas.List.{append-nil}
 use Rattle.pst_ast.specs.declared.instance.Instance.{Instance}
-use Rattle.pst_scope.specs.declared.declaration.Declaration.{Declaration}
-use Rattle.pst_scope.specs.Sorts.{same_place}
+use Rattle.pst_ast.specs.declared.scope_declaration.Declaration.{Declaration}
+use Rattle.pst_ast.specs.Sorts.{same_place}
 use Rattle.pst_bound_pools.specs.declared.explicit_rows.TargetKey.{TargetKey}
 use Rattle.pst_pool_binds.specs.PoolBinds.{ExplicitBind}
 use Rattle.pst_bound_pools.specs.Pools.{component_of}

@@ -5,10 +5,10 @@ use Rattle.std.specs.Option.{option_map, option_map_or, option_and_then}
 use Rattle.pst_base.specs.declared.table.NameId.{NameId}
 use Rattle.pst_base.specs.declared.position.Place.{Place}
 use Rattle.pst_ast.specs.declared.instance.Instance.{Instance}
-use Rattle.pst_scope.specs.declared.declaration.Declaration.{Declaration}
-use Rattle.pst_scope.specs.Sorts.{is_pool, same_place}
-use Rattle.pst_scope.specs.Lookups.{type_of}
-use Rattle.pst_scope.specs.NameRules.{named_in}
+use Rattle.pst_ast.specs.declared.scope_declaration.Declaration.{Declaration}
+use Rattle.pst_ast.specs.Sorts.{is_pool, same_place}
+use Rattle.pst_ast.specs.Lookups.{type_of}
+use Rattle.pst_ast.specs.NameRules.{named_in}
 use Rattle.pst_bound_pools.specs.declared.default_rows.ObjectKey.{ObjectKey}
 use Rattle.pst_bound_pools.specs.declared.explicit_rows.AimKey.{AimKey}
 use Rattle.pst_bound_pools.specs.declared.explicit_rows.TargetKey.{TargetKey}

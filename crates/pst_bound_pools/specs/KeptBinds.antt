@@ -3,7 +3,7 @@ use Rattle.std.specs.Prelude.{◌≡◌, List, [], None}
 use Rattle.std.specs.List.{flat_map}
 use Rattle.std.specs.HashMap.{get}
 use Rattle.pst_ast.specs.declared.instance.Instance.{Instance}
-use Rattle.pst_scope.specs.declared.declaration.Declaration.{Declaration}
+use Rattle.pst_ast.specs.declared.scope_declaration.Declaration.{Declaration}
 use Rattle.pst_bound_pools.specs.declared.explicit_rows.TargetKey.{TargetKey}
 use Rattle.pst_bound_pools.specs.declared.explicit_rows.ExplicitRows.{ExplicitRows}
 use Rattle.pst_bound_pools.specs.declared.default_rows.ObjectKey.{ObjectKey}

@@ -1,8 +1,8 @@
 -- Lists of the pools of instances.
 use Rattle.std.specs.Prelude.{ℕ, Bool, nat_eq, ◌&&◌, List, map}
 use Rattle.pst_base.specs.declared.position.Place.{Place}
-use Rattle.pst_scope.specs.declared.declaration.Declaration.{Declaration}
-use Rattle.pst_scope.specs.Sorts.{same_place}
+use Rattle.pst_ast.specs.declared.scope_declaration.Declaration.{Declaration}
+use Rattle.pst_ast.specs.Sorts.{same_place}
 use Rattle.pst_bound_pools.specs.declared.pool_table.ListedPool.{ListedPool}
 use Rattle.pst_bound_pools.specs.declared.pool_table.PoolKey.{PoolKey}
 

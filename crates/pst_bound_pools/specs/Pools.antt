@@ -3,10 +3,10 @@ use Rattle.std.specs.Prelude.{ℕ, nat_eq, ◌&&◌, List, [], map, position, sl
 use Rattle.std.specs.List.{filter, flat_map, enumerate_from}
 use Rattle.std.specs.Option.{option_map_or, option_and_then}
 use Rattle.pst_ast.specs.declared.instance.Instance.{Instance}
-use Rattle.pst_scope.specs.declared.declaration.Declaration.{Declaration}
-use Rattle.pst_scope.specs.declared.declaration.Scope.TheVariants.{Files, Part}
-use Rattle.pst_scope.specs.Sorts.{is_pool, same_place, same_scope}
-use Rattle.pst_scope.specs.Lookups.{look_up}
+use Rattle.pst_ast.specs.declared.scope_declaration.Declaration.{Declaration}
+use Rattle.pst_ast.specs.declared.scope_declaration.Scope.TheVariants.{Files, Part}
+use Rattle.pst_ast.specs.Sorts.{is_pool, same_place, same_scope}
+use Rattle.pst_ast.specs.Lookups.{look_up}
 
 -- the component of an instance
 abbrev pub component_of : List Declaration → Instance → Option Declaration

@@ -2,8 +2,8 @@
 ghost use Rattle.std.specs.Prelude.{◌≡◌, ◌++◌, ℕ, List, nat_eq, ◌&&◌, IfOk, OnOk, map, position};
 ghost use Rattle.std.specs.List.{position_from};
 ghost use Rattle.std.specs.HashMap.{get};
-ghost use Rattle.pst_scope.specs.Sorts.{same_place};
-ghost use Rattle.pst_scope.specs.declared.declaration.Declaration.{Declaration as Declared};
+ghost use Rattle.pst_ast.specs.Sorts.{same_place};
+ghost use Rattle.pst_ast.specs.declared.scope_declaration.Declaration.{Declaration as Declared};
 ghost use Rattle.pst_tree.specs.declared.rows.Member.TheVariants as member;
 ghost use Rattle.pst_tree.specs.Kept.{AreRows};
 ghost use Rattle.pst_bound_pools.specs.Pools;
@@ -12,10 +12,9 @@ ghost use Rattle.pst_bound_pools.specs.Children.{or_number};
 ghost use Rattle.pst_bound_pools.specs.ListedPools;
 ghost use Rattle.pst_bound_pools.specs.ListedPools.{is_pool_at, same_pool, view_pools};
 
-use pst_ast::Instance;
+use pst_ast::{Declaration, Instance, Scope};
 use pst_base::NoMemory;
 use pst_index::Index;
-use pst_scope::{Declaration, Scope};
 use pst_tree::Rows;
 use std::alloc::Global;
 use std::collections::HashMap;
@@ -54,7 +53,7 @@ pub struct PoolTable {
 
 impl Model for PoolTable {
     ghost use Rattle.std.specs.Prelude.{ℕ, List};
-    ghost use Rattle.pst_scope.specs.declared.declaration.Declaration.{Declaration};
+    ghost use Rattle.pst_ast.specs.declared.scope_declaration.Declaration.{Declaration};
     ghost use Rattle.pst_bound_pools.specs.ListedPools.{view_pools};
     ghost use Rattle.pst_bound_pools.specs.Tables.{IsPoolTable};
 

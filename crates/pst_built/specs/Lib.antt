@@ -1,2 +1,17 @@
 pub mod Sources
 pub mod Laws
+pub mod ReadFitsLaws
+pub mod ReadOnwardLaws
+pub mod GoesOn
+pub mod SoFar
+pub mod OrderStaysLaws
+pub mod Goes
+pub mod StepsOf
+pub mod LongerLaws
+pub mod Reached
+pub mod Parts
+pub mod ReachedLaws
+pub mod Onward
+pub mod Known
+pub mod Refused
+pub mod MoreKnownLaws

@@ -18,12 +18,12 @@ use Rattle.pst_legal.specs.ValueReading.{Whole, read}
 use Rattle.pst_legal.specs.Fits.{IsActOf, IsClaimOf}
 use Rattle.pst_legal.specs.Legal.{Legal}
 use Rattle.pst_legal.specs.First.{ReadsLegal}
-use Rattle.pst_reached.proofs.Lists.{get_below}
-use Rattle.pst_more_known.specs.Onward.{Onward}
-use Rattle.pst_read_onward.specs.Laws.{LongerListsKeepWhatIsKnown}
+use Rattle.pst_built.proofs.Lists.{get_below}
+use Rattle.pst_built.specs.Onward.{Onward}
+use Rattle.pst_built.specs.ReadOnwardLaws.{LongerListsKeepWhatIsKnown}
 use Rattle.pst_read_legal.specs.Laws.{LegalIsUnrefused}
-use Rattle.pst_order_stays.specs.SoFar.{HasRead}
-use Rattle.pst_order_stays.specs.Laws.{OrderStays, OrdersStay}
+use Rattle.pst_built.specs.SoFar.{HasRead}
+use Rattle.pst_built.specs.OrderStaysLaws.{OrderStays, OrdersStay}
 use Rattle.pst_claim_rivals.specs.declared.claims.OpenClaim.{OpenClaim}
 use Rattle.pst_claim_rivals.specs.Claims.{IsClaimed}
 use Rattle.pst_claim_rivals.specs.Rivals.{Meet, Alone, Grouped, Beside, AreRivals, ClaimsInstance, RivalsDiffer}

@@ -4,8 +4,8 @@ use Rattle.pst_model.specs.declared.model.Pool.{Pool}
 use Rattle.pst_model.specs.ModelTree.{ModelTree}
 use Rattle.pst_scen.specs.declared.scenario.Scenario.{Scenario}
 use Rattle.pst_legal.specs.ValueReading.{read}
-use Rattle.pst_order_stays.specs.SoFar.{HasRead}
-use Rattle.pst_order_stays.specs.Laws.{IsBarren}
+use Rattle.pst_built.specs.SoFar.{HasRead}
+use Rattle.pst_built.specs.OrderStaysLaws.{IsBarren}
 use Rattle.pst_claim_rivals.specs.declared.claims.OpenClaim.{OpenClaim}
 use Rattle.pst_claim_rivals.specs.Claims.{IsClaimed}
 use Rattle.pst_claim_rivals.specs.Rivals.{AreRivals}

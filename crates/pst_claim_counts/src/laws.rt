@@ -1,10 +1,9 @@
 //! The law of claims that need more instances than there are.
 ghost use Rattle.pst_claim_counts.specs.Counts.{TooManyClaimsRefuseLists};
 
+use pst_built::{longer_lists_keep_what_is_known, orders_stay};
 use pst_claim_rivals::rivals_differ;
-use pst_order_stays::orders_stay;
 use pst_read_legal::legal_is_unrefused;
-use pst_read_onward::longer_lists_keep_what_is_known;
 
 /// Where more claims on a pool, of which each two are rivals, are read than the pool has instances, no longer list
 /// reads a legal scenario.

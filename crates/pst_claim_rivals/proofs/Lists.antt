@@ -3,7 +3,7 @@ use Rattle.std.proofs.Common.{◌≡◌, ◌⊎◌, ℕ, zero, suc, ◌<◌, Lis
 use Rattle.std.specs.Prelude.{slice_get, flat_map}
 use Rattle.std.specs.Option.{option_map}
 use Rattle.std.proofs.lemmas.Option.{none-some, same_Some}
-use Rattle.pst_more_known.specs.Onward.{Both}
+use Rattle.pst_built.specs.Onward.{Both}
 
 pub by_mapped : {A K : Type 0} (view : A → K) (o : Option A) (k : K) → option_map view o ≡ Some k → (y : A) × (o ≡ Some y) × (view y ≡ k)
 by_mapped view None k e = absurd (none-some k e)

@@ -14,8 +14,8 @@ use Rattle.pst_ast.specs.declared.activity.JoinNode.{JoinNode}
 use Rattle.pst_ast.specs.declared.activity.TogetherWord.{TogetherWord}
 use Rattle.pst_ast.specs.declared.expression.ExprNode.{ExprNode}
 use Rattle.pst_ast.specs.ActivityView.{view_core, view_statement, view_statement_row, view_branch, view_branch_row, view_arm, view_arm_row}
-use Rattle.pst_scope.specs.declared.declaration.Declaration.{Declaration}
-use Rattle.pst_scope.specs.Declarations.{in_arm, in_arm_row, in_branch, in_branch_row, in_core, in_statement, in_statement_row}
+use Rattle.pst_ast.specs.declared.scope_declaration.Declaration.{Declaration}
+use Rattle.pst_ast.specs.Declarations.{in_arm, in_arm_row, in_branch, in_branch_row, in_core, in_statement, in_statement_row}
 
 statement_row : (owner : Place) {n : _} (k : Row_of-StatementNode n) → in_statement_row owner (view_statement_row k) ≡ flat_map (in_statement owner) (map view_statement (items-the_row-StatementNode n k))
 statement_row owner end_of-StatementNode = refl

@@ -9,8 +9,8 @@ use Rattle.pst_ast.specs.declared.constraint.ConstraintNode.TheVariants as the_c
 use Rattle.pst_ast.specs.declared.constraint.ConstraintItem.TheBlock.{hidden-the_row-ConstraintItem-0}
 use Rattle.pst_ast.specs.declared.constraint.ConstraintItem.{ConstraintItem}
 use Rattle.pst_ast.specs.ConstraintView.{view_constraint, view_constraint_item, view_constraint_item_row}
-use Rattle.pst_scope.specs.declared.declaration.Declaration.{Declaration}
-use Rattle.pst_scope.specs.Declarations.{in_item, in_item_row, in_set}
+use Rattle.pst_ast.specs.declared.scope_declaration.Declaration.{Declaration}
+use Rattle.pst_ast.specs.Declarations.{in_item, in_item_row, in_set}
 
 constraint_item_row : (owner : Place) {n : _} (k : Row_of-ConstraintItem n) → in_item_row owner (view_constraint_item_row k) ≡ flat_map (in_item owner) (map view_constraint_item (items-the_row-ConstraintItem n k))
 constraint_item_row owner end_of-ConstraintItem = refl

@@ -2,13 +2,12 @@
 ghost use Rattle.std.specs.Prelude.{◌≡◌, ◌++◌, OnOk, map};
 ghost use Rattle.std.specs.List.{flat_map};
 ghost use Rattle.pst_ast.specs.ActivityView.{view_activity, view_arm, view_branch, view_core, view_statement, view_with};
-ghost use Rattle.pst_scope.specs.Declarations.{in_activity, in_arm, in_branch, in_core, in_statement, in_with};
+ghost use Rattle.pst_ast.specs.Declarations.{in_activity, in_arm, in_branch, in_core, in_statement, in_with};
 
 use crate::collect_constraint::add_set;
 use crate::single::push_optional_index;
-use pst_ast::{ActivityNode, ArmNode, BranchNode, CoreNode, StatementNode, WithNode};
+use pst_ast::{ActivityNode, ArmNode, BranchNode, CoreNode, Declaration, StatementNode, WithNode};
 use pst_base::{NoMemory, Place};
-use pst_scope::Declaration;
 
 // activity = "activity" "{" { stmt } "}"
 pub fn add_activity(

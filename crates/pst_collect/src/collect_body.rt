@@ -2,12 +2,11 @@
 ghost use Rattle.std.specs.Prelude.{◌≡◌, ◌++◌, OnOk, map};
 ghost use Rattle.std.specs.List.{flat_map};
 ghost use Rattle.pst_ast.specs.BodyView.{view_body, view_body_statement};
-ghost use Rattle.pst_scope.specs.Declarations.{in_body, in_body_statement};
+ghost use Rattle.pst_ast.specs.Declarations.{in_body, in_body_statement};
 
 use crate::single::{push_local, push_optional_index};
-use pst_ast::{BodyNode, BodyStatement};
+use pst_ast::{BodyNode, BodyStatement, Declaration};
 use pst_base::{NoMemory, Place};
-use pst_scope::Declaration;
 
 // body = "exec" "body" "{" { bstmt } "}"
 pub fn add_body(found: &mut Vec<Declaration>, owner: Place, body: &BodyNode) -> Result<(), NoMemory>

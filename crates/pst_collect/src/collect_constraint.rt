@@ -2,12 +2,13 @@
 ghost use Rattle.std.specs.Prelude.{◌≡◌, ◌++◌, OnOk, map};
 ghost use Rattle.std.specs.List.{flat_map};
 ghost use Rattle.pst_ast.specs.ConstraintView.{view_constraint, view_constraint_content, view_constraint_declaration, view_constraint_item};
-ghost use Rattle.pst_scope.specs.Declarations.{in_constraint, in_constraint_content, in_item, in_set};
+ghost use Rattle.pst_ast.specs.Declarations.{in_constraint, in_constraint_content, in_item, in_set};
 
 use crate::single::{push_index, push_member};
-use pst_ast::{ConstraintContent, ConstraintDeclaration, ConstraintItem, ConstraintNode};
+use pst_ast::{
+    ConstraintContent, ConstraintDeclaration, ConstraintItem, ConstraintNode, Declaration, Sort,
+};
 use pst_base::{NoMemory, Place};
-use pst_scope::{Declaration, Sort};
 
 // set = citem | "{" { citem } "}"
 #[cycle(constraint)]

@@ -3,14 +3,14 @@ ghost use Rattle.std.specs.Prelude.{◌≡◌, ◌++◌, ◌∷◌, [], OnOk, ma
 ghost use Rattle.pst_ast.specs.ExpressionView.{view_part};
 ghost use Rattle.pst_ast.specs.SharedView.{view_names};
 ghost use Rattle.pst_ast.specs.DeclarationView.{view_claim, view_field, view_next_field, view_reference};
-ghost use Rattle.pst_scope.specs.Declarations;
+ghost use Rattle.pst_ast.specs.Declarations;
 
 use crate::single::push_member;
 use pst_ast::{
-    ClaimNode, FieldNode, NamesNode, NextField, NextName, PartNode, ReferenceNode, ReferenceWord,
+    ClaimNode, Declaration, FieldNode, NamesNode, NextField, NextName, PartNode, ReferenceNode,
+    ReferenceWord, Sort,
 };
 use pst_base::{NoMemory, Place};
-use pst_scope::{Declaration, Sort};
 
 // NAME [ index ]
 fn add_field_part(

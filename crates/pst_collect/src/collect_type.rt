@@ -3,8 +3,8 @@ ghost use Rattle.std.specs.Prelude.{◌≡◌, ◌++◌, OnOk, map};
 ghost use Rattle.std.specs.List.{flat_map};
 ghost use Rattle.std.specs.Option.{option_map};
 ghost use Rattle.pst_ast.specs.DeclarationView.{view_action, view_action_part, view_component, view_component_part, view_enum, view_function, view_item, view_members, view_next_enum_item, view_next_parameter, view_object, view_object_part, view_parameters, view_pool};
-ghost use Rattle.pst_scope.specs.declared.declaration.Sort.TheVariants.{Handle, Instance, Parameter};
-ghost use Rattle.pst_scope.specs.Declarations;
+ghost use Rattle.pst_ast.specs.declared.scope_declaration.Sort.TheVariants.{Handle, Instance, Parameter};
+ghost use Rattle.pst_ast.specs.Declarations;
 
 use crate::collect_activity::add_activity;
 use crate::collect_body::add_body;
@@ -12,12 +12,11 @@ use crate::collect_constraint::add_constraint;
 use crate::collect_member::{add_claim, add_field, add_names, add_reference};
 use crate::single::{level_of, push_member, push_type};
 use pst_ast::{
-    ActionNode, ActionPart, BaseNode, ComponentNode, ComponentPart, EnumNode, FunctionNode, Item,
-    MembersNode, NextEnumItem, NextParameter, ObjectNode, ObjectPart, ParametersNode, PoolNode,
-    TypeName,
+    ActionNode, ActionPart, BaseNode, ComponentNode, ComponentPart, Declaration, EnumNode,
+    FunctionNode, Item, MembersNode, NextEnumItem, NextParameter, ObjectNode, ObjectPart,
+    ParametersNode, PoolNode, Sort, TypeName,
 };
 use pst_base::{NoMemory, Place};
-use pst_scope::{Declaration, Sort};
 
 // Action handles.
 fn add_handles(

@@ -1,12 +1,11 @@
 //! What the files together declare.
 ghost use Rattle.std.specs.Prelude.{◌≡◌, ◌++◌, IfOk, OnOk, map};
 ghost use Rattle.pst_ast.specs.DeclarationView.{view_unit};
-ghost use Rattle.pst_scope.specs.Declarations;
+ghost use Rattle.pst_ast.specs.Declarations;
 
 use crate::collect_type::add_items;
-use pst_ast::Unit;
+use pst_ast::{Declaration, Unit};
 use pst_base::NoMemory;
-use pst_scope::Declaration;
 use std::alloc::Global;
 
 // What a file declares.

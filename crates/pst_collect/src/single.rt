@@ -1,10 +1,9 @@
 //! Single declarations, added to a list.
 ghost use Rattle.std.specs.Prelude.{◌≡◌, ◌++◌, ◌∷◌, [], OnOk, Some};
-ghost use Rattle.pst_scope.specs.Declarations;
+ghost use Rattle.pst_ast.specs.Declarations;
 
-use pst_ast::{LabelNode, Name};
+use pst_ast::{Declaration, LabelNode, Name, Scope, Sort};
 use pst_base::{NoMemory, Place};
-use pst_scope::{Declaration, Scope, Sort};
 
 // Adds a name in the scope of the type that is named at a place.
 pub fn push_member(

@@ -20,10 +20,10 @@ use Rattle.pst_legal.specs.Slots.{first_object_slot, maybe_act_slot, output_slot
 use Rattle.pst_legal.specs.Standing.{Standing}
 use Rattle.pst_legal.specs.Constraints.{HasConstraint, OfCompound, OfAct, OfOutput, OfClaim, OfFirst, Inline}
 use Rattle.pst_built.proofs.Members.{In, in_get, in_map, to_left, to_right, to_flat_map, to_numbered, to_filter, to_contains, any_from}
-use Rattle.pst_more_known.specs.Onward.{Both}
-use Rattle.pst_statements.specs.Stated.{statement_of}
-use Rattle.pst_statements.specs.Listed.{action_constraints, object_constraints}
-use Rattle.pst_statements.proofs.Kept.{all_found, stands_at}
+use Rattle.pst_built.specs.Onward.{Both}
+use Rattle.pst_slots.specs.Stated.{statement_of}
+use Rattle.pst_slots.specs.Listed.{action_constraints, object_constraints}
+use Rattle.pst_slots.proofs.Kept.{all_found, stands_at}
 use Rattle.pst_refusals.specs.Answers.{StandEarlier}
 use Rattle.pst_blank_values.specs.Values.{IsSameReference, IsSameAct, IsSameButValues}
 use Rattle.pst_constraint_sites.specs.Sites.{SiteTree, AtNode, AtTraversal, AtAct, AtOutput, AtClaim, AtFirst, maybe_output_slot, maybe_resource_slot, slot_at}

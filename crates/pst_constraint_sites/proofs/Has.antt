@@ -24,11 +24,11 @@ use Rattle.pst_legal.specs.Statements.{StandsFor}
 use Rattle.pst_legal.specs.Constraints.{OfCompound, OfAct, OfOutput, OfClaim, OfFirst, Inline}
 use Rattle.pst_built.proofs.Members.{In, in_append, in_flat_map, in_if, in_numbered, in_filter, to_map, any_found}
 use Rattle.pst_built.proofs.SoundActs.{in_place}
-use Rattle.pst_reached.proofs.Lists.{in_contains}
-use Rattle.pst_more_known.specs.Onward.{Both}
-use Rattle.pst_statements.specs.Stated.{Stated, statement_of}
-use Rattle.pst_statements.specs.Listed.{action_constraints, object_constraints}
-use Rattle.pst_statements.proofs.Found.{found}
+use Rattle.pst_built.proofs.Lists.{in_contains}
+use Rattle.pst_built.specs.Onward.{Both}
+use Rattle.pst_slots.specs.Stated.{Stated, statement_of}
+use Rattle.pst_slots.specs.Listed.{action_constraints, object_constraints}
+use Rattle.pst_slots.proofs.Found.{found}
 use Rattle.pst_blank_values.specs.Values.{IsSameReference, IsSameAct, IsSameButValues}
 use Rattle.pst_constraint_sites.specs.Sites.{SiteTree, AtNode, AtTraversal, AtAct, AtOutput, AtClaim, AtFirst, maybe_output_slot, maybe_resource_slot}
 use Rattle.pst_constraint_sites.specs.Groups.{GroupTree, one_group, fill_groups, step_groups, stated_groups, node_groups, output_groups, claim_groups, act_groups, first_object_groups, groups}

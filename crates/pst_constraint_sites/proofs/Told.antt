@@ -22,7 +22,7 @@ use Rattle.pst_legal.specs.Types.{action_field, is_output}
 use Rattle.pst_legal.specs.Blanks.{Blank, Instance, OfAct, OfOutput, OfClaim, claim_instances, claim_field, pool_field, domain_in, domain_of}
 use Rattle.pst_legal.specs.Standing.{Standing, value_or, open_value, hull, field_span, number_or_lacking}
 use Rattle.pst_legal.specs.Slots.{pool_span, output_values, claim_values, linked_slot, flow_slot, initial_slot, is_source_first, initial_by as initial_slot_by, act_slot, maybe_act_slot, compound_slot, fill_slot, maybe_fill_slot, behind, node_behind, node_slot, inline_slot, output_slot, resource_slot, first_object_slot}
-use Rattle.pst_more_known.specs.Onward.{Both}
+use Rattle.pst_built.specs.Onward.{Both}
 use Rattle.pst_blank_values.specs.Rows.{Part, Claims, Fields, Output, Resource, of_act, stands_in}
 use Rattle.pst_blank_values.specs.Values.{IsSameReference, IsSameAct, IsSameButValues}
 use Rattle.pst_constraint_sites.specs.Sites.{SiteTree, AtNode, AtTraversal, AtAct, AtOutput, AtClaim, AtFirst, maybe_output_slot, maybe_resource_slot, slot_at}

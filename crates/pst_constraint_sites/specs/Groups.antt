@@ -14,8 +14,8 @@ use Rattle.pst_scen.specs.declared.scenario.First.{First}
 use Rattle.pst_scen.specs.declared.scenario.Scenario.{Scenario}
 use Rattle.pst_legal.specs.Types.{type_of, pool_object, is_output}
 use Rattle.pst_legal.specs.Blanks.{claims_of}
-use Rattle.pst_statements.specs.Stated.{Stated, statement_of}
-use Rattle.pst_statements.specs.Listed.{action_constraints, object_constraints}
+use Rattle.pst_slots.specs.Stated.{Stated, statement_of}
+use Rattle.pst_slots.specs.Listed.{action_constraints, object_constraints}
 use Rattle.pst_constraint_sites.specs.Sites.{SiteTree, AtNode, AtTraversal, AtAct, AtOutput, AtClaim, AtFirst}
 
 -- a site, and the constraints that stand there

@@ -3,7 +3,7 @@ ghost use Rattle.std.specs.Prelude.{◌≡◌, ◌++◌, IfOk, OnOk, flat_map, m
 ghost use Rattle.std.specs.List.{enumerate_from};
 ghost use Rattle.pst_model.specs.ModelView.{view_model, view_step};
 ghost use Rattle.pst_known.specs.Known.{seen};
-ghost use Rattle.pst_statements.specs.Stated.{statement_of as statement_in};
+ghost use Rattle.pst_slots.specs.Stated.{statement_of as statement_in};
 ghost use Rattle.pst_constraint_sites.specs.Groups.{fill_groups, step_groups, stated_groups, node_groups, groups};
 ghost use Rattle.pst_constraint_sites.specs.Views.{view_group};
 

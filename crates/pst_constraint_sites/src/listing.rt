@@ -3,7 +3,7 @@ ghost use Rattle.std.specs.Prelude.{◌≡◌, ◌++◌, OnOk, flat_map, map};
 ghost use Rattle.std.specs.List.{enumerate_from};
 ghost use Rattle.pst_model.specs.ModelView.{view_model};
 ghost use Rattle.pst_legal.specs.Types.{type_of};
-ghost use Rattle.pst_statements.specs.Listed.{action_constraints};
+ghost use Rattle.pst_slots.specs.Listed.{action_constraints};
 ghost use Rattle.pst_constraint_sites.specs.Sites.{AtAct};
 ghost use Rattle.pst_constraint_sites.specs.Groups.{one_group, output_groups, claim_groups, act_groups, first_object_groups};
 ghost use Rattle.pst_constraint_sites.specs.Views.{view_group};

@@ -6,7 +6,7 @@ ghost use Rattle.pst_model.specs.ConstraintTree.{view_constraint};
 ghost use Rattle.pst_model.specs.ModelView.{view_model, view_object};
 ghost use Rattle.pst_legal.specs.Types.{type_of, pool_object, is_state_pool, is_output};
 ghost use Rattle.pst_legal.specs.Blanks.{claims_of, refers_to};
-ghost use Rattle.pst_statements.specs.Listed.{action_constraints, object_constraints};
+ghost use Rattle.pst_slots.specs.Listed.{action_constraints, object_constraints};
 
 use pst_base::NoMemory;
 use pst_model::{Claim, Constraint, Model, ObjectKind, ObjectType};

@@ -3,7 +3,7 @@ use Rattle.std.specs.Prelude.{List, map}
 use Rattle.pst_ast.specs.SharedView.{view_next_expr}
 use Rattle.pst_ast.specs.declared.shared.NextExpr.{NextExpr}
 use Rattle.pst_model.specs.ConstraintTree.{SlotTree}
-use Rattle.pst_scope.specs.Uses.{next_expr}
+use Rattle.pst_ast.specs.Uses.{next_expr}
 use Rattle.pst_terms.specs.Sources.{Sources}
 use Rattle.pst_terms.specs.Terms.{Term}
 use Rattle.pst_terms.specs.Readings.{Setting, expr_term}

@@ -6,11 +6,10 @@ ghost use Rattle.pst_terms.specs.Readings as reading;
 ghost use Rattle.pst_constraints.specs.Turned.{without_turn};
 ghost use Rattle.pst_sources.specs.Shown.{sources_of};
 
-use pst_ast::{DotName, Name};
+use pst_ast::{Checked, DotName, Name, PathPart, PathReferent, Referent};
 use pst_base::NoMemory;
-use pst_meaning::{PathFor, read_path};
+use pst_index::{PathFor, read_path};
 use pst_path_readings::{Setting, Turn};
-use pst_scope::{Checked, PathPart, PathReferent, Referent};
 use pst_sources::Sources;
 use pst_walk_parts::path_parts::plain_parts;
 

@@ -4,8 +4,8 @@ use Rattle.std.specs.Prelude.{drop, get_or, Option, Some, None}
 use Rattle.std.specs.Option.{option_or}
 use Rattle.std.proofs.lemmas.List.{drop_more}
 use Rattle.pst_ast.specs.DeclarationTree.{UnitTree}
-use Rattle.pst_inherited.specs.Contents.{Content, last_content, own_content}
-use Rattle.pst_scope.specs.declared.declaration.Declaration.{Declaration}
+use Rattle.pst_tree.specs.Contents.{Content, last_content, own_content}
+use Rattle.pst_ast.specs.declared.scope_declaration.Declaration.{Declaration}
 
 or_later : (later own before : Option Content) → option_or (option_or later own) before ≡ option_or later (option_or own before)
 or_later (Some x) own before = refl

@@ -3,10 +3,10 @@ use Rattle.std.specs.Prelude.{ℕ, List, Option}
 use Rattle.std.specs.Option.{option_map_or, option_or}
 use Rattle.pst_ast.specs.ActivityView.{view_activity}
 use Rattle.pst_ast.specs.BodyView.{view_body}
-use Rattle.pst_scope.specs.declared.declaration.Declaration.{Declaration}
-use Rattle.pst_scope.specs.Lookups.{type_of}
-use Rattle.pst_inherited.specs.Bases.{action_number}
-use Rattle.pst_inherited.specs.Contents.{Content, Activity, Body}
+use Rattle.pst_ast.specs.declared.scope_declaration.Declaration.{Declaration}
+use Rattle.pst_ast.specs.Lookups.{type_of}
+use Rattle.pst_tree.specs.Bases.{action_number}
+use Rattle.pst_tree.specs.Contents.{Content, Activity, Body}
 use Rattle.pst_contents.specs.declared.found.FoundContent.{FoundContent}
 use Rattle.pst_contents.specs.declared.found.FoundContent.TheVariants as found
 

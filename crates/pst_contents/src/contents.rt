@@ -3,7 +3,7 @@ ghost use Rattle.std.specs.Prelude.{◌≡◌, IfOk};
 ghost use Rattle.std.specs.Option.{option_map};
 ghost use Rattle.pst_ast.specs.ActivityView.{view_activity};
 ghost use Rattle.pst_elab_rules.specs.Types as tree;
-ghost use Rattle.pst_inherited.specs.Contents;
+ghost use Rattle.pst_tree.specs.Contents;
 ghost use Rattle.pst_model.specs.ModelTree.{Compound};
 ghost use Rattle.pst_model.specs.ModelView as model;
 ghost use Rattle.pst_model.specs.ModelView.{view_content};
@@ -14,12 +14,11 @@ use crate::found::{FoundContent, last_content};
 use crate::handles::handle_types;
 use pst_activity_steps::activity_steps;
 use pst_activity_ties::ties_in;
-use pst_ast::ActivityNode;
+use pst_ast::{ActivityNode, Declaration};
 use pst_base::NoMemory;
 use pst_body_steps::{body_steps, setting_in};
-use pst_inherited::with_bases;
 use pst_model::{Activity, Content};
-use pst_scope::Declaration;
+use pst_tree::with_bases;
 use pst_type_numbers::Numbered;
 
 // An activity, in the text of one action, of another one.

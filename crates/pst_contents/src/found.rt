@@ -5,13 +5,12 @@ ghost use Rattle.std.specs.Option.{option_map};
 ghost use Rattle.pst_ast.specs.ActivityView.{view_activity};
 ghost use Rattle.pst_ast.specs.BodyView.{view_body};
 ghost use Rattle.pst_ast.specs.DeclarationView.{view_action, view_action_part, view_unit};
-ghost use Rattle.pst_inherited.specs.Contents as tree;
-ghost use Rattle.pst_inherited.specs.Contents.{first_of};
+ghost use Rattle.pst_tree.specs.Contents as tree;
+ghost use Rattle.pst_tree.specs.Contents.{first_of};
 ghost use Rattle.pst_type_rules.specs.Sites.{action_of};
 ghost use Rattle.pst_contents.specs.Found.{or_content, view_found};
 
-use pst_ast::{ActionNode, ActionPart, ActivityNode, BodyNode};
-use pst_scope::Declaration;
+use pst_ast::{ActionNode, ActionPart, ActivityNode, BodyNode, Declaration};
 use pst_sites::Sites;
 
 /// An activity or a body, with the action in whose text it stands.

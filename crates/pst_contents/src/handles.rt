@@ -5,8 +5,8 @@ ghost use Rattle.pst_sources.specs.Shown.{sources_of};
 ghost use Rattle.pst_terms.specs.Sources.{declared_in};
 ghost use Rattle.pst_contents.specs.Found.{handle_type};
 
+use pst_ast::Declaration;
 use pst_base::NoMemory;
-use pst_scope::Declaration;
 use pst_type_members::MemberSort;
 use pst_type_numbers::Numbered;
 

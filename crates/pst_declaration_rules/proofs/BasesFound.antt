@@ -6,11 +6,11 @@ use Rattle.std.specs.Option.{option_and_then, option_or}
 use Rattle.pst_base.specs.declared.position.Place.{Place}
 use Rattle.pst_base.specs.declared.table.NameId.{NameId}
 use Rattle.pst_ast.specs.declared.leaf.Name.{Name}
-use Rattle.pst_scope.specs.declared.declaration.Declaration.{Declaration}
-use Rattle.pst_scope.specs.declared.declaration.Scope.{Scope}
-use Rattle.pst_scope.specs.declared.declaration.Scope.TheVariants.{Files, Part}
-use Rattle.pst_scope.specs.Lookups.{action_beside, base_in, base_of, component_named, look_up, second_of, type_by, type_here, type_named}
-use Rattle.pst_scope.specs.Sorts.{is_action, same_name, same_scope}
+use Rattle.pst_ast.specs.declared.scope_declaration.Declaration.{Declaration}
+use Rattle.pst_ast.specs.declared.scope_declaration.Scope.{Scope}
+use Rattle.pst_ast.specs.declared.scope_declaration.Scope.TheVariants.{Files, Part}
+use Rattle.pst_ast.specs.Lookups.{action_beside, base_in, base_of, component_named, look_up, second_of, type_by, type_here, type_named}
+use Rattle.pst_ast.specs.Sorts.{is_action, same_name, same_scope}
 use Rattle.pst_enum_rules.proofs.LeastOfEach.{cons_first, cons_rest}
 use Rattle.pst_declaration_rules.proofs.Tallying.{none_is_some, some_is}
 

@@ -6,14 +6,14 @@ use Rattle.std.specs.List.{filter}
 use Rattle.std.specs.Option.{option_map_or}
 use Rattle.pst_base.specs.declared.position.Place.{Place}
 use Rattle.pst_ast.specs.declared.shared.TypeName.{TypeName}
-use Rattle.pst_scope.specs.declared.declaration.Declaration.{Declaration}
-use Rattle.pst_scope.specs.declared.declaration.Sort.{Sort}
-use Rattle.pst_scope.specs.declared.declaration.Sort.TheVariants as sort
-use Rattle.pst_scope.specs.declared.referent.Finding.{Finding}
-use Rattle.pst_scope.specs.Declarations.{declarations}
-use Rattle.pst_scope.specs.Lookups.{type_in, type_of}
-use Rattle.pst_scope.specs.NameRules.{finding}
-use Rattle.pst_scope.specs.Sorts.{is_claim, is_field, is_item, is_need, is_reference, is_resource, same_place}
+use Rattle.pst_ast.specs.declared.scope_declaration.Declaration.{Declaration}
+use Rattle.pst_ast.specs.declared.scope_declaration.Sort.{Sort}
+use Rattle.pst_ast.specs.declared.scope_declaration.Sort.TheVariants as sort
+use Rattle.pst_ast.specs.declared.referent.Finding.{Finding}
+use Rattle.pst_ast.specs.Declarations.{declarations}
+use Rattle.pst_ast.specs.Lookups.{type_in, type_of}
+use Rattle.pst_ast.specs.NameRules.{finding}
+use Rattle.pst_ast.specs.Sorts.{is_claim, is_field, is_item, is_need, is_reference, is_resource, same_place}
 use Rattle.pst_type_rules.specs.Limits.{AddTogether, AddsFields, Claims, IsLimited, Items, Locals, Parameters, References, is_local, is_local_of, is_parameter}
 use Rattle.pst_type_rules.specs.Members.{AreMembers, WithoutBase, WithBase, own_members, those_that}
 use Rattle.pst_type_rules.specs.TypeRules.{ClaimOfNoResource, CompoundWithNeed, DeclarationBreaks, ManyFields, ReferenceOfResource, TooMany, Twofold}

@@ -2,8 +2,8 @@
 use Rattle.std.proofs.Common.{List, sym, subst, Option}
 use Rattle.std.specs.Prelude.{Contains}
 use Rattle.pst_base.specs.Laws.{BeforeGoesOn}
-use Rattle.pst_scope.specs.declared.declaration.Declaration.{Declaration}
-use Rattle.pst_scope.specs.declared.referent.Finding.{Finding}
+use Rattle.pst_ast.specs.declared.scope_declaration.Declaration.{Declaration}
+use Rattle.pst_ast.specs.declared.referent.Finding.{Finding}
 use Rattle.pst_evaluate.specs.Laws.{ConstantsAreFound}
 use Rattle.pst_name_rules.specs.Leasts.{IsLeastOf}
 use Rattle.pst_name_rules.proofs.Leasts.{told}

@@ -5,10 +5,10 @@ use Rattle.std.specs.Option.{option_map}
 use Rattle.std.proofs.lemmas.Bool.{leb-true}
 use Rattle.pst_ast.specs.ExpressionTree.{ExprTree}
 use Rattle.pst_model.specs.Limits.{most_elements, most_fields}
-use Rattle.pst_scope.specs.declared.declaration.Declaration.{Declaration}
-use Rattle.pst_scope.specs.declared.environment.Environment.{Environment}
-use Rattle.pst_scope.specs.Sorts.{is_field}
-use Rattle.pst_constants.specs.Constants.{IsConstant}
+use Rattle.pst_ast.specs.declared.scope_declaration.Declaration.{Declaration}
+use Rattle.pst_ast.specs.declared.environment.Environment.{Environment}
+use Rattle.pst_ast.specs.Sorts.{is_field}
+use Rattle.pst_type_rules.specs.Constants.{IsConstant}
 use Rattle.pst_type_rules.specs.Limits.{AddsFields, One, Array, WrongArray, AddTogether, Nothing, More}
 use Rattle.pst_type_rules.specs.Members.{those_that}
 use Rattle.pst_type_rules.specs.Sites.{DeclaredField, field_at}

@@ -6,9 +6,9 @@ use Rattle.pst_declaration_rules.specs.declared.counted.Kind.TheVariants.{Claim,
 use Rattle.pst_declaration_rules.specs.Counted.{total}
 use Rattle.std.proofs.lemmas.List.Elements.{Contains-append_left, Contains-push, Contains-push_cases}
 use Rattle.pst_base.specs.Laws.{BeforeGoesOn}
-use Rattle.pst_scope.specs.declared.declaration.Declaration.{Declaration}
-use Rattle.pst_scope.specs.declared.referent.Finding.{Finding}
-use Rattle.pst_scope.specs.Lookups.{base_of}
+use Rattle.pst_ast.specs.declared.scope_declaration.Declaration.{Declaration}
+use Rattle.pst_ast.specs.declared.referent.Finding.{Finding}
+use Rattle.pst_ast.specs.Lookups.{base_of}
 use Rattle.pst_type_rules.specs.Members.{AreMembers, WithoutBase, WithBase, own_members}
 use Rattle.pst_name_rules.specs.Earlier.{earlier}
 use Rattle.pst_name_rules.specs.Leasts.{IsIn, IsLeastOf, least_at}

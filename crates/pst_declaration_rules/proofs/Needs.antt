@@ -1,7 +1,7 @@
 -- Whether there is one of what is counted.
 use Rattle.std.proofs.Common.{◌≡◌, ⊎_elim, ℕ, ◌+◌, ◌≤◌, Bool, true, false, nat_lt, List, [], ◌∷◌, map, Option, refl, sym, ap, ◌∙◌, arith, true≢false}
 use Rattle.std.specs.Prelude.{Some, Contains, if◌then◌else◌}
-use Rattle.pst_scope.specs.declared.declaration.Declaration.{Declaration}
+use Rattle.pst_ast.specs.declared.scope_declaration.Declaration.{Declaration}
 use Rattle.pst_declaration_rules.specs.declared.counted.Kind.{Kind}
 use Rattle.pst_declaration_rules.specs.declared.sources.TypeSources.{TypeSources}
 use Rattle.pst_declaration_rules.specs.Counted.{is_of, most_of, one_or_none, plus, total, weight}

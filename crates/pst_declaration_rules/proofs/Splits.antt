@@ -1,7 +1,7 @@
 -- A list that is split where some of its elements are left out.
 use Rattle.std.proofs.Common.{◌≡◌, Bool, true, false, cond, List, [], ◌∷◌, ◌++◌, length, refl, ap, subst, ◌∙◌, arith}
 use Rattle.std.specs.List.{filter}
-use Rattle.pst_scope.specs.declared.declaration.Declaration.{Declaration}
+use Rattle.pst_ast.specs.declared.scope_declaration.Declaration.{Declaration}
 
 module _ (test : Declaration → Bool) where
   pub record WasSplit (ds front : List Declaration) (m : Declaration) : Type 0 where

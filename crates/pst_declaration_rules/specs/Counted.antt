@@ -1,10 +1,10 @@
 -- Counting what types may have only so many of.
 use Rattle.std.specs.Prelude.{ℕ, ◌+◌, nat_lt, nat_le, Bool, false, ◌&&◌, List, [], ◌∷◌, Option, Some, None, if◌then◌else◌}
 use Rattle.pst_model.specs.Limits.{most_claims, most_fields, most_locals, most_parameters, most_references}
-use Rattle.pst_scope.specs.declared.declaration.Sort.{Sort}
-use Rattle.pst_scope.specs.declared.referent.Finding.{Finding}
-use Rattle.pst_scope.specs.NameRules.{finding}
-use Rattle.pst_scope.specs.Sorts.{is_claim, is_field, is_item, is_reference}
+use Rattle.pst_ast.specs.declared.scope_declaration.Sort.{Sort}
+use Rattle.pst_ast.specs.declared.referent.Finding.{Finding}
+use Rattle.pst_ast.specs.NameRules.{finding}
+use Rattle.pst_ast.specs.Sorts.{is_claim, is_field, is_item, is_reference}
 use Rattle.pst_type_rules.specs.Limits.{is_local, is_parameter, most_items}
 use Rattle.pst_declaration_rules.specs.declared.counted.Kind.{Kind}
 use Rattle.pst_declaration_rules.specs.declared.counted.Kind.TheVariants as kind

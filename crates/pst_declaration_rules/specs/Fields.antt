@@ -5,9 +5,9 @@ use Rattle.pst_base.specs.declared.position.Place.{Place}
 use Rattle.pst_ast.specs.ExpressionTree.{ExprTree}
 use Rattle.pst_ast.specs.DeclarationTree.{UnitTree}
 use Rattle.pst_model.specs.Limits.{most_elements}
-use Rattle.pst_scope.specs.declared.declaration.Declaration.{Declaration}
-use Rattle.pst_scope.specs.declared.environment.Environment.{Environment}
-use Rattle.pst_scope.specs.Sorts.{is_field}
+use Rattle.pst_ast.specs.declared.scope_declaration.Declaration.{Declaration}
+use Rattle.pst_ast.specs.declared.environment.Environment.{Environment}
+use Rattle.pst_ast.specs.Sorts.{is_field}
 use Rattle.pst_type_rules.specs.Sites.{DeclaredField, field_at}
 use Rattle.pst_evaluate.specs.Kept.{constant_by}
 use Rattle.pst_declaration_rules.specs.declared.member.Member.{Member}

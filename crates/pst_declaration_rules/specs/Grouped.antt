@@ -3,9 +3,9 @@ use Rattle.std.specs.Prelude.{Bool, false, nat_eq, ◌&&◌, List, [], Option, S
 use Rattle.std.specs.Option.{option_map, option_map_or}
 use Rattle.std.specs.Global.{Vec}
 use Rattle.pst_base.specs.declared.position.Place.{Place}
-use Rattle.pst_scope.specs.declared.declaration.Declaration.{Declaration}
-use Rattle.pst_scope.specs.declared.declaration.Scope.{Scope}
-use Rattle.pst_scope.specs.declared.declaration.Scope.TheVariants.{Files, Part}
+use Rattle.pst_ast.specs.declared.scope_declaration.Declaration.{Declaration}
+use Rattle.pst_ast.specs.declared.scope_declaration.Scope.{Scope}
+use Rattle.pst_ast.specs.declared.scope_declaration.Scope.TheVariants.{Files, Part}
 use Rattle.pst_type_rules.specs.Limits.{is_local}
 use Rattle.pst_declaration_rules.specs.declared.grouped.By.{By}
 use Rattle.pst_declaration_rules.specs.declared.grouped.By.TheVariants.{OwnScope, OwnText}

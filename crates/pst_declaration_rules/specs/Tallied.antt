@@ -5,9 +5,9 @@ use Rattle.std.specs.List.{filter}
 use Rattle.pst_ast.specs.ActivityTree.{StatementTree}
 use Rattle.pst_ast.specs.DeclarationTree.{UnitTree}
 use Rattle.pst_ast.specs.DeclarationView.{view_unit}
-use Rattle.pst_scope.specs.declared.declaration.Declaration.{Declaration}
-use Rattle.pst_scope.specs.Declarations.{declarations}
-use Rattle.pst_scope.specs.Lookups.{base_of}
+use Rattle.pst_ast.specs.declared.scope_declaration.Declaration.{Declaration}
+use Rattle.pst_ast.specs.Declarations.{declarations}
+use Rattle.pst_ast.specs.Lookups.{base_of}
 use Rattle.pst_type_rules.specs.Members.{AreMembers, IsCompound, IsTwofold}
 use Rattle.pst_evaluate.specs.Kept.{known_in}
 use Rattle.pst_evaluate.specs.Settled.{AreItemValues}

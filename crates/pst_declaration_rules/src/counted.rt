@@ -3,7 +3,7 @@ ghost use Rattle.std.specs.Prelude.{◌≡◌};
 ghost use Rattle.pst_declaration_rules.specs.Counted;
 
 use crate::member::Member;
-use pst_scope::{Finding, Sort};
+use pst_ast::{Finding, Sort};
 
 /// What a type may have only so many of.
 #[derive(Clone, Copy, PartialEq, Eq)]

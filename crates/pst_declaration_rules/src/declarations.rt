@@ -1,9 +1,9 @@
 //! The least of what declarations break.
 ghost use Rattle.std.specs.Prelude.{◌≡◌, IfOk, map};
 ghost use Rattle.pst_ast.specs.DeclarationView.{view_unit};
-ghost use Rattle.pst_scope.specs.Declarations.{declarations};
-ghost use Rattle.pst_scope.specs.NameRules.{NameBreach};
-ghost use Rattle.pst_scope.specs.declared.referent.Finding.{Finding as AFinding};
+ghost use Rattle.pst_ast.specs.Declarations.{declarations};
+ghost use Rattle.pst_ast.specs.NameRules.{NameBreach};
+ghost use Rattle.pst_ast.specs.declared.referent.Finding.{Finding as AFinding};
 ghost use Rattle.pst_evaluate.specs.Kept.{known_in};
 ghost use Rattle.pst_evaluate.specs.Settled.{AreItemValues};
 ghost use Rattle.pst_name_rules.specs.Leasts.{IsLeastOf};
@@ -16,11 +16,11 @@ use crate::grouped::{By, grouped};
 use crate::member::Member;
 use crate::sources::TypeSources;
 use crate::tallies::tallies_of;
+use pst_ast::Finding;
 use pst_base::{Names, NoMemory};
 use pst_evaluate::ItemValues;
 use pst_index::Index;
 use pst_places::PlaceList;
-use pst_scope::Finding;
 use pst_sites::Sites;
 use std::alloc::Global;
 

@@ -2,16 +2,16 @@
 ghost use Rattle.std.specs.Prelude.{◌≡◌, IfOk, map};
 ghost use Rattle.std.specs.Option.{option_map};
 ghost use Rattle.pst_ast.specs.DeclarationView.{view_unit};
-ghost use Rattle.pst_scope.specs.Declarations.{declarations};
+ghost use Rattle.pst_ast.specs.Declarations.{declarations};
 ghost use Rattle.pst_evaluate.specs.Kept.{known_in};
 ghost use Rattle.pst_site_lists.specs.Sited.{view_field_site};
 ghost use Rattle.pst_declaration_rules.specs.Fields;
 
 use crate::member::Member;
+use pst_ast::{Declaration, Sort};
 use pst_base::{Names, NoMemory};
 use pst_evaluate::{ItemValues, constant_value};
 use pst_index::Index;
-use pst_scope::{Declaration, Sort};
 use pst_sites::{FieldSite, Sites};
 use std::alloc::Global;
 

@@ -1,6 +1,6 @@
 //! What single declarations break.
 ghost use Rattle.std.specs.Prelude.{◌≡◌, IfOk, None};
-ghost use Rattle.pst_scope.specs.Sorts;
+ghost use Rattle.pst_ast.specs.Sorts;
 ghost use Rattle.pst_name_rules.specs.Leasts.{least_at};
 ghost use Rattle.pst_declaration_rules.specs.Findings;
 ghost use Rattle.pst_declaration_rules.specs.Judged.{IsJudged, IsOwnFinding, least_finding};
@@ -12,11 +12,10 @@ use crate::member::Member;
 use crate::shape::{Shape, shape_at};
 use crate::sources::TypeSources;
 use crate::tally::{Tally, start_of, with_own};
-use pst_ast::{ObjectWord, TypeName};
+use pst_ast::{Declaration, Finding, ObjectWord, Sort, TypeName};
 use pst_base::{NoMemory, Place};
 use pst_index::Index;
 use pst_name_rules::earlier;
-use pst_scope::{Declaration, Finding, Sort};
 
 // Whether it is a resource.
 fn is_resource(sort: Sort) -> bool

@@ -6,8 +6,8 @@ ghost use Rattle.pst_declaration_rules.specs.Grouped;
 ghost use Rattle.pst_declaration_rules.specs.Grouped.{has_key, items_at, same_key};
 
 use crate::member::Member;
+use pst_ast::{Declaration, Scope, Sort};
 use pst_base::{NoMemory, Place};
-use pst_scope::{Declaration, Scope, Sort};
 use std::alloc::Global;
 use std::collections::HashMap;
 

@@ -1,5 +1,5 @@
 //! What is declared, with the number of fields that it adds to its type.
-use pst_scope::Declaration;
+use pst_ast::Declaration;
 
 /// A declaration, with the number of fields that it adds to its type.
 #[derive(Clone, Copy)]

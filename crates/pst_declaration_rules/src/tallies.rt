@@ -8,8 +8,8 @@ use crate::grouped::group_at;
 use crate::shape::shape_at;
 use crate::sources::TypeSources;
 use crate::tally::{Tally, start_of, with_own};
+use pst_ast::Declaration;
 use pst_base::NoMemory;
-use pst_scope::Declaration;
 use std::alloc::Global;
 
 // The counts of a declaration, by those of its base.

@@ -9,8 +9,8 @@ use crate::grouped::group_at;
 use crate::member::Member;
 use crate::shape::{Shape, is_compound, is_twofold, shape_at};
 use crate::sources::TypeSources;
+use pst_ast::Declaration;
 use pst_members::is_same_action;
-use pst_scope::Declaration;
 
 /// How many members a type has with those of its bases, and which activities and bodies.
 #[derive(Clone, Copy)]

@@ -3,7 +3,7 @@ ghost use Rattle.std.specs.Prelude.{◌≡◌, ◌++◌, IfOk, OnOk, map};
 ghost use Rattle.std.specs.List.{find, flat_map};
 ghost use Rattle.std.specs.Option.{option_map};
 ghost use Rattle.pst_ast.specs.DeclarationView.{view_component_part, view_item, view_object, view_unit};
-ghost use Rattle.pst_scope.specs.Sorts.{same_place};
+ghost use Rattle.pst_ast.specs.Sorts.{same_place};
 ghost use Rattle.pst_type_rules.specs.Sites.{items_of};
 ghost use Rattle.pst_elab_rules.specs.Types.{object_at, object_of_tree, objects_in_item, objects_in_part};
 

@@ -9,11 +9,11 @@ use Rattle.pst_ast.specs.declared.instance.Instance.{Instance}
 use Rattle.pst_ast.specs.DeclarationTree.{UnitTree}
 use Rattle.pst_model.specs.declared.model.Serve.{Serve}
 use Rattle.pst_model.specs.Served.{ComesBefore, IsInOrder}
-use Rattle.pst_scope.specs.declared.declaration.Declaration.{Declaration}
-use Rattle.pst_scope.specs.Declarations.{declarations}
-use Rattle.pst_scope.specs.Sorts.{is_action}
+use Rattle.pst_ast.specs.declared.scope_declaration.Declaration.{Declaration}
+use Rattle.pst_ast.specs.Declarations.{declarations}
+use Rattle.pst_ast.specs.Sorts.{is_action}
 use Rattle.pst_type_rules.specs.Members.{those_that}
-use Rattle.pst_inherited.specs.Bases.{needs_of}
+use Rattle.pst_tree.specs.Bases.{needs_of}
 use Rattle.pst_bind.specs.Serving.{serving_pool}
 use Rattle.pst_bind.specs.Needs.{Need, is_performed, is_home, homes_of, needs_in, needs, numbered_actions, served_by, serving, served}
 use Rattle.pst_elab_rules.specs.Model.{serve_of}

@@ -11,8 +11,8 @@ use Rattle.pst_expr.specs.Spans.{IsInSpan}
 use Rattle.pst_expr.specs.declared.tree.BinaryOp.TheVariants.{LessOrEqual, GreaterOrEqual, Equal, And, Or}
 use Rattle.pst_expr.specs.Value.{number_of, binary_value}
 use Rattle.pst_model.specs.ConstraintTree.{SlotTree}
-use Rattle.pst_scope.specs.Uses.{next_ends}
-use Rattle.pst_constants.specs.Domains.{ranges_of}
+use Rattle.pst_ast.specs.Uses.{next_ends}
+use Rattle.pst_type_rules.specs.Domains.{ranges_of}
 use Rattle.pst_terms.specs.Terms.{Term, Infix, Reading, ranges_term, or_ranges, range_term}
 use Rattle.pst_terms.specs.Values.{term_value}
 use Rattle.pst_elab_rules.specs.Meaning.{Holds, IsRangeOf, AreRangesOf, IsInOne}

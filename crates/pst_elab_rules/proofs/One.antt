@@ -8,10 +8,10 @@ use Rattle.pst_ast.specs.declared.instance.Instance.{Instance}
 use Rattle.pst_ast.specs.DeclarationTree.{UnitTree}
 use Rattle.pst_expr.specs.declared.ranges.Span.{Span}
 use Rattle.pst_model.specs.ModelTree.{ModelTree}
-use Rattle.pst_scope.specs.Breaches.{IsLeast}
-use Rattle.pst_scope.specs.NameRules.{NameBreach}
-use Rattle.pst_scope.proofs.Least.{least_is_one}
-use Rattle.pst_constants.specs.Laws.{TypesHaveOneDomain}
+use Rattle.pst_ast.specs.Breaches.{IsLeast}
+use Rattle.pst_ast.specs.NameRules.{NameBreach}
+use Rattle.pst_ast.proofs.Least.{least_is_one}
+use Rattle.pst_type_rules.specs.ConstantsLaws.{TypesHaveOneDomain}
 use Rattle.pst_type_rules.specs.declared.typed.ConstantValue.{ConstantValue}
 use Rattle.pst_type_rules.specs.Laws.{ConstantsAreOne}
 use Rattle.pst_type_rules.specs.Sites.{DeclaredField, fields}

@@ -1,11 +1,11 @@
 -- Facts about the models of further small sources.
 use Rattle.std.proofs.Common.{◌≡◌, refl}
 use Rattle.std.specs.Prelude.{[], ◌∷◌, map, pos}
-use Rattle.pst_constants.specs.Domains.{span}
-use Rattle.pst_scope.specs.Lookups.{look_up, declared_at, base_of, member_of, item_at, value_named, type_of, traversed, stands_for}
-use Rattle.pst_scope.specs.Paths.{read_path}
+use Rattle.pst_type_rules.specs.Domains.{span}
+use Rattle.pst_ast.specs.Lookups.{look_up, declared_at, base_of, member_of, item_at, value_named, type_of, traversed, stands_for}
+use Rattle.pst_ast.specs.Paths.{read_path}
 use Rattle.pst_type_rules.specs.Sites.{action_at, function_at, field_at}
-use Rattle.pst_inherited.specs.Bases.{with_bases}
+use Rattle.pst_tree.specs.Bases.{with_bases}
 use Rattle.pst_terms.specs.Sources.{item_value}
 use Rattle.pst_terms.specs.Readings.{reading_of}
 use Rattle.pst_elab_rules.specs.Model.{model_by, sources}

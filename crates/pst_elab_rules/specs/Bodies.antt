@@ -6,14 +6,14 @@ use Rattle.pst_ast.specs.declared.leaf.Name.{Name}
 use Rattle.pst_ast.specs.BodyTree.{CallTree, MakeCall, SourceTree, SourceCall, SourceExpr, ValueTree, MakeValue, BodyStatementTree, BodyStatementEmpty, BodyStatementLocal, BodyStatementAssign, BodyStatementCall, BodyStatementBlock, BodyStatementIf, BodyStatementIfElse, BodyStatementRepeat, BodyStatementRow, NoBodyStatementRow, MoreBodyStatementRow, BodyTree, MakeBody}
 use Rattle.pst_model.specs.ConstraintTree.{ConstraintTree}
 use Rattle.pst_model.specs.BodyTree as body
-use Rattle.pst_scope.specs.declared.declaration.Declaration.{Declaration}
-use Rattle.pst_scope.specs.declared.referent.Referent.{Referent}
-use Rattle.pst_scope.specs.declared.referent.Referent.TheVariants.{Declared}
-use Rattle.pst_scope.specs.Declarations.{in_body}
-use Rattle.pst_scope.specs.Lookups.{type_here, stands_for}
-use Rattle.pst_scope.specs.Uses.{arguments_of, behind_statement}
+use Rattle.pst_ast.specs.declared.scope_declaration.Declaration.{Declaration}
+use Rattle.pst_ast.specs.declared.referent.Referent.{Referent}
+use Rattle.pst_ast.specs.declared.referent.Referent.TheVariants.{Declared}
+use Rattle.pst_ast.specs.Declarations.{in_body}
+use Rattle.pst_ast.specs.Lookups.{type_here, stands_for}
+use Rattle.pst_ast.specs.Uses.{arguments_of, behind_statement}
 use Rattle.pst_type_rules.specs.Limits.{is_local}
-use Rattle.pst_inherited.specs.Bases.{number_in, function_number}
+use Rattle.pst_tree.specs.Bases.{number_in, function_number}
 use Rattle.pst_terms.specs.Sources.{Sources, declared_in}
 use Rattle.pst_terms.specs.Readings.{Setting, expression_of}
 use Rattle.pst_elab_rules.specs.Spans.{plain_span}

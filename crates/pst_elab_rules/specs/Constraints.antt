@@ -7,8 +7,8 @@ use Rattle.pst_ast.specs.ConstraintTree.{ConstraintTree, ConstraintOne, Constrai
 use Rattle.pst_expr.specs.declared.tree.UnaryOp.TheVariants.{Not}
 use Rattle.pst_expr.specs.declared.tree.BinaryOp.TheVariants.{NotEqual, Implies}
 use Rattle.pst_model.specs.ConstraintTree.{SlotTree}
-use Rattle.pst_scope.specs.Paths.{is_array, read_path}
-use Rattle.pst_scope.specs.Uses.{with_inner, plain_part, next_expr}
+use Rattle.pst_ast.specs.Paths.{is_array, read_path}
+use Rattle.pst_ast.specs.Uses.{with_inner, plain_part, next_expr}
 use Rattle.pst_terms.specs.Sources.{Sources, declared_in}
 use Rattle.pst_terms.specs.Fields.{counted}
 use Rattle.pst_terms.specs.Terms.{Term, Prefix, Infix}

@@ -6,12 +6,12 @@ use Rattle.pst_ast.specs.declared.instance.Instance.{Instance}
 use Rattle.pst_ast.specs.DeclarationTree.{UnitTree}
 use Rattle.pst_model.specs.Limits.{most_instances}
 use Rattle.pst_model.specs.ModelTree.{ModelTree}
-use Rattle.pst_scope.specs.declared.declaration.Declaration.{Declaration}
-use Rattle.pst_scope.specs.Breaches.{IsLeast, IsNone}
-use Rattle.pst_scope.specs.Declarations.{declarations}
-use Rattle.pst_scope.specs.Sorts.{is_action}
-use Rattle.pst_scope.specs.Lookups.{declared_at, is_text}
-use Rattle.pst_scope.specs.NameRules.{NameBreach}
+use Rattle.pst_ast.specs.declared.scope_declaration.Declaration.{Declaration}
+use Rattle.pst_ast.specs.Breaches.{IsLeast, IsNone}
+use Rattle.pst_ast.specs.Declarations.{declarations}
+use Rattle.pst_ast.specs.Sorts.{is_action}
+use Rattle.pst_ast.specs.Lookups.{declared_at, is_text}
+use Rattle.pst_ast.specs.NameRules.{NameBreach}
 use Rattle.pst_type_rules.specs.Members.{those_that}
 use Rattle.pst_type_rules.specs.TypeRules.{TypeBreach}
 use Rattle.pst_tree.specs.Instances.{AreInstances}

@@ -6,7 +6,7 @@ use Rattle.pst_expr.specs.Spans.{IsInSpan}
 use Rattle.pst_expr.specs.declared.tree.UnaryOp.TheVariants.{Not}
 use Rattle.pst_expr.specs.declared.tree.BinaryOp.TheVariants.{Implies}
 use Rattle.pst_model.specs.ConstraintTree.{SlotTree}
-use Rattle.pst_constants.specs.Domains.{ranges_of}
+use Rattle.pst_type_rules.specs.Domains.{ranges_of}
 use Rattle.pst_terms.specs.Terms.{Term, Prefix, Infix, Reading, term_of, ranges_term}
 use Rattle.pst_terms.specs.Values.{term_value}
 use Rattle.pst_elab_rules.specs.Constraints.{pairs, implied, for_each}

@@ -6,8 +6,8 @@ use Rattle.pst_ast.specs.ExpressionTree.{ExprTree, RangesTree, RangeTree, RangeS
 use Rattle.pst_ast.specs.SharedTree.{WidthTree, MakeWidth, PlainTree, PlainInt, PlainBit, PlainBool}
 use Rattle.pst_ast.specs.DeclarationTree.{UnitTree}
 use Rattle.pst_expr.specs.declared.ranges.Span.{Span}
-use Rattle.pst_scope.specs.Sorts.{same_place}
-use Rattle.pst_constants.specs.Domains.{span, signed_span, unsigned_span, ranges_of, IsDomainOf}
+use Rattle.pst_ast.specs.Sorts.{same_place}
+use Rattle.pst_type_rules.specs.Domains.{span, signed_span, unsigned_span, ranges_of, IsDomainOf}
 use Rattle.pst_type_rules.specs.Sites.{DeclaredField}
 use Rattle.pst_terms.specs.Sources.{Sources, value_of, amount_of}
 use Rattle.std.specs.Prelude.{if◌then◌else◌}

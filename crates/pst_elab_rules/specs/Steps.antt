@@ -13,18 +13,18 @@ use Rattle.pst_model.specs.declared.activity.Join.TheVariants.{Fixed, Choose}
 use Rattle.pst_model.specs.ConstraintTree.{ConstraintTree}
 use Rattle.pst_model.specs.ActivityTree.{StepTree, Traverse, Sequence, Parallel, Schedule, Joined, Select, Repeat, If, Match, StepRow, NoSteps, MoreSteps, NoBranches, MoreBranches, NoArms, MoreArms, MaybeStep, NoStep, SomeStep}
 use Rattle.pst_model.specs.ActivityTree as step
-use Rattle.pst_scope.specs.declared.declaration.Declaration.{Declaration}
-use Rattle.pst_scope.specs.declared.referent.Owner.{Owner}
-use Rattle.pst_scope.specs.declared.referent.Owner.TheVariants.{OfAction}
-use Rattle.pst_scope.specs.declared.referent.Referent.{Referent}
-use Rattle.pst_scope.specs.declared.referent.Referent.TheVariants.{Declared}
-use Rattle.pst_scope.specs.declared.referent.Traversal.{Traversal}
-use Rattle.pst_scope.specs.declared.referent.Traversal.TheVariants.{ByType}
-use Rattle.pst_scope.specs.Declarations.{names_of}
-use Rattle.pst_scope.specs.Sorts.{is_handle, same_name}
-use Rattle.pst_scope.specs.Lookups.{traversed, value_named}
-use Rattle.pst_scope.specs.Uses.{by_handle, label_of, is_branch}
-use Rattle.pst_inherited.specs.Bases.{action_number, handle_number}
+use Rattle.pst_ast.specs.declared.scope_declaration.Declaration.{Declaration}
+use Rattle.pst_ast.specs.declared.referent.Owner.{Owner}
+use Rattle.pst_ast.specs.declared.referent.Owner.TheVariants.{OfAction}
+use Rattle.pst_ast.specs.declared.referent.Referent.{Referent}
+use Rattle.pst_ast.specs.declared.referent.Referent.TheVariants.{Declared}
+use Rattle.pst_ast.specs.declared.referent.Traversal.{Traversal}
+use Rattle.pst_ast.specs.declared.referent.Traversal.TheVariants.{ByType}
+use Rattle.pst_ast.specs.Declarations.{names_of}
+use Rattle.pst_ast.specs.Sorts.{is_handle, same_name}
+use Rattle.pst_ast.specs.Lookups.{traversed, value_named}
+use Rattle.pst_ast.specs.Uses.{by_handle, label_of, is_branch}
+use Rattle.pst_tree.specs.Bases.{action_number, handle_number}
 use Rattle.pst_terms.specs.Sources.{Sources, declared_in, amount_of}
 use Rattle.pst_terms.specs.Slots.{constraint_of}
 use Rattle.pst_terms.specs.Readings.{Setting, AtLevel, expression_of}

@@ -5,10 +5,10 @@ use Rattle.std.specs.Option.{option_map, option_and_then}
 use Rattle.pst_ast.specs.declared.activity.EndNode.{EndNode}
 use Rattle.pst_ast.specs.ActivityTree.{BindTree, MakeBind, StatementTree, StatementEmpty, StatementLabeled, StatementPlain, CoreTree, CoreDo, CoreHandle, CoreSequence, CoreTogether, CoreSelect, CoreRepeat, CoreIf, CoreIfElse, CoreMatch, CoreBind, BranchTree, MakeBranch, ArmTree, MakeArm, StatementRow, NoStatementRow, MoreStatementRow, BranchRow, NoBranchRow, MoreBranchRow, ArmRow, NoArmRow, MoreArmRow}
 use Rattle.pst_model.specs.declared.activity.Tie.{Tie}
-use Rattle.pst_scope.specs.declared.declaration.Declaration.{Declaration}
-use Rattle.pst_scope.specs.Lookups.{member_of, type_of}
-use Rattle.pst_scope.specs.Uses.{other_ends}
-use Rattle.pst_inherited.specs.Bases.{reference_number}
+use Rattle.pst_ast.specs.declared.scope_declaration.Declaration.{Declaration}
+use Rattle.pst_ast.specs.Lookups.{member_of, type_of}
+use Rattle.pst_ast.specs.Uses.{other_ends}
+use Rattle.pst_tree.specs.Bases.{reference_number}
 use Rattle.pst_terms.specs.Sources.{Sources, declared_in}
 use Rattle.pst_terms.specs.Readings.{Setting}
 use Rattle.pst_elab_rules.specs.Steps.{or_zero, handle_named, handle_of}

@@ -16,7 +16,7 @@ use Rattle.pst_model.specs.declared.model.Part.{Part}
 use Rattle.pst_model.specs.ConstraintTree.{ConstraintTree, SlotTree, Own, Index, Outer}
 use Rattle.pst_model.specs.ActivityTree.{StepTree, Traverse, Select, Repeat, Match, NoBranches, MoreBranches, NoArms, MoreArms, NoStep, MakeBranch as Branch, MakeArm as Arm}
 use Rattle.pst_model.specs.ModelTree.{ContentTree, Atomic, Compound, ActionTree, ModelTree}
-use Rattle.pst_constants.specs.Domains.{span}
+use Rattle.pst_type_rules.specs.Domains.{span}
 use Rattle.pst_type_rules.specs.declared.typed.ConstantValue.{ConstantValue}
 use Rattle.pst_type_rules.specs.Tried.{on, name, number, component_with}
 use Rattle.pst_type_rules.specs.TriedRules.{mark, type, path, field, action, one_range}

@@ -20,13 +20,13 @@ use Rattle.pst_model.specs.ConstraintTree.{ConstraintTree, Own, Object, ClaimId,
 use Rattle.pst_model.specs.ActivityTree.{StepTree, Traverse, Joined, StepRow, NoSteps, MoreSteps}
 use Rattle.pst_model.specs.BodyTree as body
 use Rattle.pst_model.specs.ModelTree.{Atomic, Compound, ModelTree}
-use Rattle.pst_constants.specs.Domains.{span, signed_span}
+use Rattle.pst_type_rules.specs.Domains.{span, signed_span}
 use Rattle.pst_type_rules.specs.declared.typed.ConstantValue.{ConstantValue}
 use Rattle.pst_type_rules.specs.Tried.{on, name, number}
 use Rattle.pst_type_rules.specs.TriedRules.{mark, type, alone, path, behind_dot, field, action, traverse}
 use Rattle.pst_type_rules.specs.TriedMore.{activity, handle}
 use Rattle.pst_tree.specs.Tried.{id, component, unit}
-use Rattle.pst_inherited.specs.Tried.{an_action, base_named}
+use Rattle.pst_tree.specs.InheritedTried.{an_action, base_named}
 use Rattle.pst_bind.specs.Tried.{pool, bind, all, output, input, lock}
 use Rattle.pst_elab_rules.specs.Model.{model_by, sources}
 use Rattle.pst_elab_rules.specs.TriedRows.{constant, bits, of_two, named, plain, item, constraint, traversal, do_it, expression, part, a_field, simple, activity_of, root_alone, sixteen}

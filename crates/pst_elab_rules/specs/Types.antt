@@ -20,19 +20,19 @@ use Rattle.pst_model.specs.declared.object.ObjectKind.{ObjectKind}
 use Rattle.pst_model.specs.declared.object.ObjectKind.TheVariants as kind
 use Rattle.pst_model.specs.ConstraintTree.{ConstraintTree}
 use Rattle.pst_model.specs.ModelTree.{ContentTree, Atomic, Compound, ActionTree as ActionModel, ObjectTree as ObjectModel, FunctionTree as FunctionModel}
-use Rattle.pst_scope.specs.declared.declaration.Declaration.{Declaration}
-use Rattle.pst_scope.specs.declared.declaration.Sort.{Sort}
-use Rattle.pst_scope.specs.declared.declaration.Sort.TheVariants as sort
-use Rattle.pst_scope.specs.declared.referent.Owner.{Owner}
-use Rattle.pst_scope.specs.declared.referent.Owner.TheVariants.{OfAction, OfObject}
-use Rattle.pst_scope.specs.Declarations.{names_of}
-use Rattle.pst_scope.specs.Sorts.{is_action, is_object, same_place}
-use Rattle.pst_scope.specs.Lookups.{declared_at, type_of}
-use Rattle.pst_scope.specs.Uses.{environment}
+use Rattle.pst_ast.specs.declared.scope_declaration.Declaration.{Declaration}
+use Rattle.pst_ast.specs.declared.scope_declaration.Sort.{Sort}
+use Rattle.pst_ast.specs.declared.scope_declaration.Sort.TheVariants as sort
+use Rattle.pst_ast.specs.declared.referent.Owner.{Owner}
+use Rattle.pst_ast.specs.declared.referent.Owner.TheVariants.{OfAction, OfObject}
+use Rattle.pst_ast.specs.Declarations.{names_of}
+use Rattle.pst_ast.specs.Sorts.{is_action, is_object, same_place}
+use Rattle.pst_ast.specs.Lookups.{declared_at, type_of}
+use Rattle.pst_ast.specs.Uses.{environment}
 use Rattle.pst_type_rules.specs.Members.{those_that}
 use Rattle.pst_type_rules.specs.Sites.{DeclaredFunction, items_of, actions, action_at, functions, fields}
-use Rattle.pst_inherited.specs.Bases.{with_bases, fields_of, references_of, claims_of, handles_of, action_number, object_number}
-use Rattle.pst_inherited.specs.Contents.{Content, Activity, Body, content_of}
+use Rattle.pst_tree.specs.Bases.{with_bases, fields_of, references_of, claims_of, handles_of, action_number, object_number}
+use Rattle.pst_tree.specs.Contents.{Content, Activity, Body, content_of}
 use Rattle.pst_terms.specs.Sources.{Sources, declared_in}
 use Rattle.pst_terms.specs.Fields.{counted, size_of}
 use Rattle.pst_terms.specs.Slots.{constraint_of}

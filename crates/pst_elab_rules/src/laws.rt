@@ -9,7 +9,7 @@ pub fn models_are_one()
     ensures { ModelsAreOne }
 {
     pst_type_rules::constants_are_one();
-    pst_constants::types_have_one_domain();
+    pst_type_rules::types_have_one_domain();
     pst_tree::instances_are_one();
 }
 

@@ -11,10 +11,10 @@ use Rattle.pst_ast.specs.declared.leaf.Name.{Name}
 use Rattle.pst_ast.specs.DeclarationTree.{UnitTree, EnumTree, MakeEnum, EnumItemTree, MakeEnumItem, EnumValueTree}
 use Rattle.pst_ast.specs.DeclarationView.{view_enum}
 use Rattle.pst_expr.specs.Spans.{IsInSpan}
-use Rattle.pst_scope.specs.declared.referent.Finding.{Finding}
-use Rattle.pst_scope.specs.Declarations.{next_item}
-use Rattle.pst_scope.specs.NameRules.{finding}
-use Rattle.pst_constants.specs.Enums.{DeclaredEnum, DeclaredItem, enum_of, enums, expr_in, items_behind}
+use Rattle.pst_ast.specs.declared.referent.Finding.{Finding}
+use Rattle.pst_ast.specs.Declarations.{next_item}
+use Rattle.pst_ast.specs.NameRules.{finding}
+use Rattle.pst_type_rules.specs.Enums.{DeclaredEnum, DeclaredItem, enum_of, enums, expr_in, items_behind}
 use Rattle.pst_type_rules.specs.Limits.{enum_values}
 use Rattle.pst_type_rules.specs.Places.{expr_place}
 use Rattle.pst_type_rules.specs.TypeRules.{EnumBreaks, ItemOutside, SameValue, item_place}

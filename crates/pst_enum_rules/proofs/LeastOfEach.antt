@@ -2,7 +2,7 @@
 use Rattle.std.proofs.Common.{◌≡◌, ◌⊎◌, inl, inr, ⊎_elim, List, [], ◌∷◌, Option, sym, subst}
 use Rattle.std.specs.Prelude.{None, Contains}
 use Rattle.pst_base.specs.Laws.{BeforeGoesOn}
-use Rattle.pst_scope.specs.declared.referent.Finding.{Finding}
+use Rattle.pst_ast.specs.declared.referent.Finding.{Finding}
 use Rattle.pst_name_rules.specs.Earlier.{earlier}
 use Rattle.pst_name_rules.specs.Leasts.{IsLeastOf, least_at}
 use Rattle.pst_name_rules.proofs.Leasts.{least_of_both, told}

@@ -4,7 +4,7 @@ use Rattle.std.specs.Prelude.{ℤ, Some, None}
 use Rattle.std.specs.Option.{option_map_or}
 use Rattle.pst_base.specs.declared.position.Place.{Place}
 use Rattle.pst_ast.specs.DeclarationTree.{EnumItemTree}
-use Rattle.pst_scope.specs.declared.referent.Finding.{Finding}
+use Rattle.pst_ast.specs.declared.referent.Finding.{Finding}
 use Rattle.pst_name_rules.specs.Earlier.{earlier}
 use Rattle.pst_enum_rules.specs.Enums.{is_value, least_of_items, name_place, seen_finding, tree_finding}
 

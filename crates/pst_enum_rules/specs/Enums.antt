@@ -4,10 +4,10 @@ use Rattle.std.specs.Option.{option_map_or}
 use Rattle.std.specs.Ordering.{int_eq}
 use Rattle.pst_base.specs.declared.position.Place.{Place}
 use Rattle.pst_ast.specs.DeclarationTree.{EnumTree, MakeEnum, EnumItemTree, MakeEnumItem, EnumValueTree}
-use Rattle.pst_scope.specs.declared.referent.Finding.{Finding}
-use Rattle.pst_scope.specs.Declarations.{next_item}
-use Rattle.pst_scope.specs.NameRules.{finding}
-use Rattle.pst_constants.specs.Enums.{expr_in}
+use Rattle.pst_ast.specs.declared.referent.Finding.{Finding}
+use Rattle.pst_ast.specs.Declarations.{next_item}
+use Rattle.pst_ast.specs.NameRules.{finding}
+use Rattle.pst_type_rules.specs.Enums.{expr_in}
 use Rattle.pst_type_rules.specs.Places.{expr_place}
 use Rattle.pst_name_rules.specs.Earlier.{earlier}
 

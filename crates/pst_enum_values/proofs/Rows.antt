@@ -8,9 +8,9 @@ use Rattle.std.proofs.lemmas.List.{take_more}
 use Rattle.pst_base.specs.declared.position.Place.{Place}
 use Rattle.pst_ast.specs.declared.leaf.Name.{Name}
 use Rattle.pst_ast.specs.DeclarationTree.{EnumTree, MakeEnum, EnumItemTree, MakeEnumItem}
-use Rattle.pst_scope.specs.Declarations.{next_item}
-use Rattle.pst_scope.specs.Sorts.{same_place}
-use Rattle.pst_constants.specs.Enums.{DeclaredItem, enum_of, items_behind}
+use Rattle.pst_ast.specs.Declarations.{next_item}
+use Rattle.pst_ast.specs.Sorts.{same_place}
+use Rattle.pst_type_rules.specs.Enums.{DeclaredItem, enum_of, items_behind}
 use Rattle.pst_places.specs.Numbers.{number_from, number_in}
 use Rattle.pst_site_lists.specs.declared.site.EnumSite.{EnumSite}
 use Rattle.pst_evaluate.specs.Kept.{Kept, known_in}

@@ -6,8 +6,8 @@ use Rattle.std.specs.Option.{option_to_list}
 use Rattle.pst_base.specs.declared.position.Place.{Place}
 use Rattle.pst_ast.specs.DeclarationTree.{EnumTree, MakeEnum, EnumItemTree, MakeEnumItem}
 use Rattle.pst_expr.specs.declared.ranges.Span.{Span}
-use Rattle.pst_scope.specs.Declarations.{next_item}
-use Rattle.pst_constants.specs.Enums.{DeclaredEnum}
+use Rattle.pst_ast.specs.Declarations.{next_item}
+use Rattle.pst_type_rules.specs.Enums.{DeclaredEnum}
 
 -- ---- the places of the names of items
 

@@ -2,7 +2,7 @@
 ghost use Rattle.std.specs.Prelude.{◌≡◌, ◌++◌, ◌&&◌, IfOk, OnOk, is_some, map};
 ghost use Rattle.std.specs.Option.{option_to_list};
 ghost use Rattle.pst_ast.specs.DeclarationView.{view_enum, view_next_enum_item};
-ghost use Rattle.pst_scope.specs.Declarations.{next_item};
+ghost use Rattle.pst_ast.specs.Declarations.{next_item};
 ghost use Rattle.pst_evaluate.specs.Kept.{known_in};
 ghost use Rattle.pst_enum_values.specs.Gathered.{are_known, place_of_item, places_in, values_of};
 

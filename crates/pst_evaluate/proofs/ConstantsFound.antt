@@ -5,11 +5,11 @@ use Rattle.std.specs.List.{fold}
 use Rattle.pst_base.specs.declared.position.Place.{Place}
 use Rattle.pst_ast.specs.ExpressionTree.{ExprTree}
 use Rattle.pst_ast.specs.DeclarationTree.{UnitTree}
-use Rattle.pst_scope.specs.declared.declaration.Declaration.{Declaration}
-use Rattle.pst_scope.specs.declared.environment.Environment.{Environment}
-use Rattle.pst_scope.specs.Declarations.{declarations}
-use Rattle.pst_scope.specs.Uses.{Use, expr_uses}
-use Rattle.pst_constants.specs.Constants.{IsConstant, HasValue, item_of_use, value_by}
+use Rattle.pst_ast.specs.declared.scope_declaration.Declaration.{Declaration}
+use Rattle.pst_ast.specs.declared.environment.Environment.{Environment}
+use Rattle.pst_ast.specs.Declarations.{declarations}
+use Rattle.pst_ast.specs.Uses.{Use, expr_uses}
+use Rattle.pst_type_rules.specs.Constants.{IsConstant, HasValue, item_of_use, value_by}
 use Rattle.pst_evaluate.specs.Kept.{constant_by}
 use Rattle.pst_evaluate.specs.Laws.{ConstantsAreFound}
 use Rattle.pst_named_items.specs.Named.{Named, named, are_items}

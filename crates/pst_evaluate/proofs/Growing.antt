@@ -11,10 +11,10 @@ use Rattle.pst_num.specs.Bits.{bits_and, bits_or, bits_xor}
 use Rattle.pst_expr.specs.declared.tree.BinaryOp.{BinaryOp}
 use Rattle.pst_expr.specs.declared.tree.BinaryOp.TheVariants.{Mul, Div, Rem, Add, Sub, Shl, Shr, Less, LessOrEqual, Greater, GreaterOrEqual, Equal, NotEqual, BitAnd, BitXor, BitOr, And, Or, Implies}
 use Rattle.pst_expr.specs.Value.{unary_value, binary_value, both, by_left, is_false, truth_of, number_of}
-use Rattle.pst_scope.specs.declared.declaration.Declaration.{Declaration}
-use Rattle.pst_scope.specs.declared.environment.Environment.{Environment}
-use Rattle.pst_constants.specs.Constants.{item_of_path, value_by}
-use Rattle.pst_constants.specs.Values.{unary_of, binary_of, value_under, unary_under, primary_under, in_ranges, in_one, or_in_rest, in_next}
+use Rattle.pst_ast.specs.declared.scope_declaration.Declaration.{Declaration}
+use Rattle.pst_ast.specs.declared.environment.Environment.{Environment}
+use Rattle.pst_type_rules.specs.Constants.{item_of_path, value_by}
+use Rattle.pst_type_rules.specs.Values.{unary_of, binary_of, value_under, unary_under, primary_under, in_ranges, in_one, or_in_rest, in_next}
 
 -- a value stays
 abbrev pub Grows : Option ℤ → Option ℤ → Type 0

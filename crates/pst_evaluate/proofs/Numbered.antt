@@ -4,8 +4,8 @@ use Rattle.std.specs.Prelude.{map, Option, Some, None, slice_get, if◌then◌el
 use Rattle.std.specs.List.{find}
 use Rattle.std.specs.Option.{unwrap_or}
 use Rattle.pst_base.specs.declared.position.Place.{Place}
-use Rattle.pst_scope.specs.Sorts.{same_place}
-use Rattle.pst_constants.specs.Enums.{DeclaredItem}
+use Rattle.pst_ast.specs.Sorts.{same_place}
+use Rattle.pst_type_rules.specs.Enums.{DeclaredItem}
 use Rattle.pst_places.specs.Numbers.{number_from}
 use Rattle.pst_evaluate.specs.declared.item.ListedItem.{ListedItem}
 use Rattle.pst_evaluate.specs.Listed.{view_each, view_listed}

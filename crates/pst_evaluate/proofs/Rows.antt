@@ -7,7 +7,7 @@ use Rattle.pst_ast.specs.ExpressionTree.{PathTree, RangeTree}
 use Rattle.pst_ast.specs.ExpressionView.{view_range, view_ranges, view_next_range_row}
 use Rattle.pst_expr.specs.declared.tree.BinaryOp.TheVariants.{Or}
 use Rattle.pst_expr.specs.Value.{binary_value}
-use Rattle.pst_constants.specs.Values.{in_ranges, in_one, or_in_rest}
+use Rattle.pst_type_rules.specs.Values.{in_ranges, in_one, or_in_rest}
 use Rattle.pst_evaluate.specs.Known.{or_in_each}
 use Rattle.pst_evaluate.specs.Listed.{as_range}
 

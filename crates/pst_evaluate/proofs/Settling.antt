@@ -10,13 +10,13 @@ use Rattle.pst_ast.specs.ExpressionTree.{ExprTree}
 use Rattle.pst_ast.specs.DeclarationTree.{UnitTree}
 use Rattle.pst_ast.specs.DeclarationView.{view_unit}
 use Rattle.pst_num.specs.Arithmetic.{sum_of}
-use Rattle.pst_scope.specs.declared.declaration.Declaration.{Declaration}
-use Rattle.pst_scope.specs.declared.referent.Owner.TheVariants.{Nobody}
-use Rattle.pst_scope.specs.Sorts.{same_place}
-use Rattle.pst_scope.specs.Uses.{environment}
-use Rattle.pst_constants.specs.Constants.{IsItemValue, First, Next, Given, value_by}
-use Rattle.pst_constants.specs.Enums.{DeclaredItem, item_at}
-use Rattle.pst_constants.proofs.OneValue.{item_value_is_one}
+use Rattle.pst_ast.specs.declared.scope_declaration.Declaration.{Declaration}
+use Rattle.pst_ast.specs.declared.referent.Owner.TheVariants.{Nobody}
+use Rattle.pst_ast.specs.Sorts.{same_place}
+use Rattle.pst_ast.specs.Uses.{environment}
+use Rattle.pst_type_rules.specs.Constants.{IsItemValue, First, Next, Given, value_by}
+use Rattle.pst_type_rules.specs.Enums.{DeclaredItem, item_at}
+use Rattle.pst_type_rules.proofs.OneValue.{item_value_is_one}
 use Rattle.pst_places.specs.Numbers.{number_in, number_from}
 use Rattle.pst_evaluate.specs.declared.item.ListedItem.{ListedItem}
 use Rattle.pst_evaluate.specs.declared.sources.ItemSources.{ItemSources}

@@ -2,10 +2,10 @@
 use Rattle.std.specs.Prelude.{ℕ, ℤ, List, Option, None, if◌then◌else◌}
 use Rattle.pst_base.specs.declared.position.Place.{Place}
 use Rattle.pst_ast.specs.ExpressionTree.{ExprTree}
-use Rattle.pst_scope.specs.declared.declaration.Declaration.{Declaration}
-use Rattle.pst_scope.specs.declared.environment.Environment.{Environment}
-use Rattle.pst_scope.specs.Uses.{expr_uses}
-use Rattle.pst_constants.specs.Constants.{value_by}
+use Rattle.pst_ast.specs.declared.scope_declaration.Declaration.{Declaration}
+use Rattle.pst_ast.specs.declared.environment.Environment.{Environment}
+use Rattle.pst_ast.specs.Uses.{expr_uses}
+use Rattle.pst_type_rules.specs.Constants.{value_by}
 use Rattle.pst_evaluate.specs.Known.{known_by}
 use Rattle.pst_named_items.specs.Named.{are_items}
 

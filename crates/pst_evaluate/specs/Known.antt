@@ -7,13 +7,13 @@ use Rattle.pst_ast.specs.ExpressionTree.{ExprTree, PathTree, RangeTree}
 use Rattle.pst_num.specs.Arithmetic.{sum_of}
 use Rattle.pst_expr.specs.declared.tree.BinaryOp.TheVariants.{Or}
 use Rattle.pst_expr.specs.Value.{binary_value}
-use Rattle.pst_scope.specs.declared.declaration.Declaration.{Declaration}
-use Rattle.pst_scope.specs.declared.environment.Environment.{Environment}
-use Rattle.pst_scope.specs.declared.referent.Owner.TheVariants.{Nobody}
-use Rattle.pst_scope.specs.Uses.{environment}
-use Rattle.pst_constants.specs.Enums.{DeclaredItem}
-use Rattle.pst_constants.specs.Constants.{item_of_path, value_by}
-use Rattle.pst_constants.specs.Values.{in_one}
+use Rattle.pst_ast.specs.declared.scope_declaration.Declaration.{Declaration}
+use Rattle.pst_ast.specs.declared.environment.Environment.{Environment}
+use Rattle.pst_ast.specs.declared.referent.Owner.TheVariants.{Nobody}
+use Rattle.pst_ast.specs.Uses.{environment}
+use Rattle.pst_type_rules.specs.Enums.{DeclaredItem}
+use Rattle.pst_type_rules.specs.Constants.{item_of_path, value_by}
+use Rattle.pst_type_rules.specs.Values.{in_one}
 use Rattle.pst_places.specs.Numbers.{number_in}
 use Rattle.pst_evaluate.specs.declared.knowledge.Knowledge.{Knowledge}
 

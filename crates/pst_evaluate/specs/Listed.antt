@@ -4,7 +4,7 @@ use Rattle.std.specs.Option.{option_map}
 use Rattle.pst_ast.specs.ExpressionTree.{RangeTree}
 use Rattle.pst_ast.specs.ExpressionView.{view_expr, view_range}
 use Rattle.pst_ast.specs.declared.expression.NextRange.{NextRange}
-use Rattle.pst_constants.specs.Enums.{DeclaredItem, DeclaredEnum}
+use Rattle.pst_type_rules.specs.Enums.{DeclaredItem, DeclaredEnum}
 use Rattle.pst_evaluate.specs.declared.item.ListedItem.{ListedItem}
 
 abbrev pub view_listed : ListedItem → DeclaredItem

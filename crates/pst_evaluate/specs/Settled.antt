@@ -4,9 +4,9 @@ use Rattle.std.specs.List.{flat_map}
 use Rattle.pst_base.specs.declared.position.Place.{Place}
 use Rattle.pst_ast.specs.DeclarationTree.{UnitTree}
 use Rattle.pst_ast.specs.DeclarationView.{view_unit}
-use Rattle.pst_scope.specs.Declarations.{declarations}
-use Rattle.pst_constants.specs.Constants.{IsItemValue}
-use Rattle.pst_constants.specs.Enums.{enums}
+use Rattle.pst_ast.specs.Declarations.{declarations}
+use Rattle.pst_type_rules.specs.Constants.{IsItemValue}
+use Rattle.pst_type_rules.specs.Enums.{enums}
 use Rattle.pst_evaluate.specs.declared.item.ListedItem.{ListedItem}
 use Rattle.pst_evaluate.specs.declared.sources.ItemSources.{ItemSources}
 use Rattle.pst_evaluate.specs.Known.{item_value, known_by}

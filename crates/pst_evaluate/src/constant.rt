@@ -1,7 +1,7 @@
 //! The values of constant expressions.
 ghost use Rattle.std.specs.Prelude.{◌≡◌, IfOk};
 ghost use Rattle.pst_ast.specs.ExpressionView.{view_expr};
-ghost use Rattle.pst_constants.specs.Constants.{value_by};
+ghost use Rattle.pst_type_rules.specs.Constants.{value_by};
 ghost use Rattle.pst_evaluate.specs.Evaluated.{value_in};
 ghost use Rattle.pst_evaluate.specs.Kept.{constant_by, known_in};
 
@@ -9,11 +9,10 @@ use crate::evaluated::Evaluated;
 use crate::expression::value_of;
 use crate::items::ItemValues;
 use crate::knowledge::Knowledge;
-use pst_ast::ExprNode;
+use pst_ast::{Environment, ExprNode};
 use pst_base::{Names, NoMemory};
 use pst_index::Index;
 use pst_named_items::items_in;
-use pst_scope::Environment;
 use std::alloc::Global;
 
 // A value or none.

@@ -1,7 +1,7 @@
 //! The values of expressions.
 ghost use Rattle.std.specs.Prelude.{◌≡◌, IfOk, map};
 ghost use Rattle.pst_ast.specs.ExpressionView.{view_expr, view_unary, view_primary, view_path, view_ranges, view_range};
-ghost use Rattle.pst_constants.specs.Values.{value_under, unary_under, primary_under, in_ranges, in_one};
+ghost use Rattle.pst_type_rules.specs.Values.{value_under, unary_under, primary_under, in_ranges, in_one};
 ghost use Rattle.pst_evaluate.specs.Evaluated.{value_in};
 ghost use Rattle.pst_evaluate.specs.Known.{path_known, or_in_each};
 ghost use Rattle.pst_evaluate.specs.Listed.{as_range};
@@ -9,11 +9,12 @@ ghost use Rattle.pst_evaluate.specs.Listed.{as_range};
 use crate::evaluated::{Evaluated, evaluated_binary, evaluated_unary};
 use crate::knowledge::Knowledge;
 use crate::operators::{binary_op, unary_op};
-use pst_ast::{ExprNode, NextRange, PathNode, PrimaryNode, RangeNode, RangesNode, UnaryNode};
+use pst_ast::{
+    Environment, ExprNode, NextRange, PathNode, PrimaryNode, RangeNode, RangesNode, UnaryNode,
+};
 use pst_base::NoMemory;
 use pst_expr::BinaryOp;
 use pst_named_items::item_of_path;
-use pst_scope::Environment;
 
 // The value of a path: that of the item that it names.
 fn value_of_path(

@@ -9,10 +9,9 @@ ghost use Rattle.pst_evaluate.specs.Listed.{view_listed};
 use crate::evaluated::{Evaluated, evaluated_binary};
 use crate::expression::value_of;
 use crate::knowledge::Knowledge;
-use pst_ast::{ExprNode, Name};
+use pst_ast::{Environment, ExprNode, Inner, Name, Owner};
 use pst_base::{NoMemory, Place};
 use pst_expr::BinaryOp;
-use pst_scope::{Environment, Inner, Owner};
 
 /// An enum item of the sources.
 #[derive(Clone, Copy)]

@@ -1,7 +1,7 @@
 //! The values of the enum items of sources.
 ghost use Rattle.std.specs.Prelude.{◌≡◌, ℕ, None, slice_index_or, IfOk, OnOk, map};
 ghost use Rattle.pst_ast.specs.DeclarationView.{view_unit};
-ghost use Rattle.pst_scope.specs.Declarations.{declarations};
+ghost use Rattle.pst_ast.specs.Declarations.{declarations};
 ghost use Rattle.pst_evaluate.specs.Known.{known_by};
 ghost use Rattle.pst_evaluate.specs.Kept.{known_in};
 ghost use Rattle.pst_evaluate.specs.Settled.{AreDerived, AreItemValues, AreListed};

@@ -2,8 +2,8 @@
 ghost use Rattle.std.specs.Prelude.{◌≡◌, ◌++◌, ◌∷◌, [], Some, None, IfOk, OnOk, map};
 ghost use Rattle.std.specs.List.{flat_map};
 ghost use Rattle.pst_ast.specs.DeclarationView.{view_component_part, view_enum, view_enum_item, view_item, view_next_enum_item, view_unit};
-ghost use Rattle.pst_scope.specs.Declarations.{next_item};
-ghost use Rattle.pst_constants.specs.Enums;
+ghost use Rattle.pst_ast.specs.Declarations.{next_item};
+ghost use Rattle.pst_type_rules.specs.Enums;
 ghost use Rattle.pst_evaluate.specs.Listed.{items_of, view_each};
 
 use crate::item::ListedItem;

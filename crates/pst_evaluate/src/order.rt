@@ -1,10 +1,10 @@
 //! An order in which enum items get their values.
 use crate::item::ListedItem;
 use crate::sources::ItemSources;
+use pst_ast::{Environment, Inner, Owner};
 use pst_base::NoMemory;
 use pst_loops::in_order_of_end;
 use pst_named_items::{items_in, number_of};
-use pst_scope::{Environment, Inner, Owner};
 
 // The numbers of the items that an item names, or of the one before it.
 fn needed(sources: &ItemSources, item: &ListedItem) -> Result<Vec<u32>, NoMemory> {

@@ -8,7 +8,7 @@ use Rattle.pst_legal.specs.ValueReading.{Whole, answer_of, with_firsts, read_val
 use Rattle.pst_legal.specs.Constraints.{Holds}
 use Rattle.pst_built.proofs.Values.{IsSameOrder}
 use Rattle.pst_read_legal.specs.Laws.{LegalIsUnrefused}
-use Rattle.pst_whole_ahead.proofs.Ahead.{sources_on}
+use Rattle.pst_read_domains.proofs.Ahead.{sources_on}
 use Rattle.pst_few_places.specs.Fillings.{all_blanks, named}
 use Rattle.pst_few_places.specs.Laws.{FewPlacesRefuse}
 use Rattle.pst_few_places.proofs.Named.{blanks_join, blanks_named, named_at}

@@ -10,11 +10,11 @@ use Rattle.pst_scen.specs.declared.scenario.Scenario.{Scenario}
 use Rattle.pst_legal.specs.Blanks.{Blank, options}
 use Rattle.pst_legal.specs.Reading.{Reading, Wants, Stops, Reads, Reader, then_read, option_at}
 use Rattle.pst_legal.specs.ValueReading.{with_option, read_blanks}
-use Rattle.pst_longer.proofs.Goes.{option_is}
+use Rattle.pst_built.proofs.Goes.{option_is}
 use Rattle.pst_built.proofs.Values.{IsSameOrder}
 use Rattle.std.proofs.lemmas.Bool.{ltb-true}
 use Rattle.pst_read_slots.proofs.Same.{same_then, option_same}
-use Rattle.pst_whole_ahead.proofs.Same.{same_domain}
+use Rattle.pst_read_domains.proofs.Same.{same_domain}
 use Rattle.pst_few_places.specs.Fillings.{AreOptions, filled, named}
 
 -- blanks behind blanks

@@ -9,9 +9,9 @@ use Rattle.pst_ast.specs.declared.expression.RangesNode.{RangesNode}
 use Rattle.pst_ast.specs.SharedTree.{DomainTree, TypeTree, TypePlain, TypeNamed}
 use Rattle.pst_expr.specs.declared.ranges.Span.{Span}
 use Rattle.pst_expr.specs.Spans.{IsInSpan, IsInSpans}
-use Rattle.pst_scope.specs.declared.declaration.Declaration.{Declaration}
-use Rattle.pst_scope.specs.declared.environment.Environment.{Environment}
-use Rattle.pst_constants.specs.Domains.{ranges_of}
+use Rattle.pst_ast.specs.declared.scope_declaration.Declaration.{Declaration}
+use Rattle.pst_ast.specs.declared.environment.Environment.{Environment}
+use Rattle.pst_type_rules.specs.Domains.{ranges_of}
 use Rattle.pst_enum_values.specs.Gathered.{EnumPlaces}
 use Rattle.pst_joined_spans.specs.Joined.{AreJoined, HaveCommon, HaveSame}
 use Rattle.pst_joined_spans.proofs.In.{In, from_any, to_any}

@@ -8,11 +8,11 @@ use Rattle.pst_base.specs.declared.position.Place.{Place}
 use Rattle.pst_ast.specs.DeclarationTree.{EnumTree}
 use Rattle.pst_expr.specs.declared.ranges.Span.{Span}
 use Rattle.pst_expr.specs.Spans.{IsInSpan, IsInSpans}
-use Rattle.pst_scope.specs.Sorts.{same_place}
+use Rattle.pst_ast.specs.Sorts.{same_place}
 use Rattle.pst_places.specs.Numbers.{number_from, number_in}
 use Rattle.pst_site_lists.specs.declared.site.EnumSite.{EnumSite}
 use Rattle.pst_evaluate.specs.Kept.{Kept, known_in}
-use Rattle.pst_constants.specs.Enums.{enum_of}
+use Rattle.pst_type_rules.specs.Enums.{enum_of}
 use Rattle.pst_enum_values.specs.Gathered.{EnumPlaces, enum_places, places_in}
 use Rattle.pst_enum_values.specs.Kept.{enum_in, places_of_site}
 use Rattle.pst_field_domains.proofs.Rows.{places_are}

@@ -6,17 +6,17 @@ use Rattle.std.specs.List.{AllZip}
 use Rattle.pst_base.specs.declared.position.Place.{Place}
 use Rattle.pst_ast.specs.DeclarationTree.{UnitTree}
 use Rattle.pst_expr.specs.declared.ranges.Span.{Span}
-use Rattle.pst_scope.specs.declared.declaration.Declaration.{Declaration}
-use Rattle.pst_scope.specs.Declarations.{declarations}
-use Rattle.pst_constants.specs.Domains.{IsDomainOf}
-use Rattle.pst_constants.specs.Enums.{DeclaredEnum, enums}
+use Rattle.pst_ast.specs.declared.scope_declaration.Declaration.{Declaration}
+use Rattle.pst_ast.specs.Declarations.{declarations}
+use Rattle.pst_type_rules.specs.Domains.{IsDomainOf}
+use Rattle.pst_type_rules.specs.Enums.{DeclaredEnum, enums}
 use Rattle.pst_evaluate.specs.Kept as items
 use Rattle.pst_evaluate.specs.Laws.{ConstantsAreFound}
 use Rattle.pst_evaluate.specs.Settled.{AreItemValues}
 use Rattle.pst_enum_values.specs.Gathered.{EnumPlaces, enum_places}
 use Rattle.pst_enum_values.specs.Kept.{EnumsKept, places_of_site}
 use Rattle.pst_places.specs.Numbers.{number_from, number_in}
-use Rattle.pst_scope.specs.Sorts.{same_place}
+use Rattle.pst_ast.specs.Sorts.{same_place}
 use Rattle.pst_site_lists.specs.declared.site.EnumSite.{EnumSite}
 use Rattle.pst_site_lists.specs.declared.site.FieldSite.{FieldSite}
 use Rattle.pst_site_lists.specs.Sited.{view_enum_site, view_field_site}

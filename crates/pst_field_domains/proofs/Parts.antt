@@ -9,9 +9,9 @@ use Rattle.pst_ast.specs.ExpressionTree.{ExprTree, RangeTree, RangeSingle, Range
 use Rattle.pst_ast.specs.SharedTree.{MakeLow, WidthTree, MakeWidth}
 use Rattle.pst_ast.specs.DeclarationTree.{UnitTree}
 use Rattle.pst_expr.specs.declared.ranges.Span.{Span}
-use Rattle.pst_scope.specs.declared.environment.Environment.{Environment}
-use Rattle.pst_constants.specs.Constants.{IsConstant}
-use Rattle.pst_constants.specs.Domains.{HasWidth, ByCount, ByHighest, IsSpanOf, Single, Between, span}
+use Rattle.pst_ast.specs.declared.environment.Environment.{Environment}
+use Rattle.pst_type_rules.specs.Constants.{IsConstant}
+use Rattle.pst_type_rules.specs.Domains.{HasWidth, ByCount, ByHighest, IsSpanOf, Single, Between, span}
 use Rattle.pst_range_rules.specs.Spans.{between, span_of}
 use Rattle.pst_range_rules.specs.Widths.{is_zero, one_more, width_by}
 

@@ -6,8 +6,8 @@ use Rattle.std.proofs.lemmas.List.{take_more}
 use Rattle.pst_base.specs.declared.position.Place.{Place}
 use Rattle.pst_ast.specs.declared.leaf.Name.{Name}
 use Rattle.pst_ast.specs.DeclarationTree.{EnumTree, MakeEnum, EnumItemTree, MakeEnumItem}
-use Rattle.pst_scope.specs.Declarations.{next_item}
-use Rattle.pst_constants.specs.Enums.{DeclaredItem, enum_of, items_behind}
+use Rattle.pst_ast.specs.Declarations.{next_item}
+use Rattle.pst_type_rules.specs.Enums.{DeclaredItem, enum_of, items_behind}
 use Rattle.pst_enum_values.specs.Gathered.{enum_places, place_of_item, places_in}
 
 behind_are : (component : Option Place) (before : Option Name) (items : List EnumItemTree) → map (λ (i : DeclaredItem). i.name.place) (items_behind component before items) ≡ map place_of_item items

@@ -10,14 +10,14 @@ use Rattle.pst_ast.specs.SharedTree.{WidthTree, PlainTree, PlainInt, PlainBit, P
 use Rattle.pst_ast.specs.DeclarationTree.{UnitTree}
 use Rattle.pst_expr.specs.declared.ranges.Span.{Span}
 use Rattle.pst_expr.specs.Spans.{IsInSpan, IsInSpans}
-use Rattle.pst_scope.specs.declared.declaration.Declaration.{Declaration}
-use Rattle.pst_scope.specs.declared.environment.Environment.{Environment}
-use Rattle.pst_scope.specs.Declarations.{declarations}
-use Rattle.pst_scope.specs.Lookups.{type_named}
-use Rattle.pst_scope.specs.Sorts.{same_place}
-use Rattle.pst_constants.specs.Constants.{IsConstant, IsItemValue}
-use Rattle.pst_constants.specs.Domains.{HasSpan, Int, IntOfWidth, Bit, BitOfWidth, Boolean, signed_span, unsigned_span, span, ranges_of, IsEnumNamed, IsInRanges, IsInType, IsKept, IsSpanOf, OfPlain, OfEnum}
-use Rattle.pst_constants.specs.Enums.{DeclaredItem, DeclaredEnum, enums, enum_at}
+use Rattle.pst_ast.specs.declared.scope_declaration.Declaration.{Declaration}
+use Rattle.pst_ast.specs.declared.environment.Environment.{Environment}
+use Rattle.pst_ast.specs.Declarations.{declarations}
+use Rattle.pst_ast.specs.Lookups.{type_named}
+use Rattle.pst_ast.specs.Sorts.{same_place}
+use Rattle.pst_type_rules.specs.Constants.{IsConstant, IsItemValue}
+use Rattle.pst_type_rules.specs.Domains.{HasSpan, Int, IntOfWidth, Bit, BitOfWidth, Boolean, signed_span, unsigned_span, span, ranges_of, IsEnumNamed, IsInRanges, IsInType, IsKept, IsSpanOf, OfPlain, OfEnum}
+use Rattle.pst_type_rules.specs.Enums.{DeclaredItem, DeclaredEnum, enums, enum_at}
 use Rattle.pst_evaluate.specs.Kept.{constant_by}
 use Rattle.pst_evaluate.specs.Laws.{ConstantsAreFound}
 use Rattle.pst_evaluate.specs.Settled.{AreItemValues}

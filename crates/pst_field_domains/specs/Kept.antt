@@ -4,7 +4,7 @@ use Rattle.pst_base.specs.declared.position.Place.{Place}
 use Rattle.pst_ast.specs.DeclarationTree.{UnitTree}
 use Rattle.pst_expr.specs.declared.ranges.Span.{Span}
 use Rattle.pst_expr.specs.Spans.{IsDomain}
-use Rattle.pst_scope.specs.declared.declaration.Declaration.{Declaration}
+use Rattle.pst_ast.specs.declared.scope_declaration.Declaration.{Declaration}
 use Rattle.pst_evaluate.specs.Kept as items
 use Rattle.pst_enum_values.specs.Gathered.{EnumPlaces}
 use Rattle.pst_enum_values.specs.Kept.{EnumsKept, places_of_site}

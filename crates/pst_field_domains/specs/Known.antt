@@ -10,10 +10,10 @@ use Rattle.pst_ast.specs.declared.expression.RangesNode.{RangesNode}
 use Rattle.pst_ast.specs.SharedTree.{PlainTree, DomainTree, MakeDomain, TypeTree, TypePlain, TypeNamed}
 use Rattle.pst_expr.specs.declared.ranges.Span.{Span}
 use Rattle.pst_expr.specs.Spans.{IsInSpan, IsInSpans}
-use Rattle.pst_scope.specs.declared.declaration.Declaration.{Declaration}
-use Rattle.pst_scope.specs.declared.environment.Environment.{Environment}
-use Rattle.pst_scope.specs.Lookups.{type_named}
-use Rattle.pst_constants.specs.Domains.{ranges_of, span}
+use Rattle.pst_ast.specs.declared.scope_declaration.Declaration.{Declaration}
+use Rattle.pst_ast.specs.declared.environment.Environment.{Environment}
+use Rattle.pst_ast.specs.Lookups.{type_named}
+use Rattle.pst_type_rules.specs.Domains.{ranges_of, span}
 use Rattle.pst_enum_values.specs.Gathered.{EnumPlaces}
 use Rattle.pst_enum_values.specs.Kept.{enum_in}
 use Rattle.pst_joined_spans.specs.Joined.{AreJoined}

@@ -2,17 +2,16 @@
 ghost use Rattle.std.specs.Prelude.{◌≡◌, ℕ, pos, Some, IfOk};
 ghost use Rattle.std.specs.Option.{option_and_then, option_map};
 ghost use Rattle.pst_ast.specs.SharedView.{view_plain, view_width};
-ghost use Rattle.pst_constants.specs.Domains as domain;
+ghost use Rattle.pst_type_rules.specs.Domains as domain;
 ghost use Rattle.pst_range_rules.specs.Facts.{constant_at};
 ghost use Rattle.pst_range_rules.specs.Types as tree;
 ghost use Rattle.pst_range_rules.specs.Widths as widths;
 
 use crate::power::{power_of_two, span_between};
-use pst_ast::{PlainNode, WidthNode};
+use pst_ast::{Environment, PlainNode, WidthNode};
 use pst_base::NoMemory;
 use pst_expr::Span;
 use pst_range_rules::RangeFacts;
-use pst_scope::Environment;
 
 // One more than a number.
 fn one_more(number: Option<i64>) -> Option<i128>

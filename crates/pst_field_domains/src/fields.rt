@@ -6,7 +6,7 @@ ghost use Rattle.pst_ast.specs.DeclarationView.{view_unit};
 ghost use Rattle.pst_evaluate.specs.Kept.{known_in};
 ghost use Rattle.pst_evaluate.specs.Settled.{AreItemValues};
 ghost use Rattle.pst_places.specs.Numbers.{number_in};
-ghost use Rattle.pst_scope.specs.Declarations.{declarations};
+ghost use Rattle.pst_ast.specs.Declarations.{declarations};
 ghost use Rattle.pst_type_rules.specs.Sites.{DeclaredField};
 ghost use Rattle.pst_elab_rules.specs.Spans.{domain_at as domain_of_place};
 ghost use Rattle.pst_field_domains.specs.Kept.{HasDomains, IsDomainBy};

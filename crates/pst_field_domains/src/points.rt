@@ -2,7 +2,7 @@
 ghost use Rattle.std.specs.Prelude.{◌≡◌, ◌++◌, IfOk, OnOk, map};
 ghost use Rattle.std.specs.Option.{option_to_list, option_map};
 ghost use Rattle.pst_ast.specs.DeclarationView.{view_enum, view_next_enum_item};
-ghost use Rattle.pst_scope.specs.Declarations.{next_item};
+ghost use Rattle.pst_ast.specs.Declarations.{next_item};
 ghost use Rattle.pst_evaluate.specs.Kept.{known_in};
 ghost use Rattle.pst_enum_values.specs.Gathered.{place_of_item, places_in};
 ghost use Rattle.pst_field_domains.specs.Known.{point, points};

@@ -1,6 +1,6 @@
 //! Powers of two.
 ghost use Rattle.std.specs.Prelude.{◌≡◌, ◌^◌, pos, IfOk};
-ghost use Rattle.pst_constants.specs.Domains.{span};
+ghost use Rattle.pst_type_rules.specs.Domains.{span};
 
 use pst_base::NoMemory;
 use pst_expr::Span;

@@ -2,16 +2,15 @@
 ghost use Rattle.std.specs.Prelude.{◌≡◌, ◌++◌, IfOk, OnOk, map};
 ghost use Rattle.std.specs.Option.{option_to_list};
 ghost use Rattle.pst_ast.specs.ExpressionView.{view_range, view_ranges};
-ghost use Rattle.pst_constants.specs.Domains.{ranges_of};
+ghost use Rattle.pst_type_rules.specs.Domains.{ranges_of};
 ghost use Rattle.pst_range_rules.specs.Facts.{constant_at};
 ghost use Rattle.pst_range_rules.specs.Spans as tree;
 ghost use Rattle.pst_field_domains.specs.Known.{known_spans};
 
-use pst_ast::{NextRange, RangeNode, RangesNode};
+use pst_ast::{Environment, NextRange, RangeNode, RangesNode};
 use pst_base::NoMemory;
 use pst_expr::Span;
 use pst_range_rules::RangeFacts;
-use pst_scope::Environment;
 
 // The span between two ends.
 fn between(low: Option<i64>, high: Option<i64>) -> Option<Span>

@@ -12,12 +12,11 @@ use crate::base::base_span;
 use crate::ranges::spans_of_ranges;
 use crate::row::SpanRow;
 use crate::table::EnumSpans;
-use pst_ast::{DomainNode, PlainNode, RangesNode, TypeName, TypeNode};
+use pst_ast::{DomainNode, Environment, PlainNode, RangesNode, TypeName, TypeNode};
 use pst_base::NoMemory;
 use pst_expr::Span;
 use pst_joined_spans::{common_spans, joined_spans};
 use pst_range_rules::RangeFacts;
-use pst_scope::Environment;
 
 // The numbers of joined spans that are in one of the ranges.
 fn cut(

@@ -7,11 +7,11 @@ use Rattle.pst_base.specs.declared.position.Place.{Place}
 use Rattle.pst_base.specs.Laws.{BeforeGoesOn}
 use Rattle.pst_ast.specs.DeclarationTree.{UnitTree}
 use Rattle.pst_ast.specs.declared.activity.EndNode.{EndNode}
-use Rattle.pst_scope.specs.declared.declaration.Declaration.{Declaration}
-use Rattle.pst_scope.specs.declared.environment.Environment.{Environment}
-use Rattle.pst_scope.specs.declared.referent.Finding.{Finding}
-use Rattle.pst_scope.specs.Declarations.{declarations}
-use Rattle.pst_scope.specs.Lookups.{type_of}
+use Rattle.pst_ast.specs.declared.scope_declaration.Declaration.{Declaration}
+use Rattle.pst_ast.specs.declared.environment.Environment.{Environment}
+use Rattle.pst_ast.specs.declared.referent.Finding.{Finding}
+use Rattle.pst_ast.specs.Declarations.{declarations}
+use Rattle.pst_ast.specs.Lookups.{type_of}
 use Rattle.pst_type_rules.specs.Binds.{Pair, pairs, BindTwice, Input, StreamOutput, IsSameEnd, IsStreamEnd, reference_at, is_stream}
 use Rattle.pst_name_rules.specs.Earlier.{earlier}
 use Rattle.pst_name_rules.specs.Leasts.{IsLeastOf}

@@ -6,13 +6,13 @@ use Rattle.std.specs.List.{filter_map, cons_option}
 use Rattle.std.specs.Option.{option_map}
 use Rattle.pst_base.specs.declared.position.Place.{Place}
 use Rattle.pst_ast.specs.DeclarationTree.{UnitTree}
-use Rattle.pst_scope.specs.declared.declaration.Declaration.{Declaration}
-use Rattle.pst_scope.specs.Declarations.{declarations}
-use Rattle.pst_scope.specs.Lookups.{base_of}
-use Rattle.pst_scope.specs.Sorts.{same_place}
+use Rattle.pst_ast.specs.declared.scope_declaration.Declaration.{Declaration}
+use Rattle.pst_ast.specs.Declarations.{declarations}
+use Rattle.pst_ast.specs.Lookups.{base_of}
+use Rattle.pst_ast.specs.Sorts.{same_place}
 use Rattle.pst_type_rules.specs.Handles.{IsSteadyIn}
 use Rattle.pst_type_rules.specs.Members.{IsOrDerives, Itself, Derives}
-use Rattle.pst_inherited.proofs.Declared.{base_there}
+use Rattle.pst_tree.proofs.InheritedDeclared.{base_there}
 use Rattle.pst_places.specs.Numbers.{number_in, number_from}
 use Rattle.pst_steady.specs.Lined.{HasUnsteady}
 use Rattle.pst_handle_uses.specs.declared.handle_use.Judging.{Judging}

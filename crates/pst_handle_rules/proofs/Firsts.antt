@@ -7,7 +7,7 @@ use Rattle.std.proofs.lemmas.Option.{get_or_from_slice_get}
 use Rattle.pst_base.specs.declared.position.Place.{Place}
 use Rattle.pst_base.specs.declared.table.NameId.{NameId}
 use Rattle.pst_ast.specs.declared.activity.EndNode.{EndNode}
-use Rattle.pst_scope.specs.declared.referent.Owner.{Owner}
+use Rattle.pst_ast.specs.declared.referent.Owner.{Owner}
 use Rattle.pst_type_rules.specs.Binds.{IsSameEnd}
 use Rattle.pst_handle_uses.specs.declared.handle_use.Tied.{Tied}
 use Rattle.pst_handle_rules.specs.declared.end_key.Side.{Side}

@@ -9,20 +9,20 @@ use Rattle.pst_base.specs.declared.position.Place.{Place}
 use Rattle.pst_base.specs.declared.table.NameId.{NameId}
 use Rattle.pst_ast.specs.declared.leaf.Name.{Name}
 use Rattle.pst_ast.specs.DeclarationTree.{UnitTree}
-use Rattle.pst_scope.specs.declared.declaration.Declaration.{Declaration}
-use Rattle.pst_scope.specs.declared.environment.Environment.{Environment}
-use Rattle.pst_scope.specs.declared.referent.Finding.{Finding}
-use Rattle.pst_scope.specs.declared.referent.Owner.{Owner}
-use Rattle.pst_scope.specs.declared.referent.Owner.TheVariants.{Nobody, OfAction, OfObject}
-use Rattle.pst_scope.specs.declared.referent.Referent.{Referent}
-use Rattle.pst_scope.specs.declared.referent.Referent.TheVariants.{Declared, Initial, Previous, Number}
-use Rattle.pst_scope.specs.declared.referent.Traversal.{Traversal}
-use Rattle.pst_scope.specs.Declarations.{declarations}
-use Rattle.pst_scope.specs.Lookups.{member_of, stands_for, traversed, traversed_member}
-use Rattle.pst_scope.specs.Paths.{is_handle_referent}
-use Rattle.pst_scope.specs.Sorts.{is_action, is_handle}
-use Rattle.pst_scope.specs.Uses
-use Rattle.pst_scope.specs.Uses.{Use, uses}
+use Rattle.pst_ast.specs.declared.scope_declaration.Declaration.{Declaration}
+use Rattle.pst_ast.specs.declared.environment.Environment.{Environment}
+use Rattle.pst_ast.specs.declared.referent.Finding.{Finding}
+use Rattle.pst_ast.specs.declared.referent.Owner.{Owner}
+use Rattle.pst_ast.specs.declared.referent.Owner.TheVariants.{Nobody, OfAction, OfObject}
+use Rattle.pst_ast.specs.declared.referent.Referent.{Referent}
+use Rattle.pst_ast.specs.declared.referent.Referent.TheVariants.{Declared, Initial, Previous, Number}
+use Rattle.pst_ast.specs.declared.referent.Traversal.{Traversal}
+use Rattle.pst_ast.specs.Declarations.{declarations}
+use Rattle.pst_ast.specs.Lookups.{member_of, stands_for, traversed, traversed_member}
+use Rattle.pst_ast.specs.Paths.{is_handle_referent}
+use Rattle.pst_ast.specs.Sorts.{is_action, is_handle}
+use Rattle.pst_ast.specs.Uses
+use Rattle.pst_ast.specs.Uses.{Use, uses}
 use Rattle.pst_type_rules.specs.Handles.{Mention, mention, mentions, first_names, is_member_constraint, IsJudgedBy, ByTraversed, ByOwner, ByDerived, IsSteadyIn}
 use Rattle.pst_type_rules.specs.Members.{IsOrDerives, Itself, Derives}
 use Rattle.pst_name_rules.specs.Leasts.{IsLeastOf}

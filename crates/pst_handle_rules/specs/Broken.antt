@@ -2,13 +2,13 @@
 use Rattle.std.specs.Prelude.{ℕ, ◌≡◌, List, ◌++◌, ◌∷◌, Some, IsTrue}
 use Rattle.std.specs.List.{Contains}
 use Rattle.pst_ast.specs.DeclarationTree.{UnitTree}
-use Rattle.pst_scope.specs.declared.declaration.Declaration.{Declaration}
-use Rattle.pst_scope.specs.declared.referent.Finding.{Finding}
-use Rattle.pst_scope.specs.declared.referent.Referent.TheVariants.{Declared}
-use Rattle.pst_scope.specs.Declarations.{declarations}
-use Rattle.pst_scope.specs.Lookups.{stands_for}
-use Rattle.pst_scope.specs.Sorts.{is_handle}
-use Rattle.pst_scope.specs.Uses.{Use, uses}
+use Rattle.pst_ast.specs.declared.scope_declaration.Declaration.{Declaration}
+use Rattle.pst_ast.specs.declared.referent.Finding.{Finding}
+use Rattle.pst_ast.specs.declared.referent.Referent.TheVariants.{Declared}
+use Rattle.pst_ast.specs.Declarations.{declarations}
+use Rattle.pst_ast.specs.Lookups.{stands_for}
+use Rattle.pst_ast.specs.Sorts.{is_handle}
+use Rattle.pst_ast.specs.Uses.{Use, uses}
 use Rattle.pst_type_rules.specs.Handles.{Mention, mentions, IsJudgedBy, IsSteadyIn}
 use Rattle.pst_type_rules.specs.Binds.{Pair, pairs, BindTwice}
 

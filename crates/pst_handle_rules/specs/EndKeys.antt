@@ -2,8 +2,8 @@
 use Rattle.std.specs.Prelude.{Bool, ◌&&◌, nat_eq}
 use Rattle.pst_base.specs.declared.position.Place.{Place}
 use Rattle.pst_ast.specs.declared.activity.EndNode.{EndNode}
-use Rattle.pst_scope.specs.declared.referent.Owner.{Owner}
-use Rattle.pst_scope.specs.declared.referent.Owner.TheVariants.{Nobody, OfAction, OfObject}
+use Rattle.pst_ast.specs.declared.referent.Owner.{Owner}
+use Rattle.pst_ast.specs.declared.referent.Owner.TheVariants.{Nobody, OfAction, OfObject}
 use Rattle.pst_handle_uses.specs.declared.handle_use.Tied.{Tied}
 use Rattle.pst_handle_rules.specs.declared.end_key.Side.{Side}
 use Rattle.pst_handle_rules.specs.declared.end_key.Side.TheVariants as side

@@ -1,7 +1,7 @@
 -- Handles that are named, and that an activity doesn't traverse exactly once.
 use Rattle.std.specs.Prelude.{◌≡◌, ◌⊎◌, ◌<◌, ℕ, List, Some, IsTrue, slice_get}
 use Rattle.pst_ast.specs.DeclarationTree.{UnitTree}
-use Rattle.pst_scope.specs.declared.referent.Finding.{Finding}
+use Rattle.pst_ast.specs.declared.referent.Finding.{Finding}
 use Rattle.pst_type_rules.specs.Handles.{IsSteadyIn}
 use Rattle.pst_handle_uses.specs.declared.handle_use.Judging.{Judging}
 use Rattle.pst_steady.specs.Lined.{HasUnsteady}

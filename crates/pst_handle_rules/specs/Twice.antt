@@ -2,7 +2,7 @@
 use Rattle.std.specs.Prelude.{ℕ, ◌≡◌, ◌⊎◌, ◌<◌, List, Bool, true, false, IsTrue, Option, Some, None, slice_get, if◌then◌else◌}
 use Rattle.std.specs.HashMap.{HashMap, get}
 use Rattle.std.specs.Option.{option_or}
-use Rattle.pst_scope.specs.declared.referent.Finding.{Finding}
+use Rattle.pst_ast.specs.declared.referent.Finding.{Finding}
 use Rattle.pst_type_rules.specs.Binds.{IsSameEnd}
 use Rattle.pst_handle_uses.specs.declared.handle_use.Tied.{Tied}
 use Rattle.pst_handle_rules.specs.declared.end_key.Side.{Side}

@@ -3,10 +3,10 @@ ghost use Rattle.std.specs.Prelude.{◌≡◌, IfOk, is_some};
 ghost use Rattle.pst_places.specs.Numbers.{number_in};
 ghost use Rattle.pst_handle_rules.specs.Based.{base_place as the_place, places_of_bases};
 
+use pst_ast::Declaration;
 use pst_base::{NoMemory, Place};
 use pst_index::Index;
 use pst_places::PlaceList;
-use pst_scope::Declaration;
 use std::alloc::Global;
 
 // The place of the name of the base of an action.

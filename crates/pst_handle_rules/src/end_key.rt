@@ -3,10 +3,9 @@ ghost use Rattle.std.specs.Prelude.{◌≡◌, ◌↔◌, IsTrue};
 ghost use Rattle.pst_type_rules.specs.Binds.{IsSameEnd};
 ghost use Rattle.pst_handle_rules.specs.EndKeys;
 
-use pst_ast::EndNode;
+use pst_ast::{EndNode, Owner};
 use pst_base::Place;
 use pst_handle_uses::Tied;
-use pst_scope::Owner;
 
 /// One of two ends that are tied.
 #[derive(Clone, Copy, PartialEq, Eq)]

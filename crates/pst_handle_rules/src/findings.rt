@@ -2,7 +2,7 @@
 ghost use Rattle.std.specs.Prelude.{◌≡◌, IfOk, length, map};
 ghost use Rattle.std.specs.HashMap.{get};
 ghost use Rattle.pst_ast.specs.DeclarationView.{view_action, view_unit};
-ghost use Rattle.pst_scope.specs.Declarations.{declarations};
+ghost use Rattle.pst_ast.specs.Declarations.{declarations};
 ghost use Rattle.pst_type_rules.specs.Sites.{action_of};
 ghost use Rattle.pst_name_rules.specs.Leasts.{IsLeastOf};
 ghost use Rattle.pst_steady.specs.Numbered.{AreBases};
@@ -15,12 +15,11 @@ ghost use Rattle.pst_handle_rules.specs.Judged.{IsBrokenBefore};
 use crate::based::base_places;
 use crate::bound_twice::bound_twice_in;
 use crate::unsteady::unsteady_among;
-use pst_ast::ActionNode;
+use pst_ast::{ActionNode, Declaration, Finding};
 use pst_base::{Names, NoMemory};
 use pst_handle_uses::{Judging, handle_uses};
 use pst_index::Index;
 use pst_places::PlaceList;
-use pst_scope::{Declaration, Finding};
 use pst_sites::Sites;
 use pst_steady::{
     Below, Lineage, Seed, are_ranged, bases_of, order_of, ranges_of, reached, runs_of, seeds_of,

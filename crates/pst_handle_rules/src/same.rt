@@ -1,7 +1,7 @@
 //! Whether two owners are one.
 ghost use Rattle.std.specs.Prelude.{◌≡◌, ◌↔◌, IsTrue};
 
-use pst_scope::{Declaration, Owner, Sort};
+use pst_ast::{Declaration, Owner, Sort};
 
 // Whether two sorts are one.
 fn is_same_sort(a: Sort, b: Sort) -> bool

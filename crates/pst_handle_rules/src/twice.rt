@@ -8,10 +8,10 @@ ghost use Rattle.pst_handle_rules.specs.Twice.{AreFirsts, HasSame, IsTiedTwice, 
 
 use crate::end_key::{EndKey, Side, end_of, is_same_end, key_of};
 use crate::same::is_same_owner;
+use pst_ast::Finding;
 use pst_base::NoMemory;
 use pst_handle_uses::Tied;
 use pst_name_rules::earlier;
-use pst_scope::Finding;
 use std::alloc::Global;
 use std::collections::HashMap;
 

@@ -1,18 +1,18 @@
 //! Handles that are named, and that an activity doesn't traverse exactly once.
 ghost use Rattle.std.specs.Prelude.{◌≡◌, ◌↔◌, ◌+◌, ◌<◌, IfOk, IsTrue, length, map};
 ghost use Rattle.pst_ast.specs.DeclarationView.{view_unit};
-ghost use Rattle.pst_scope.specs.Declarations.{declarations};
+ghost use Rattle.pst_ast.specs.Declarations.{declarations};
 ghost use Rattle.pst_name_rules.specs.Leasts.{IsLeastOf};
 ghost use Rattle.pst_handle_rules.specs.Based.{places_of_bases};
 ghost use Rattle.pst_handle_rules.specs.Judged.{IsBroken, IsBrokenBefore};
 ghost use Rattle.pst_steady.specs.Derived.{AreBelow};
 
 use crate::based::is_base;
+use pst_ast::Finding;
 use pst_base::NoMemory;
 use pst_handle_uses::Judging;
 use pst_name_rules::earlier;
 use pst_places::PlaceList;
-use pst_scope::Finding;
 use pst_sites::Sites;
 use pst_steady::{Below, Lineage, has_unsteady, is_steady_in, none_unsteady};
 

@@ -6,8 +6,8 @@ use Rattle.std.specs.List.{fold, filter_map, cons_option}
 use Rattle.std.proofs.lemmas.List.{append-nil, append_assoc}
 use Rattle.pst_ast.specs.ExpressionTree.{ExprTree}
 use Rattle.pst_ast.specs.declared.leaf.Name.{Name}
-use Rattle.pst_scope.specs.declared.environment.Environment.{Environment}
-use Rattle.pst_scope.specs.Uses.{Use, expr_uses}
+use Rattle.pst_ast.specs.declared.environment.Environment.{Environment}
+use Rattle.pst_ast.specs.Uses.{Use, expr_uses}
 use Rattle.pst_type_rules.specs.Handles.{first_of_path, first_names}
 use Rattle.pst_handle_uses.specs.Firsts.{with_first}
 

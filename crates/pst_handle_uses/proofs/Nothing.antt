@@ -8,8 +8,8 @@ use Rattle.pst_base.specs.declared.table.NameId.{NameId}
 use Rattle.pst_ast.specs.declared.leaf.Name.{Name}
 use Rattle.pst_ast.specs.declared.shared.DotName.{DotName}
 use Rattle.pst_ast.specs.declared.activity.EndNode.{EndNode}
-use Rattle.pst_scope.specs.declared.environment.Environment.{Environment}
-use Rattle.pst_scope.specs.Uses.{Joins, Ties, target_by}
+use Rattle.pst_ast.specs.declared.environment.Environment.{Environment}
+use Rattle.pst_ast.specs.Uses.{Joins, Ties, target_by}
 use Rattle.pst_type_rules.specs.Binds.{pairs_of}
 use Rattle.pst_handle_uses.specs.declared.handle_use.Tied.{Tied}
 use Rattle.pst_handle_uses.specs.declared.handle_use.Judging.{Judging}

@@ -2,8 +2,8 @@
 use Rattle.std.proofs.Common.{◌≡◌, ◌++◌, ℕ, List, [], ◌∷◌, map, sym, ap, ◌∙◌}
 use Rattle.std.specs.List.{fold, flat_map}
 use Rattle.std.proofs.lemmas.List.{append-nil, append_assoc, map-append}
-use Rattle.pst_scope.specs.declared.declaration.Declaration.{Declaration}
-use Rattle.pst_scope.specs.Uses.{Use}
+use Rattle.pst_ast.specs.declared.scope_declaration.Declaration.{Declaration}
+use Rattle.pst_ast.specs.Uses.{Use}
 use Rattle.pst_type_rules.specs.Binds.{pairs_of}
 use Rattle.pst_handle_uses.specs.declared.handle_use.Tied.{Tied}
 use Rattle.pst_handle_uses.specs.declared.handle_use.Judging.{Judging}

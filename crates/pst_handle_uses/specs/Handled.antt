@@ -5,13 +5,13 @@ use Rattle.std.specs.Option.{option_map, option_map_or, option_or, option_and_th
 use Rattle.pst_base.specs.declared.table.NameId.{NameId}
 use Rattle.pst_ast.specs.declared.leaf.Name.{Name}
 use Rattle.pst_ast.specs.declared.activity.EndNode.{EndNode}
-use Rattle.pst_scope.specs.declared.declaration.Declaration.{Declaration}
-use Rattle.pst_scope.specs.declared.environment.Environment.{Environment}
-use Rattle.pst_scope.specs.declared.referent.Owner.{Owner}
-use Rattle.pst_scope.specs.declared.referent.Owner.TheVariants.{OfAction}
-use Rattle.pst_scope.specs.Lookups.{member_of, stands_for, traversed, type_of}
-use Rattle.pst_scope.specs.Paths.{is_handle_referent}
-use Rattle.pst_scope.specs.Uses.{Use}
+use Rattle.pst_ast.specs.declared.scope_declaration.Declaration.{Declaration}
+use Rattle.pst_ast.specs.declared.environment.Environment.{Environment}
+use Rattle.pst_ast.specs.declared.referent.Owner.{Owner}
+use Rattle.pst_ast.specs.declared.referent.Owner.TheVariants.{OfAction}
+use Rattle.pst_ast.specs.Lookups.{member_of, stands_for, traversed, type_of}
+use Rattle.pst_ast.specs.Paths.{is_handle_referent}
+use Rattle.pst_ast.specs.Uses.{Use}
 use Rattle.pst_type_rules.specs.Binds.{Pair, pairs_of, reference_at, is_stream}
 use Rattle.pst_type_rules.specs.Handles.{Mention, mention, mentions}
 use Rattle.pst_handle_uses.specs.declared.handle_use.Tied.{Tied}

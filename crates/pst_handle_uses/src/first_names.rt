@@ -5,11 +5,11 @@ ghost use Rattle.pst_type_rules.specs.Handles.{first_names as the_names};
 ghost use Rattle.pst_handle_uses.specs.Firsts.{with_first};
 
 use pst_ast::{
-    ArgumentsNode, ArmNode, DotName, EndNode, ExprNode, Name, NamesNode, NextExpr, NextPart,
-    OtherEnds, PartNode, PlainNode, StatementNode, TargetNode, TypeName, TypeNode,
+    ArgumentsNode, ArmNode, Declaration, DotName, EndNode, Environment, ExprNode, Name, NamesNode,
+    NextExpr, NextPart, OtherEnds, PartNode, PlainNode, StatementNode, TargetNode, Traversal,
+    TypeName, TypeNode,
 };
 use pst_base::{NoMemory, Place};
-use pst_scope::{Declaration, Environment, Traversal};
 use pst_walk_parts::show_expression::show_expr;
 use pst_walk_parts::{Role, Visitor, Wanted};
 use std::alloc::Global;

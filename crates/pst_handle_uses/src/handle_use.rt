@@ -1,15 +1,15 @@
 //! A pair of ends, and a handle that is named.
 ghost use Rattle.std.specs.Prelude.{◌≡◌};
 ghost use Rattle.pst_ast.specs.declared.activity.EndNode.{EndNode as AnEnd};
-ghost use Rattle.pst_scope.specs.Lookups;
+ghost use Rattle.pst_ast.specs.Lookups;
 ghost use Rattle.pst_handle_uses.specs.Handled;
 
-use pst_ast::{EndNode, Name, ObjectWord};
+use pst_ast::{
+    Declaration, EndNode, Environment, Inner, Name, ObjectWord, Owner, Referent, Sort, Traversal,
+};
 use pst_base::Names;
-use pst_index::Index;
-use pst_meaning::{handled, stands_for, value_named};
+use pst_index::{Index, handled, stands_for, value_named};
 use pst_name_rules::end_named;
-use pst_scope::{Declaration, Environment, Inner, Owner, Referent, Sort, Traversal};
 use std::alloc::Global;
 
 /// A pair of ends that a bind of an activity joins.
@@ -73,7 +73,7 @@ pub fn tie_of(
 }
 
 // The action that a handle's traversal is of.
-#[tactic(auto, unfolding(pst_scope::specs::Lookups::value_named))]
+#[tactic(auto, unfolding(pst_ast::specs::Lookups::value_named))]
 fn handled_behind(
     alloc: Global,
     index: &Index,
@@ -99,7 +99,7 @@ fn handled_behind(
 }
 
 // The action that a traversal is of.
-#[tactic(auto, unfolding(pst_scope::specs::Lookups::traversed))]
+#[tactic(auto, unfolding(pst_ast::specs::Lookups::traversed))]
 fn traversed(
     alloc: Global,
     index: &Index,

@@ -4,19 +4,19 @@ ghost use Rattle.std.specs.List.{flat_map};
 ghost use Rattle.std.specs.Option.{option_to_list};
 ghost use Rattle.pst_ast.specs.ExpressionView.{view_expr};
 ghost use Rattle.pst_type_rules.specs.Handles.{first_names as the_names};
-ghost use Rattle.pst_scope.specs.Uses.{Ties};
+ghost use Rattle.pst_ast.specs.Uses.{Ties};
 ghost use Rattle.pst_type_rules.specs.Binds.{pairs_of};
 ghost use Rattle.pst_handle_uses.specs.Handled.{handled, judging as the_judging, naming, pair, tied as the_tied};
 
 use crate::first_names::first_names;
 use crate::handle_use::{Judging, Tied, judging_of, tie_of};
 use pst_ast::{
-    ArgumentsNode, ArmNode, DotName, EndNode, ExprNode, Name, NamesNode, NextEnd, NextExpr,
-    NextPart, OtherEnds, PartNode, PlainNode, StatementNode, TargetNode, TypeName, TypeNode,
+    ArgumentsNode, ArmNode, Declaration, DotName, EndNode, Environment, ExprNode, Name, NamesNode,
+    NextEnd, NextExpr, NextPart, OtherEnds, PartNode, PlainNode, StatementNode, TargetNode,
+    Traversal, TypeName, TypeNode,
 };
 use pst_base::{Names, NoMemory, Place};
 use pst_index::Index;
-use pst_scope::{Declaration, Environment, Traversal};
 use pst_walk_parts::{Role, Visitor, Wanted};
 use std::alloc::Global;
 use std::marker::Model;

@@ -2,7 +2,7 @@
 ghost use Rattle.std.specs.Prelude.{◌≡◌, IfOk, map};
 ghost use Rattle.std.specs.List.{flat_map};
 ghost use Rattle.pst_ast.specs.DeclarationView.{view_unit};
-ghost use Rattle.pst_scope.specs.Uses.{uses};
+ghost use Rattle.pst_ast.specs.Uses.{uses};
 ghost use Rattle.pst_type_rules.specs.Binds.{pairs};
 ghost use Rattle.pst_handle_uses.specs.Handled.{judgings_of, tied};
 

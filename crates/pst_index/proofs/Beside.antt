@@ -8,11 +8,11 @@ use Rattle.std.proofs.Math.Bool.{and_assoc}
 use Rattle.std.proofs.lemmas.Bool.{eqb-true}
 use Rattle.pst_base.specs.declared.position.Place.{Place}
 use Rattle.pst_base.specs.declared.table.NameId.{NameId}
-use Rattle.pst_scope.specs.declared.declaration.Declaration.{Declaration}
-use Rattle.pst_scope.specs.declared.declaration.Scope.{Scope}
-use Rattle.pst_scope.specs.declared.declaration.Scope.TheVariants.{Files, Part}
-use Rattle.pst_scope.specs.Sorts.{same_name, same_place, same_scope}
-use Rattle.pst_scope.specs.Lookups.{item_at, is_item_at}
+use Rattle.pst_ast.specs.declared.scope_declaration.Declaration.{Declaration}
+use Rattle.pst_ast.specs.declared.scope_declaration.Scope.{Scope}
+use Rattle.pst_ast.specs.declared.scope_declaration.Scope.TheVariants.{Files, Part}
+use Rattle.pst_ast.specs.Sorts.{same_name, same_place, same_scope}
+use Rattle.pst_ast.specs.Lookups.{item_at, is_item_at}
 use Rattle.pst_index.specs.declared.key.Key.{Key}
 use Rattle.pst_index.specs.Keys.{name_key}
 use Rattle.pst_index.specs.Found.{same_key, is_beside, is_other_item, is_item_beside}

@@ -1,3 +1,4 @@
 mod KeyTests
 mod Beside
 mod Rounds
+mod Stops

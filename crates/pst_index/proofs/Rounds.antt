@@ -3,10 +3,10 @@ use Rattle.std.proofs.Common.{◌≡◌, ℕ, suc, ◌+◌, ◌-◌, ◌<◌, �
 use Rattle.std.specs.Prelude.{Some, None, slice_get}
 use Rattle.std.proofs.lemmas.Bool.{cases_lt}
 use Rattle.std.proofs.lemmas.Option.{slice_get_within, slice_get-get_or}
-use Rattle.pst_scope.specs.declared.declaration.Declaration.{Declaration}
-use Rattle.pst_scope.specs.declared.declaration.Scope.TheVariants.{Files}
-use Rattle.pst_scope.specs.declared.declaration.Sort.TheVariants.{Component}
-use Rattle.pst_scope.specs.Lookups.{base_of}
+use Rattle.pst_ast.specs.declared.scope_declaration.Declaration.{Declaration}
+use Rattle.pst_ast.specs.declared.scope_declaration.Scope.TheVariants.{Files}
+use Rattle.pst_ast.specs.declared.scope_declaration.Sort.TheVariants.{Component}
+use Rattle.pst_ast.specs.Lookups.{base_of}
 use Rattle.pst_members.specs.Rounds.{IsRound}
 
 abbrev pub blank : Declaration

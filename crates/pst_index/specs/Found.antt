@@ -3,10 +3,10 @@ use Rattle.std.specs.Prelude.{Bool, false, not, nat_eq, ◌&&◌, Option, Some, 
 use Rattle.std.specs.Bool.{beq}
 use Rattle.std.specs.Option.{option_or, option_map_or}
 use Rattle.pst_base.specs.declared.table.NameId.{NameId}
-use Rattle.pst_scope.specs.declared.declaration.Declaration.{Declaration}
-use Rattle.pst_scope.specs.declared.declaration.Scope.{Scope}
-use Rattle.pst_scope.specs.Sorts.{same_name, same_scope}
-use Rattle.pst_scope.specs.Lookups.{is_item_at}
+use Rattle.pst_ast.specs.declared.scope_declaration.Declaration.{Declaration}
+use Rattle.pst_ast.specs.declared.scope_declaration.Scope.{Scope}
+use Rattle.pst_ast.specs.Sorts.{same_name, same_scope}
+use Rattle.pst_ast.specs.Lookups.{is_item_at}
 use Rattle.pst_index.specs.declared.key.Key.{Key}
 use Rattle.pst_index.specs.declared.key.By.{By}
 use Rattle.pst_index.specs.declared.key.By.TheVariants as by

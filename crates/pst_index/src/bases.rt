@@ -1,11 +1,10 @@
 //! Actions and their bases.
 ghost use Rattle.std.specs.Prelude.{◌≡◌};
-ghost use Rattle.pst_scope.specs.Lookups;
+ghost use Rattle.pst_ast.specs.Lookups;
 
 use crate::Index;
-use pst_ast::TypeName;
+use pst_ast::{Declaration, Scope, Sort, TypeName};
 use pst_base::{NameId, Place};
-use pst_scope::{Declaration, Scope, Sort};
 
 // The name of an action's base.
 fn base_in(sort: Sort) -> Option<TypeName>
@@ -48,7 +47,7 @@ impl Index {
     }
 
     /// The base of an action; none where its name stands for no action of the same component.
-    #[tactic(auto, unfolding(pst_scope::specs::Lookups::base_of))]
+    #[tactic(auto, unfolding(pst_ast::specs::Lookups::base_of))]
     pub fn base_of(&self, action: &Declaration) -> Option<Declaration>
         ensures { result ≡ Lookups.base_of self.now action.now }
     {
@@ -70,7 +69,7 @@ impl Index {
     }
 
     // It, looked up in the action and in each of its bases.
-    #[tactic(auto, unfolding(pst_scope::specs::Lookups::member_of))]
+    #[tactic(auto, unfolding(pst_ast::specs::Lookups::member_of))]
     fn member_by_steps(&self, action: &Declaration, name: NameId) -> Option<Declaration>
         ensures { result ≡ Lookups.member_of self.now action.now name }
     {

@@ -5,8 +5,8 @@ ghost use Rattle.std.specs.HashMap.{get};
 ghost use Rattle.pst_index.specs.Found.{has_key, same_key, or_first, is_beside, is_other_item};
 
 use crate::key::{By, Key, key_of};
+use pst_ast::Declaration;
 use pst_base::NoMemory;
-use pst_scope::Declaration;
 use std::alloc::Global;
 use std::collections::HashMap;
 

@@ -1,16 +1,16 @@
 //! The index of what the sources declare.
 ghost use Rattle.std.specs.Prelude.{◌≡◌, IfOk, is_some};
 ghost use Rattle.std.specs.List.{find};
-ghost use Rattle.pst_scope.specs.Lookups;
-ghost use Rattle.pst_scope.specs.Paths;
+ghost use Rattle.pst_ast.specs.Lookups;
+ghost use Rattle.pst_ast.specs.Paths;
 ghost use Rattle.pst_index.specs.Found.{is_item_beside};
 
 use crate::first::{first_by, other_items};
 use crate::key::{By, Key, name_key, place_key};
 use crate::tabled::tables_of;
+use pst_ast::{Declaration, Scope, Sort};
 use pst_base::{NameId, NoMemory, Place};
 use pst_members::Tables;
-use pst_scope::{Declaration, Scope, Sort};
 use std::alloc::Global;
 use std::collections::HashMap;
 use std::marker::Model;
@@ -32,7 +32,7 @@ pub struct Index {
 
 impl Model for Index {
     ghost use Rattle.std.specs.Prelude.{List};
-    ghost use Rattle.pst_scope.specs.declared.declaration.Declaration.{Declaration};
+    ghost use Rattle.pst_ast.specs.declared.scope_declaration.Declaration.{Declaration};
     ghost use Rattle.pst_index.specs.Indexed.{IsIndex};
 
     ghost Value = { List Declaration };

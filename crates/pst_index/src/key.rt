@@ -2,8 +2,8 @@
 ghost use Rattle.std.specs.Prelude.{◌≡◌};
 ghost use Rattle.pst_index.specs.Keys;
 
+use pst_ast::{Declaration, Scope, Sort};
 use pst_base::{NameId, Place};
-use pst_scope::{Declaration, Scope, Sort};
 
 /// A place or the scope of all files, and a name or none.
 #[derive(Clone, Copy, PartialEq, Eq, Hash)]

@@ -1,11 +1,10 @@
 //! Types of members, and enum items.
 ghost use Rattle.std.specs.Prelude.{◌≡◌};
-ghost use Rattle.pst_scope.specs.Lookups;
+ghost use Rattle.pst_ast.specs.Lookups;
 
 use crate::Index;
-use pst_ast::TypeName;
+use pst_ast::{Declaration, Scope, Sort, TypeName};
 use pst_base::{NameId, Place};
-use pst_scope::{Declaration, Scope, Sort};
 
 // The name of the type of a reference, claim, pool, handle or instance.
 fn type_in(sort: Sort) -> Option<TypeName>
@@ -38,7 +37,7 @@ fn is_type_for(member: Sort, sort: Sort) -> bool
 impl Index {
     /// The type of a reference, claim, pool, handle or instance, whose name is looked up where the
     /// member is declared; none where it stands for another sort of thing.
-    #[tactic(auto, unfolding(pst_scope::specs::Lookups::type_of))]
+    #[tactic(auto, unfolding(pst_ast::specs::Lookups::type_of))]
     pub fn type_of(&self, member: &Declaration) -> Option<Declaration>
         ensures { result ≡ Lookups.type_of self.now member.now }
     {

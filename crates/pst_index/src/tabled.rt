@@ -1,14 +1,14 @@
 //! Tables of the members of actions, each made after that of its base.
 ghost use Rattle.std.specs.Prelude.{◌≡◌, IfOk, IsTrue, Some};
-ghost use Rattle.pst_scope.specs.Lookups.{base_of};
+ghost use Rattle.pst_ast.specs.Lookups.{base_of};
 ghost use Rattle.pst_members.specs.Kept.{AreLinked, AreTables};
 ghost use Rattle.pst_members.specs.Rounds.{IsRound};
 
 use crate::Index;
 use crate::key::{Key, place_key};
+use pst_ast::{Declaration, Sort};
 use pst_base::NoMemory;
 use pst_members::{Linked, Tables, is_same_action};
-use pst_scope::{Declaration, Sort};
 use std::alloc::Global;
 use std::collections::HashSet;
 

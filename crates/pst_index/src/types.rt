@@ -1,11 +1,10 @@
 //! What type names stand for.
 ghost use Rattle.std.specs.Prelude.{◌≡◌};
-ghost use Rattle.pst_scope.specs.Lookups;
+ghost use Rattle.pst_ast.specs.Lookups;
 
 use crate::Index;
-use pst_ast::{Name, TypeName};
+use pst_ast::{Declaration, Name, Scope, Sort, TypeName};
 use pst_base::{NameId, Place};
-use pst_scope::{Declaration, Scope, Sort};
 
 impl Index {
     /// What a type name by itself stands for: in the component where it is used, or else at file

@@ -19,7 +19,7 @@ use Rattle.pst_scen.specs.Refusals.{GroupClashes, Two, One}
 use Rattle.pst_graph.specs.declared.planning.PlanEnd.{PlanEnd}
 use Rattle.pst_graph.specs.declared.planning.PlanEnd.TheVariants as end
 use Rattle.pst_graph.specs.Ends.{IsEndOf}
-use Rattle.pst_order_stays.specs.SoFar as so-far
+use Rattle.pst_built.specs.SoFar as so-far
 use Rattle.pst_order_ahead.specs.Ahead.{MustAhead, Directly, Grouped, Through, IsRefusedAhead, Cycle, GroupClash, ParallelOrder, ParallelClash}
 use Rattle.pst_link_order.specs.Reasons.{IsWhy, IsReason, IsUse}
 use Rattle.pst_link_order.specs.Takes.{IsAheadBy}

@@ -13,7 +13,7 @@ use Rattle.pst_scen.specs.declared.scenario.Scenario.{Scenario}
 use Rattle.pst_scen.specs.Scenarios.{reference_at}
 use Rattle.pst_scen.specs.Flows.{Refers, FromFirst, Writes, LeadsTo}
 use Rattle.pst_scen.specs.Conflicts.{Uses}
-use Rattle.pst_order_stays.specs.SoFar.{Buffer, Source, Previous, Replaced}
+use Rattle.pst_built.specs.SoFar.{Buffer, Source, Previous, Replaced}
 use Rattle.pst_order_ahead.specs.Ahead.{Takes, MustAhead, Directly, AfterFirst, BeforeSource, AfterTaker}
 use Rattle.pst_scen.specs.Plan.{Entries}
 use Rattle.pst_scen.specs.Rows.{Has}

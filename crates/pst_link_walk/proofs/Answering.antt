@@ -10,8 +10,8 @@ use Rattle.pst_legal.specs.Reading.{Reading, Wants, Stops, Reads}
 use Rattle.pst_legal.specs.SupplyReading.{Spot, Source, Initially, From, New, supplied_by, read_supply}
 use Rattle.pst_model.specs.ModelTree.{ModelTree}
 use Rattle.pst_legal.specs.ValueReading.{Answer, Options, Dead, Whole, answer_of}
-use Rattle.pst_longer.proofs.Goes.{Stands as Relates, stands}
-use Rattle.pst_longer.proofs.Readers.{goes_supply}
+use Rattle.pst_built.proofs.Goes.{Stands as Relates, stands}
+use Rattle.pst_built.proofs.Readers.{goes_supply}
 use Rattle.pst_shape_parts.specs.Trees.{bare}
 use Rattle.pst_shape.specs.Walks.{Kept as Shape, answer as shape_answer, next_of, IfRead, HasDigit}
 use Rattle.pst_open_ends.specs.Changes.{opened}

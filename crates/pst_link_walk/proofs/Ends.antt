@@ -8,9 +8,9 @@ use Rattle.pst_legal.specs.Growing.{nothing_yet}
 use Rattle.pst_legal.specs.Menus.{menu}
 use Rattle.pst_legal.specs.Reading.{Reading, Wants, Stops, Reads, Reader, then_read, read_tree}
 use Rattle.pst_legal.specs.SupplyReading.{Spot, Source, Initially, From, New, supplied_by, read_supply}
-use Rattle.pst_longer.proofs.Goes.{Stands as Relates, After, Goes, stands, goes_then}
-use Rattle.pst_longer.proofs.Readers.{goes_tree, goes_supply}
-use Rattle.pst_longer.proofs.Read.{Any, any_fields, AnyWay, any_ways}
+use Rattle.pst_built.proofs.Goes.{Stands as Relates, After, Goes, stands, goes_then}
+use Rattle.pst_built.proofs.Readers.{goes_tree, goes_supply}
+use Rattle.pst_built.proofs.Read.{Any, any_fields, AnyWay, any_ways}
 use Rattle.pst_supply.specs.Walks.{Kept as Supply}
 use Rattle.pst_link_walk.specs.Walks.{Kept, tree_reading, reading, IsUsed, IsEnd, AtEnd, HasTree}
 use Rattle.pst_link_walk.specs.Made.{IsInside, choices_of, IsBehind, Stands}

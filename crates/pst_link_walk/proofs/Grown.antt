@@ -11,9 +11,9 @@ use Rattle.pst_scen.specs.declared.scenario.Scenario.{Scenario}
 use Rattle.pst_legal.specs.Growing.{Look, Inner, Leaf, nothing_yet, with_look, open_act}
 use Rattle.pst_legal.specs.Menus.{menu}
 use Rattle.pst_legal.specs.Reading.{Reading, Wants, Stops, Reads, node_with_value, put_value, value_number, read_place, read_tree}
-use Rattle.pst_longer.proofs.Goes.{Stands, After, Goes, place_stands_at}
-use Rattle.pst_longer.proofs.Readers.{FieldSteps, goes_tree}
-use Rattle.pst_longer.proofs.Read.{AnyWay, any_ways}
+use Rattle.pst_built.proofs.Goes.{Stands, After, Goes, place_stands_at}
+use Rattle.pst_built.proofs.Readers.{FieldSteps, goes_tree}
+use Rattle.pst_built.proofs.Read.{AnyWay, any_ways}
 use Rattle.pst_built.proofs.Parents.{get_more}
 
 pub record Grown (s t : Scenario) : Type 0 where

@@ -16,8 +16,8 @@ use Rattle.pst_scen.specs.declared.scenario.Scenario.{Scenario}
 use Rattle.pst_legal.specs.Reading.{Reading, Reader, Wants, Stops, Reads, then_read}
 use Rattle.pst_legal.specs.SupplyReading.{Spot, inferred, next_need, sources, act_with_link, put_link, read_turn, read_supply, end_supply}
 use Rattle.pst_legal.specs.ValueReading.{Answer, Options, Dead, Whole, answer_of}
-use Rattle.pst_longer.proofs.Goes.{Stands as Relates}
-use Rattle.pst_read_onward.proofs.Links.{alter_at}
+use Rattle.pst_built.proofs.Goes.{Stands as Relates}
+use Rattle.pst_built.proofs.ReadOnwardLinks.{alter_at}
 use Rattle.pst_shape_parts.specs.Trees.{bare}
 use Rattle.pst_shape.specs.Walks.{IfRead}
 use Rattle.pst_open_ends.specs.declared.links.Relinked.{Relinked}

@@ -9,9 +9,9 @@ use Rattle.pst_scen.specs.declared.scenario.First.{First}
 use Rattle.pst_legal.specs.Growing.{Look, Inner, Leaf, nothing_yet, with_look, open_act}
 use Rattle.pst_legal.specs.Menus.{Menu, menu}
 use Rattle.pst_legal.specs.Reading.{Reading, Wants, Stops, Reads, read_tree, put_value}
-use Rattle.pst_longer.proofs.Goes.{Stands, After, Goes, stands}
-use Rattle.pst_longer.proofs.Readers.{FieldSteps, goes_tree}
-use Rattle.pst_longer.proofs.Read.{AnyWay, any_ways}
+use Rattle.pst_built.proofs.Goes.{Stands, After, Goes, stands}
+use Rattle.pst_built.proofs.Readers.{FieldSteps, goes_tree}
+use Rattle.pst_built.proofs.Read.{AnyWay, any_ways}
 use Rattle.pst_shape_parts.specs.Trees.{bare}
 use Rattle.pst_open_ends.specs.Changes.{opened}
 use Rattle.pst_supply.specs.Walks.{scenario_at}

@@ -9,9 +9,9 @@ use Rattle.pst_legal.specs.Menus.{menu}
 use Rattle.pst_legal.specs.Reading.{Reading, Wants, Stops, Reads, Reader, then_read, read_tree}
 use Rattle.pst_legal.specs.SupplyReading.{read_supply}
 use Rattle.pst_legal.specs.ValueReading.{Answer, Options, Dead, Whole, answer_of}
-use Rattle.pst_longer.proofs.Goes.{After}
-use Rattle.pst_longer.proofs.Readers.{goes_tree, goes_supply}
-use Rattle.pst_longer.proofs.Read.{Any, any_fields, AnyWay, any_ways}
+use Rattle.pst_built.proofs.Goes.{After}
+use Rattle.pst_built.proofs.Readers.{goes_tree, goes_supply}
+use Rattle.pst_built.proofs.Read.{Any, any_fields, AnyWay, any_ways}
 use Rattle.pst_shape_parts.specs.Trees.{bare}
 use Rattle.pst_supply.specs.Walks.{scenario_at, answer as supply_answer}
 use Rattle.pst_supply.specs.Walks.{Kept as Supply}

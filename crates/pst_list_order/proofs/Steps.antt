@@ -5,8 +5,8 @@ use Rattle.std.proofs.lemmas.List.{get_or_append_left, get_or-append-add}
 use Rattle.pst_scen.specs.declared.scenario.Scenario.{Scenario}
 use Rattle.pst_legal.specs.ValueReading.{Dead, Whole, read}
 use Rattle.pst_legal.specs.First.{IsBefore, ReadsLegal, IsLive, last_of}
-use Rattle.pst_longer.specs.Laws.{ChoicesNameOptions}
-use Rattle.pst_reached.specs.Laws.{LegalScenariosAreRead}
+use Rattle.pst_built.specs.LongerLaws.{ChoicesNameOptions}
+use Rattle.pst_built.specs.ReachedLaws.{LegalScenariosAreRead}
 use Rattle.pst_list_order.specs.Laws.{NothingIsFirst, GoesDown, GoesToNext, GoesUp, GoesOver, LevelsEnd, LiveListsRise}
 use Rattle.pst_list_order.proofs.Order.{before_zero, before_next, GoesOn, passed_front, Begins, passed_cases, before_then}
 

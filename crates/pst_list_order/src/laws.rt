@@ -1,8 +1,7 @@
 //! Laws of the order of lists of choices.
 ghost use Rattle.pst_list_order.specs.Laws.{BeforeIsStrict, BeforeGoesOn, NothingIsFirst, GoesDown, GoesToNext, GoesUp, GoesOver, LevelsEnd, LiveListsRise};
 
-use pst_longer::places_go_on;
-use pst_reached::legal_scenarios_are_read;
+use pst_built::{legal_scenarios_are_read, places_go_on};
 
 /// The lexicographic order is strict and goes on from list to list.
 pub fn before_is_an_order()

@@ -14,7 +14,7 @@ use Rattle.pst_legal.specs.Constraints.{HasConstraint, OfCompound, OfAct, OfOutp
 use Rattle.pst_legal.specs.First.{NoneRefused}
 use Rattle.pst_legal.specs.Reading.{Reading, Wants, Stops, Reads}
 use Rattle.pst_legal.specs.ValueReading.{answer_of}
-use Rattle.pst_statements.proofs.Kept.{stands_at}
+use Rattle.pst_slots.proofs.Kept.{stands_at}
 use Rattle.pst_read_domains.proofs.Empty.{place_unvalued}
 use Rattle.pst_shape.specs.Walks.{IfRead, HasDigit}
 use Rattle.pst_new_refusals.specs.Since.{IsUnread, IsSince}

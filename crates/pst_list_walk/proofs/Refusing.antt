@@ -10,7 +10,7 @@ use Rattle.pst_scen.specs.declared.scenario.Scenario.{Scenario}
 use Rattle.pst_legal.specs.Reading.{Reading, Wants, Stops, Reads}
 use Rattle.pst_legal.specs.ValueReading.{Answer, Options, Dead, Whole, answer_of}
 use Rattle.pst_shape.specs.Walks.{IfRead}
-use Rattle.pst_read_nodes.specs.Laws.{NodesStandForPieces}
+use Rattle.pst_read_domains.specs.ReadNodesLaws.{NodesStandForPieces}
 use Rattle.pst_refusals.specs.Answers.{StandEarlier, TellsRefusals}
 use Rattle.pst_plan_so_far.specs.Laws.{ReadsSources}
 use Rattle.pst_order_ahead.specs.LaidOut.{ReadsTree}

@@ -8,8 +8,8 @@ use Rattle.pst_scen.specs.declared.scenario.Scenario.{Scenario}
 use Rattle.pst_legal.specs.Reading.{Reading, Wants, Stops, Reads}
 use Rattle.pst_legal.specs.ValueReading.{Answer, Options, Dead, Whole, answer_of, read}
 use Rattle.pst_shape.specs.Walks.{IfRead}
-use Rattle.pst_order_stays.specs.SoFar.{HasRead}
-use Rattle.pst_read_nodes.specs.Laws.{NodesStandForPieces}
+use Rattle.pst_built.specs.SoFar.{HasRead}
+use Rattle.pst_read_domains.specs.ReadNodesLaws.{NodesStandForPieces}
 use Rattle.pst_refusals.specs.Answers.{StandEarlier, TellsRefusals}
 use Rattle.pst_link_walk.specs.Walks.{Kept, reading, AtEnd}
 use Rattle.pst_link_walk.specs.Walks.{answer as link_answer}

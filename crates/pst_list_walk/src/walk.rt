@@ -24,7 +24,7 @@ use pst_known::Scene;
 use pst_link_walk::LinkWalk;
 use pst_model::Model;
 use pst_new_refusals::{has_far, some_newly_refused};
-use pst_read_nodes::nodes_stand_for_pieces;
+use pst_read_domains::nodes_stand_for_pieces;
 use pst_refusals::some_refused;
 use pst_rng::start;
 use pst_scen::{Act, First, Next, Node, Scenario};

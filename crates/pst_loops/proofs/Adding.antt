@@ -5,12 +5,12 @@ use Rattle.std.specs.Global.{Vec}
 use Rattle.pst_base.specs.declared.position.Place.{Place}
 use Rattle.pst_base.specs.Laws.{NoneIsBeforeItself}
 use Rattle.pst_base.specs.Places.{IsBefore}
-use Rattle.pst_scope.specs.declared.declaration.Declaration.{Declaration}
-use Rattle.pst_scope.specs.declared.declaration.Scope.{Scope}
-use Rattle.pst_scope.specs.declared.declaration.Scope.TheVariants.{Files, Part}
-use Rattle.pst_scope.specs.Lookups.{base_of, type_of}
-use Rattle.pst_scope.specs.NameRules.{LeadsTo, ToBase, ToInstance}
-use Rattle.pst_scope.specs.Sorts.{is_instance}
+use Rattle.pst_ast.specs.declared.scope_declaration.Declaration.{Declaration}
+use Rattle.pst_ast.specs.declared.scope_declaration.Scope.{Scope}
+use Rattle.pst_ast.specs.declared.scope_declaration.Scope.TheVariants.{Files, Part}
+use Rattle.pst_ast.specs.Lookups.{base_of, type_of}
+use Rattle.pst_ast.specs.NameRules.{LeadsTo, ToBase, ToInstance}
+use Rattle.pst_ast.specs.Sorts.{is_instance}
 use Rattle.pst_loops.specs.Graph.{Graph, IsIn, HasEdge}
 use Rattle.pst_loops.specs.Numbers.{IsNumber, AreInOrderTo, AreRows}
 use Rattle.pst_loops.specs.Edges.{IsAdded, IsEdge, IsAt, IsEdgeFrom, IsBaseBy, IsComponentBy, IsGivenBy, HasEdges, AddsEdges, place_of, scope_of_instance}

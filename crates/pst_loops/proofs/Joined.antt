@@ -1,8 +1,8 @@
 -- Walks among numbers, and what leads to what.
 use Rattle.std.proofs.Common.{◌≡◌, ℕ, zero, suc, ◌<◌, ◌⊎◌, inl, inr, refl, ap, ◌∙◌, sym, subst, List, [], ◌∷◌, Some, length, arith}
 use Rattle.std.specs.Prelude.{slice_get}
-use Rattle.pst_scope.specs.declared.declaration.Declaration.{Declaration}
-use Rattle.pst_scope.specs.NameRules.{LeadsTo, Reaches, AtOnce, Through}
+use Rattle.pst_ast.specs.declared.scope_declaration.Declaration.{Declaration}
+use Rattle.pst_ast.specs.NameRules.{LeadsTo, Reaches, AtOnce, Through}
 use Rattle.pst_loops.specs.Graph.{Graph, HasEdge, IsWalk, HasWalk, AreEdges}
 use Rattle.pst_loops.specs.Numbers.{IsNumber, AreRows}
 

@@ -5,11 +5,11 @@ use Rattle.std.specs.List.{Contains}
 use Rattle.pst_base.specs.declared.position.Place.{Place}
 use Rattle.pst_base.specs.Places.{IsBefore}
 use Rattle.pst_base.specs.Laws.{OneIsBefore, BeforeGoesOn}
-use Rattle.pst_scope.specs.declared.declaration.Declaration.{Declaration}
-use Rattle.pst_scope.specs.declared.declaration.Scope.TheVariants.{Files}
-use Rattle.pst_scope.specs.declared.declaration.Sort.TheVariants.{Component}
-use Rattle.pst_scope.specs.declared.referent.Finding.{Finding}
-use Rattle.pst_scope.specs.NameRules.{Reaches}
+use Rattle.pst_ast.specs.declared.scope_declaration.Declaration.{Declaration}
+use Rattle.pst_ast.specs.declared.scope_declaration.Scope.TheVariants.{Files}
+use Rattle.pst_ast.specs.declared.scope_declaration.Sort.TheVariants.{Component}
+use Rattle.pst_ast.specs.declared.referent.Finding.{Finding}
+use Rattle.pst_ast.specs.NameRules.{Reaches}
 use Rattle.pst_loops.specs.First.{IsNotAfter, IsFirst, IsFirstOf, IsOnLoop, IsOnLoopWithin, IsFirstWithin, IsFirstOnLoop, IsEarlier, LeadsBack}
 
 -- the same of those that are the same

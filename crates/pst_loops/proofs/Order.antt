@@ -3,7 +3,7 @@ use Rattle.std.proofs.Common.{◌≡◌, ℕ, zero, suc, ◌+◌, ◌<◌, ◌�
 use Rattle.std.specs.Prelude.{slice_get}
 use Rattle.pst_base.specs.Laws.{NoneIsBeforeItself, BeforeGoesOn}
 use Rattle.pst_base.specs.Places.{IsBefore}
-use Rattle.pst_scope.specs.declared.declaration.Declaration.{Declaration}
+use Rattle.pst_ast.specs.declared.scope_declaration.Declaration.{Declaration}
 use Rattle.pst_loops.specs.Numbers.{IsNumber, AreInOrderTo}
 use Rattle.pst_loops.proofs.Joined.{there_within, some_is}
 use Rattle.pst_loops.proofs.OneMore.{below}

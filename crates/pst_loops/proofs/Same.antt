@@ -5,16 +5,16 @@ use Rattle.pst_base.specs.declared.position.Place.{Place}
 use Rattle.pst_ast.specs.declared.leaf.Name.{Name}
 use Rattle.pst_ast.specs.declared.shared.TypeName.{TypeName}
 use Rattle.pst_ast.specs.declared.shared.ScopedName.{ScopedName}
-use Rattle.pst_scope.specs.declared.declaration.Declaration.{Declaration}
-use Rattle.pst_scope.specs.declared.declaration.Scope.{Scope}
-use Rattle.pst_scope.specs.declared.declaration.Scope.TheVariants.{Files, Part}
-use Rattle.pst_scope.specs.declared.declaration.Sort.{Sort}
-use Rattle.pst_scope.specs.declared.declaration.Sort.TheVariants as sort
+use Rattle.pst_ast.specs.declared.scope_declaration.Declaration.{Declaration}
+use Rattle.pst_ast.specs.declared.scope_declaration.Scope.{Scope}
+use Rattle.pst_ast.specs.declared.scope_declaration.Scope.TheVariants.{Files, Part}
+use Rattle.pst_ast.specs.declared.scope_declaration.Sort.{Sort}
+use Rattle.pst_ast.specs.declared.scope_declaration.Sort.TheVariants as sort
 use Rattle.pst_base.specs.contracts.position.PlacePartialEq.TheImpl as place
 use Rattle.pst_ast.specs.contracts.leaf.NamePartialEq.TheImpl as name
-use Rattle.pst_scope.specs.contracts.declaration.ScopePartialEq.TheImpl as scope
-use Rattle.pst_scope.specs.contracts.declaration.SortPartialEq.TheImpl as sorts
-use Rattle.pst_scope.specs.contracts.declaration.DeclarationPartialEq.TheImpl as declaration
+use Rattle.pst_ast.specs.contracts.declaration.ScopePartialEq.TheImpl as scope
+use Rattle.pst_ast.specs.contracts.declaration.SortPartialEq.TheImpl as sorts
+use Rattle.pst_ast.specs.contracts.declaration.DeclarationPartialEq.TheImpl as declaration
 use Rattle.pst_ast.specs.contracts.shared.TypeNamePartialEq.TheImpl as type_name
 use Rattle.pst_ast.specs.contracts.shared.ScopedNamePartialEq.TheImpl as scoped
 use Rattle.pst_ast.specs.contracts.declaration.ObjectWordPartialEq.TheImpl as word

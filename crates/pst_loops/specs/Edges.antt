@@ -1,11 +1,11 @@
 -- Edges that are added to a graph, and those that declarations give.
 use Rattle.std.specs.Prelude.{ℕ, ◌≡◌, ◌<◌, ◌⊎◌, List, Option, Some, None, if◌then◌else◌, slice_get, length, IsTrue}
 use Rattle.pst_base.specs.declared.position.Place.{Place}
-use Rattle.pst_scope.specs.declared.declaration.Declaration.{Declaration}
-use Rattle.pst_scope.specs.declared.declaration.Scope.{Scope}
-use Rattle.pst_scope.specs.declared.declaration.Scope.TheVariants.{Files, Part}
-use Rattle.pst_scope.specs.Lookups.{base_of, type_of}
-use Rattle.pst_scope.specs.Sorts.{is_instance}
+use Rattle.pst_ast.specs.declared.scope_declaration.Declaration.{Declaration}
+use Rattle.pst_ast.specs.declared.scope_declaration.Scope.{Scope}
+use Rattle.pst_ast.specs.declared.scope_declaration.Scope.TheVariants.{Files, Part}
+use Rattle.pst_ast.specs.Lookups.{base_of, type_of}
+use Rattle.pst_ast.specs.Sorts.{is_instance}
 use Rattle.pst_loops.specs.Graph.{Graph, HasEdge}
 use Rattle.pst_loops.specs.Numbers.{IsNumber}
 

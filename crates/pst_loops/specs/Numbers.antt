@@ -2,8 +2,8 @@
 use Rattle.std.specs.Prelude.{ℕ, ◌≡◌, ◌<◌, List, Option, Some, None, slice_get, slice_index_or, length}
 use Rattle.pst_base.specs.declared.position.Place.{Place}
 use Rattle.pst_base.specs.Places.{IsBefore}
-use Rattle.pst_scope.specs.declared.declaration.Declaration.{Declaration}
-use Rattle.pst_scope.specs.NameRules.{LeadsTo}
+use Rattle.pst_ast.specs.declared.scope_declaration.Declaration.{Declaration}
+use Rattle.pst_ast.specs.NameRules.{LeadsTo}
 use Rattle.pst_loops.specs.Graph.{Graph, HasEdge}
 
 -- a declaration stands there for the first time (a list may have it more than once)

@@ -5,9 +5,9 @@ ghost use Rattle.pst_loops.specs.Graph.{HasEdge};
 ghost use Rattle.pst_loops.specs.Numbers.{AreInOrderTo, AreRows};
 
 use crate::numbers::{number_at, vertex_of};
+use pst_ast::{Declaration, Scope, Sort};
 use pst_base::{NoMemory, Place};
 use pst_index::Index;
-use pst_scope::{Declaration, Scope, Sort};
 use std::alloc::Global;
 
 // Rows without an edge.

@@ -8,9 +8,9 @@ use crate::apart::apart;
 use crate::edges::rows_of;
 use crate::numbers::{are_in_order, numbers_of};
 use crate::search::reaches;
+use pst_ast::{Declaration, Finding};
 use pst_base::{NoMemory, Place};
 use pst_index::Index;
-use pst_scope::{Declaration, Finding};
 use std::alloc::Global;
 
 // Whether a place is before that of what was found, or nothing was found.

@@ -2,8 +2,8 @@
 ghost use Rattle.std.specs.Prelude.{◌≡◌, ◌+◌, ◌<◌, ◌↔◌, length, IfOk, IsTrue};
 ghost use Rattle.pst_loops.specs.Numbers.{AreInOrderTo, AreNumbers, IsAtPlace, IsNumber, IsNumberOf};
 
+use pst_ast::Declaration;
 use pst_base::{NoMemory, Place};
-use pst_scope::Declaration;
 use std::alloc::Global;
 
 // Where the declaration at a place stands, in a list that is in order and has one there.

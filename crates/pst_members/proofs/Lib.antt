@@ -3,3 +3,7 @@ mod Linking
 mod Walking
 mod Tabled
 mod Rounds
+mod Arena
+mod Halves
+mod Kept
+mod Parting

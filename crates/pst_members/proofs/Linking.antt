@@ -8,10 +8,10 @@ use Rattle.std.proofs.lemmas.List.{take-append-le, length-append}
 use Rattle.std.proofs.lemmas.List.Folds.{find-append}
 use Rattle.std.proofs.lemmas.Option.{slice_get_within}
 use Rattle.pst_base.specs.declared.table.NameId.{NameId}
-use Rattle.pst_scope.specs.declared.declaration.Declaration.{Declaration}
-use Rattle.pst_scope.specs.declared.declaration.Scope.{Scope}
-use Rattle.pst_scope.specs.Sorts.{same_name, same_scope}
-use Rattle.pst_scope.specs.Lookups.{look_up}
+use Rattle.pst_ast.specs.declared.scope_declaration.Declaration.{Declaration}
+use Rattle.pst_ast.specs.declared.scope_declaration.Scope.{Scope}
+use Rattle.pst_ast.specs.Sorts.{same_name, same_scope}
+use Rattle.pst_ast.specs.Lookups.{look_up}
 use Rattle.pst_members.specs.declared.key.ScopeKey.{ScopeKey}
 use Rattle.pst_members.specs.Keys.{scope_key, same_key}
 use Rattle.pst_members.specs.Links.{up_to, IsLast, IsLinked, IsAdded}

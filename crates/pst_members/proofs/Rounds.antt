@@ -5,12 +5,12 @@ use Rattle.std.specs.Option.{option_or, option_and_then}
 use Rattle.std.proofs.lemmas.Bool.{cases_lt}
 use Rattle.std.proofs.lemmas.Option.{slice_get_within}
 use Rattle.pst_base.specs.declared.table.NameId.{NameId}
-use Rattle.pst_scope.specs.declared.declaration.Declaration.{Declaration}
-use Rattle.pst_scope.specs.declared.declaration.Scope.TheVariants.{Files, Part}
-use Rattle.pst_scope.specs.declared.declaration.Sort.TheVariants.{Component}
-use Rattle.pst_scope.specs.Lookups.{look_up, base_of, member_within}
-use Rattle.pst_versions.specs.declared.versions.Versions.{Versions}
-use Rattle.pst_versions.specs.Found.{Keeps, count, found}
+use Rattle.pst_ast.specs.declared.scope_declaration.Declaration.{Declaration}
+use Rattle.pst_ast.specs.declared.scope_declaration.Scope.TheVariants.{Files, Part}
+use Rattle.pst_ast.specs.declared.scope_declaration.Sort.TheVariants.{Component}
+use Rattle.pst_ast.specs.Lookups.{look_up, base_of, member_within}
+use Rattle.pst_members.specs.declared.versions.Versions.{Versions}
+use Rattle.pst_members.specs.Found.{Keeps, count, found}
 use Rattle.pst_members.specs.declared.tables.Table.{Table}
 use Rattle.pst_members.specs.Kept.{IsOver, IsTable}
 use Rattle.pst_members.specs.Rounds.{led, IsRound, before, IsCut}

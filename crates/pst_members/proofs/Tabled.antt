@@ -3,11 +3,11 @@ use Rattle.std.proofs.Common.{◌≡◌, ℕ, zero, suc, ◌<◌, List, length, 
 use Rattle.std.specs.Prelude.{slice_get}
 use Rattle.std.specs.Option.{option_or, option_and_then}
 use Rattle.pst_base.specs.declared.table.NameId.{NameId}
-use Rattle.pst_scope.specs.declared.declaration.Declaration.{Declaration}
-use Rattle.pst_scope.specs.declared.declaration.Scope.TheVariants.{Part}
-use Rattle.pst_scope.specs.Lookups.{look_up, base_of, member_of, member_within}
-use Rattle.pst_versions.specs.declared.versions.Versions.{Versions}
-use Rattle.pst_versions.specs.Found.{Keeps}
+use Rattle.pst_ast.specs.declared.scope_declaration.Declaration.{Declaration}
+use Rattle.pst_ast.specs.declared.scope_declaration.Scope.TheVariants.{Part}
+use Rattle.pst_ast.specs.Lookups.{look_up, base_of, member_of, member_within}
+use Rattle.pst_members.specs.declared.versions.Versions.{Versions}
+use Rattle.pst_members.specs.Found.{Keeps}
 use Rattle.pst_members.specs.declared.tables.Table.{Table}
 use Rattle.pst_members.specs.Kept.{finds, IsOver, IsStart, IsTable}
 

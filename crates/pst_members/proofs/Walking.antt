@@ -7,12 +7,12 @@ use Rattle.std.proofs.Math.Seq.{take-length}
 use Rattle.std.proofs.lemmas.List.{take_more}
 use Rattle.std.proofs.lemmas.Option.{slice_get_within, get_or_from_slice_get}
 use Rattle.pst_base.specs.declared.table.NameId.{NameId}
-use Rattle.pst_scope.specs.declared.declaration.Declaration.{Declaration}
-use Rattle.pst_scope.specs.declared.declaration.Scope.{Scope}
-use Rattle.pst_scope.specs.Sorts.{same_name, same_scope}
-use Rattle.pst_scope.specs.Lookups.{look_up}
-use Rattle.pst_versions.specs.declared.versions.Versions.{Versions}
-use Rattle.pst_versions.specs.Found.{found, count, Keeps, IsWith}
+use Rattle.pst_ast.specs.declared.scope_declaration.Declaration.{Declaration}
+use Rattle.pst_ast.specs.declared.scope_declaration.Scope.{Scope}
+use Rattle.pst_ast.specs.Sorts.{same_name, same_scope}
+use Rattle.pst_ast.specs.Lookups.{look_up}
+use Rattle.pst_members.specs.declared.versions.Versions.{Versions}
+use Rattle.pst_members.specs.Found.{found, count, Keeps, IsWith}
 use Rattle.pst_members.specs.declared.key.ScopeKey.{ScopeKey}
 use Rattle.pst_members.specs.Links.{up_to, IsLast, IsLinked}
 use Rattle.pst_members.specs.Kept.{finds, IsOver}

@@ -3,11 +3,11 @@ use Rattle.std.specs.Prelude.{◌≡◌, ℕ, ◌<◌, ◌≤◌, List, slice_ge
 use Rattle.std.specs.Option.{option_or, option_and_then}
 use Rattle.std.specs.HashMap.{get}
 use Rattle.pst_base.specs.declared.table.NameId.{NameId}
-use Rattle.pst_scope.specs.declared.declaration.Declaration.{Declaration}
-use Rattle.pst_scope.specs.declared.declaration.Scope.{Scope}
-use Rattle.pst_scope.specs.Lookups.{look_up, member_within}
-use Rattle.pst_versions.specs.declared.versions.Versions.{Versions}
-use Rattle.pst_versions.specs.Found.{found, count}
+use Rattle.pst_ast.specs.declared.scope_declaration.Declaration.{Declaration}
+use Rattle.pst_ast.specs.declared.scope_declaration.Scope.{Scope}
+use Rattle.pst_ast.specs.Lookups.{look_up, member_within}
+use Rattle.pst_members.specs.declared.versions.Versions.{Versions}
+use Rattle.pst_members.specs.Found.{found, count}
 use Rattle.pst_members.specs.declared.key.ScopeKey.{ScopeKey}
 use Rattle.pst_members.specs.declared.tables.Table.{Table}
 use Rattle.pst_members.specs.declared.tables.Tables.{Tables}

@@ -1,8 +1,8 @@
 -- Scopes as keys.
 use Rattle.std.specs.Prelude.{Bool, true, false, nat_eq, ◌&&◌}
 use Rattle.std.specs.Bool.{beq}
-use Rattle.pst_scope.specs.declared.declaration.Scope.{Scope}
-use Rattle.pst_scope.specs.declared.declaration.Scope.TheVariants.{Files, Part}
+use Rattle.pst_ast.specs.declared.scope_declaration.Scope.{Scope}
+use Rattle.pst_ast.specs.declared.scope_declaration.Scope.TheVariants.{Files, Part}
 use Rattle.pst_members.specs.declared.key.ScopeKey.{ScopeKey}
 
 abbrev pub scope_key : Scope → ScopeKey

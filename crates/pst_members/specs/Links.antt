@@ -2,9 +2,9 @@
 use Rattle.std.specs.Prelude.{◌≡◌, ℕ, ◌+◌, ◌≤◌, List, [], ◌∷◌, ◌++◌, length, slice_get, take, Option, Some, None, if◌then◌else◌}
 use Rattle.std.specs.Option.{option_map}
 use Rattle.pst_base.specs.declared.table.NameId.{NameId}
-use Rattle.pst_scope.specs.declared.declaration.Declaration.{Declaration}
-use Rattle.pst_scope.specs.declared.declaration.Scope.{Scope}
-use Rattle.pst_scope.specs.Lookups.{look_up}
+use Rattle.pst_ast.specs.declared.scope_declaration.Declaration.{Declaration}
+use Rattle.pst_ast.specs.declared.scope_declaration.Scope.{Scope}
+use Rattle.pst_ast.specs.Lookups.{look_up}
 use Rattle.pst_members.specs.declared.key.ScopeKey.{ScopeKey}
 use Rattle.pst_members.specs.Keys.{scope_key, same_key}
 

@@ -2,10 +2,10 @@
 use Rattle.std.specs.Prelude.{◌≡◌, ℕ, zero, suc, ◌-◌, ◌<◌, List, length, slice_get, Option, Some}
 use Rattle.std.specs.Option.{option_and_then}
 use Rattle.pst_base.specs.declared.table.NameId.{NameId}
-use Rattle.pst_scope.specs.declared.declaration.Declaration.{Declaration}
-use Rattle.pst_scope.specs.Lookups.{base_of, member_within}
-use Rattle.pst_versions.specs.declared.versions.Versions.{Versions}
-use Rattle.pst_versions.specs.Found.{count}
+use Rattle.pst_ast.specs.declared.scope_declaration.Declaration.{Declaration}
+use Rattle.pst_ast.specs.Lookups.{base_of, member_within}
+use Rattle.pst_members.specs.declared.versions.Versions.{Versions}
+use Rattle.pst_members.specs.Found.{count}
 use Rattle.pst_members.specs.Kept.{finds}
 
 -- the action to which so many steps along bases lead

@@ -2,7 +2,7 @@
 ghost use Rattle.std.specs.Prelude.{◌≡◌};
 ghost use Rattle.pst_members.specs.Keys;
 
-use pst_scope::Scope;
+use pst_ast::Scope;
 
 /// The scope of all files, or a place.
 #[derive(Clone, Copy, PartialEq, Eq, Hash)]

@@ -8,8 +8,8 @@ ghost use Rattle.pst_members.specs.Links.{IsAdded};
 ghost use Rattle.pst_members.specs.Kept.{AreLinked};
 
 use crate::key::{ScopeKey, scope_key};
+use pst_ast::{Declaration, Scope};
 use pst_base::NoMemory;
-use pst_scope::{Declaration, Scope};
 use std::alloc::Global;
 use std::collections::HashMap;
 

@@ -1,12 +1,11 @@
 //! An action's own members.
 ghost use Rattle.std.specs.Prelude.{◌≡◌, ◌<◌, IfOk, slice_get};
-ghost use Rattle.pst_versions.specs.Found.{Keeps, count};
+ghost use Rattle.pst_members.specs.Found.{Keeps, count};
 ghost use Rattle.pst_members.specs.Kept.{AreLinked, IsOver};
 
-use crate::Linked;
+use crate::{Linked, Versions};
+use pst_ast::{Declaration, Scope};
 use pst_base::NoMemory;
-use pst_scope::{Declaration, Scope};
-use pst_versions::Versions;
 
 /// The declaration at a position.
 pub fn member_at(declarations: &[Declaration], position: u32) -> Option<Declaration>

@@ -1,10 +1,9 @@
 //! Whether two declarations are one action.
 ghost use Rattle.std.specs.Prelude.{◌≡◌, ◌↔◌, IsTrue};
-ghost use Rattle.pst_scope.specs.Sorts.{is_action};
+ghost use Rattle.pst_ast.specs.Sorts.{is_action};
 
-use pst_ast::{Name, TypeName};
+use pst_ast::{Declaration, Name, Scope, Sort, TypeName};
 use pst_base::Place;
-use pst_scope::{Declaration, Scope, Sort};
 
 // Whether two places are one.
 fn is_same_place(a: Place, b: Place) -> bool

@@ -2,21 +2,20 @@
 ghost use Rattle.std.specs.Prelude.{◌≡◌, ◌+◌, ◌<◌, length, suc, List, IfOk, IfSome, OnOk, OnErr, Option, Some, if◌then◌else◌};
 ghost use Rattle.std.specs.HashMap.{get};
 ghost use Rattle.pst_base.specs.declared.table.NameId.{NameId};
-ghost use Rattle.pst_scope.specs.Lookups;
-ghost use Rattle.pst_scope.specs.declared.declaration.Declaration.{Declaration};
+ghost use Rattle.pst_ast.specs.Lookups;
+ghost use Rattle.pst_ast.specs.declared.scope_declaration.Declaration.{Declaration};
 ghost use Rattle.pst_members.specs.Keys;
 ghost use Rattle.pst_members.specs.Keys.{same_key};
 ghost use Rattle.pst_members.specs.Kept.{AreLinked, AreTables, IsStart, finds};
 ghost use Rattle.pst_members.specs.Rounds.{IsCut, IsRound, before};
-ghost use Rattle.pst_versions.specs.Found.{Keeps};
+ghost use Rattle.pst_members.specs.Found.{Keeps};
 
-use crate::Linked;
 use crate::key::{ScopeKey, scope_key};
 use crate::own::{member_at, put_members};
 use crate::same::is_same_action;
+use crate::{Linked, Versions};
+use pst_ast::{Declaration, Scope};
 use pst_base::{NameId, NoMemory};
-use pst_scope::{Declaration, Scope};
-use pst_versions::Versions;
 use std::alloc::Global;
 use std::collections::HashMap;
 

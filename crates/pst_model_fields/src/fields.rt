@@ -3,18 +3,17 @@ ghost use Rattle.std.specs.Prelude.{◌≡◌, ◌++◌, ◌∷◌, [], Some, If
 ghost use Rattle.std.specs.List.{flat_map};
 ghost use Rattle.pst_elab_rules.specs.Spans.{domain_at};
 ghost use Rattle.pst_elab_rules.specs.Types as tree;
-ghost use Rattle.pst_inherited.specs.Bases;
+ghost use Rattle.pst_tree.specs.Bases;
 ghost use Rattle.pst_terms.specs.Fields.{counted, size_of};
 ghost use Rattle.pst_terms.specs.Sources.{declared_in};
 ghost use Rattle.pst_type_rules.specs.Sites.{fields};
 ghost use Rattle.pst_sources.specs.Shown.{sources_of};
 
-use pst_ast::Name;
+use pst_ast::{Declaration, Name};
 use pst_base::NoMemory;
 use pst_expr::Domain;
 use pst_field_domains::FieldDomains;
 use pst_model::Field;
-use pst_scope::Declaration;
 use pst_sources::Known;
 use pst_type_members::MemberSort;
 use std::alloc::Global;

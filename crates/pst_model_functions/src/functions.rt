@@ -4,7 +4,7 @@ ghost use Rattle.std.specs.Option.{option_map};
 ghost use Rattle.pst_ast.specs.DeclarationView.{view_answer, view_function as view_function_node, view_next_parameter, view_parameters};
 ghost use Rattle.pst_elab_rules.specs.Types as tree;
 ghost use Rattle.pst_model.specs.ModelView.{view_function};
-ghost use Rattle.pst_scope.specs.Declarations.{next_parameter, parameters_of};
+ghost use Rattle.pst_ast.specs.Declarations.{next_parameter, parameters_of};
 ghost use Rattle.pst_sources.specs.Shown.{sources_of};
 ghost use Rattle.pst_type_rules.specs.Sites.{function_of};
 

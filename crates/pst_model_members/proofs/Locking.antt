@@ -9,11 +9,11 @@ use Rattle.pst_ast.specs.declared.shared.NextName.{NextName}
 use Rattle.pst_ast.specs.declared.shared.NamesNode.{NamesNode}
 use Rattle.pst_ast.specs.SharedView.{view_names}
 use Rattle.pst_ast.specs.DeclarationTree.{UnitTree}
-use Rattle.pst_scope.specs.Declarations.{names_of}
+use Rattle.pst_ast.specs.Declarations.{names_of}
 use Rattle.pst_places.specs.Numbers.{number_in, number_from}
-use Rattle.pst_scope.specs.Sorts.{same_place}
+use Rattle.pst_ast.specs.Sorts.{same_place}
 use Rattle.pst_model.specs.declared.action.Claim.{Claim}
-use Rattle.pst_scope.specs.declared.declaration.Declaration.{Declaration}
+use Rattle.pst_ast.specs.declared.scope_declaration.Declaration.{Declaration}
 use Rattle.pst_terms.specs.Sources.{Sources, declared_in}
 use Rattle.pst_type_rules.specs.Sites.{DeclaredAction, actions}
 use Rattle.pst_elab_rules.specs.Types.{claim, locked, locked_in, object_of}

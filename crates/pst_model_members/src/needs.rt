@@ -1,16 +1,16 @@
 //! References and claims.
 ghost use Rattle.std.specs.Prelude.{◌≡◌, ◌++◌, IfOk, OnOk, map};
 ghost use Rattle.pst_elab_rules.specs.Types as tree;
-ghost use Rattle.pst_inherited.specs.Bases;
+ghost use Rattle.pst_tree.specs.Bases;
 ghost use Rattle.pst_sources.specs.Shown.{sources_of};
 ghost use Rattle.pst_terms.specs.Sources.{declared_in};
 ghost use Rattle.pst_model_members.specs.Listed.{locked_names};
 
 use crate::locks::is_locked;
+use pst_ast::{Declaration, Sort};
 use pst_base::NoMemory;
 use pst_model::{Claim, Reference};
 use pst_places::PlaceList;
-use pst_scope::{Declaration, Sort};
 use pst_type_members::MemberSort;
 use pst_type_numbers::Numbered;
 

@@ -8,9 +8,9 @@ use Rattle.pst_bind.specs.Pools.{component_of, pools_at, pools_in}
 use Rattle.pst_elab_rules.specs.Model.{model_pool}
 use Rattle.pst_model.specs.declared.model.Pool.{Pool}
 use Rattle.pst_model_pools.specs.Rows.{row_pools}
-use Rattle.pst_scope.specs.declared.declaration.Declaration.{Declaration}
-use Rattle.pst_scope.specs.declared.declaration.Scope.TheVariants.{Part}
-use Rattle.pst_scope.specs.Sorts.{is_pool, same_scope}
+use Rattle.pst_ast.specs.declared.scope_declaration.Declaration.{Declaration}
+use Rattle.pst_ast.specs.declared.scope_declaration.Scope.TheVariants.{Part}
+use Rattle.pst_ast.specs.Sorts.{is_pool, same_scope}
 use Rattle.pst_terms.specs.Sources.{Sources}
 use Rattle.pst_type_rules.specs.Members.{own_members, those_that}
 

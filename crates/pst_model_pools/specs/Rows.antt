@@ -2,8 +2,8 @@
 use Rattle.std.specs.Prelude.{ℕ, List, map}
 use Rattle.pst_model.specs.declared.model.Pool.{Pool}
 use Rattle.pst_elab_rules.specs.Model.{model_pool}
-use Rattle.pst_scope.specs.declared.declaration.Declaration.{Declaration}
-use Rattle.pst_scope.specs.Sorts.{is_pool}
+use Rattle.pst_ast.specs.declared.scope_declaration.Declaration.{Declaration}
+use Rattle.pst_ast.specs.Sorts.{is_pool}
 use Rattle.pst_terms.specs.Sources.{Sources}
 use Rattle.pst_type_rules.specs.Members.{those_that}
 

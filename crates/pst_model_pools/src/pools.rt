@@ -8,13 +8,12 @@ ghost use Rattle.pst_model_pools.specs.Rows.{row_pools};
 ghost use Rattle.pst_sources.specs.Shown.{sources_of};
 ghost use Rattle.pst_terms.specs.Sources.{declared_in};
 
-use pst_ast::{Instance, SizeNode};
+use pst_ast::{Declaration, Instance, SizeNode, Sort};
 use pst_base::NoMemory;
 use pst_bind::component_of;
 use pst_declared_parts::PoolSites;
 use pst_model::Pool;
 use pst_model_members::object_of;
-use pst_scope::{Declaration, Sort};
 use pst_sources::Known;
 use pst_type_numbers::Numbered;
 

@@ -3,7 +3,7 @@ ghost use Rattle.std.specs.Prelude.{◌≡◌, ◌++◌, IfOk, OnOk, map};
 ghost use Rattle.std.specs.List.{flat_map};
 ghost use Rattle.pst_ast.specs.DeclarationView.{view_action_part};
 ghost use Rattle.pst_elab_rules.specs.Types as tree;
-ghost use Rattle.pst_inherited.specs.Bases;
+ghost use Rattle.pst_tree.specs.Bases;
 ghost use Rattle.pst_model.specs.ConstraintTree.{view_constraint};
 ghost use Rattle.pst_model_types.specs.Parts.{action_part, action_parts};
 ghost use Rattle.pst_path_readings.specs.Set.{view_setting};
@@ -11,15 +11,14 @@ ghost use Rattle.pst_sources.specs.Shown.{sources_of};
 ghost use Rattle.pst_terms.specs.Sources.{declared_in};
 
 use crate::setting::setting_of;
-use pst_ast::ActionPart;
+use pst_ast::{ActionPart, Declaration, Owner};
 use pst_base::{NameId, NoMemory};
 use pst_constraints::add_declared;
 use pst_index::Index;
-use pst_inherited::with_bases;
 use pst_model::Constraint;
 use pst_path_readings::Setting;
-use pst_scope::{Declaration, Owner};
 use pst_sources::Sources;
+use pst_tree::with_bases;
 
 // Adds the constraints that a part of an action is.
 fn add_part(

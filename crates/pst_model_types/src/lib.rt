@@ -1,11 +1,15 @@
 //! The object types of a model, and the constraints of action types.
+//!
+//! The action types of a model.
 #![tactic(auto)]
 
 mod action;
+mod actions;
 mod object;
 mod objects;
 mod setting;
 
 pub use action::{action_constraints, component_name};
+pub use actions::model_actions;
 pub use objects::model_objects;
 pub use setting::setting_of;

@@ -8,13 +8,12 @@ ghost use Rattle.pst_path_readings.specs.Set.{view_setting};
 ghost use Rattle.pst_sources.specs.Shown.{sources_of};
 
 use crate::setting::setting_of;
-use pst_ast::ObjectPart;
+use pst_ast::{Declaration, ObjectPart, Owner};
 use pst_base::NoMemory;
 use pst_constraints::add_declared;
 use pst_declared_parts::ObjectSites;
 use pst_model::Constraint;
 use pst_path_readings::Setting;
-use pst_scope::{Declaration, Owner};
 use pst_sources::Sources;
 
 // Adds the constraints that a part of an object is.

@@ -3,19 +3,18 @@ ghost use Rattle.std.specs.Prelude.{◌≡◌, ◌++◌, IfOk, OnOk, map};
 ghost use Rattle.pst_ast.specs.DeclarationView.{view_unit};
 ghost use Rattle.pst_elab_rules.specs.Types as tree;
 ghost use Rattle.pst_model.specs.ModelView.{view_object};
-ghost use Rattle.pst_scope.specs.Sorts.{is_object};
+ghost use Rattle.pst_ast.specs.Sorts.{is_object};
 ghost use Rattle.pst_sources.specs.Shown.{sources_of};
 ghost use Rattle.pst_type_rules.specs.Members.{those_that};
 ghost use Rattle.pst_type_rules.specs.Sites.{fields};
 
 use crate::object::object_constraints;
-use pst_ast::ObjectWord;
+use pst_ast::{Declaration, ObjectWord, Sort};
 use pst_base::NoMemory;
 use pst_declared_parts::ObjectSites;
 use pst_field_domains::FieldDomains;
 use pst_model::{ObjectKind, ObjectType};
 use pst_model_fields::model_fields;
-use pst_scope::{Declaration, Sort};
 use pst_sources::Sources;
 
 // The kind of an object type.

@@ -3,8 +3,8 @@ ghost use Rattle.std.specs.Prelude.{◌≡◌};
 ghost use Rattle.pst_elab_rules.specs.Types as tree;
 ghost use Rattle.pst_path_readings.specs.Set.{view_setting};
 
+use pst_ast::{Declaration, Environment, Inner, Owner};
 use pst_path_readings::Setting;
-use pst_scope::{Declaration, Environment, Inner, Owner};
 use std::alloc::Global;
 
 /// In the text of a type, outside of all repetitions and bodies.

@@ -6,7 +6,7 @@ use Rattle.std.proofs.lemmas.Bool.Decides.{eqb_tells}
 use Rattle.pst_base.specs.declared.position.Place.{Place}
 use Rattle.pst_base.specs.Places.{IsBefore}
 use Rattle.pst_base.specs.Laws.{BeforeGoesOn}
-use Rattle.pst_scope.specs.declared.referent.Finding.{Finding}
+use Rattle.pst_ast.specs.declared.referent.Finding.{Finding}
 use Rattle.pst_name_rules.specs.Earlier.{is_no_later, earlier}
 use Rattle.pst_name_rules.specs.Leasts.{NoLater, IsLeastOf, IsIn, least_at}
 

@@ -1,6 +1,6 @@
 -- The earlier of two breaches.
 use Rattle.std.specs.Prelude.{nat_eq, nat_lt, nat_le, Bool, if◌then◌else◌, Option, Some, None}
-use Rattle.pst_scope.specs.declared.referent.Finding.{Finding}
+use Rattle.pst_ast.specs.declared.referent.Finding.{Finding}
 
 -- at an earlier place, or at the same one by no greater rule
 abbrev pub is_no_later : Finding → Finding → Bool

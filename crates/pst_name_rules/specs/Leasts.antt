@@ -1,7 +1,7 @@
 -- The least of some findings.
 use Rattle.std.specs.Prelude.{◌≡◌, ◌⊎◌, List, [], ◌∷◌, Option, Some, None}
-use Rattle.pst_scope.specs.declared.referent.Finding.{Finding}
-use Rattle.pst_scope.specs.Breaches.{IsNoLater}
+use Rattle.pst_ast.specs.declared.referent.Finding.{Finding}
+use Rattle.pst_ast.specs.Breaches.{IsNoLater}
 use Rattle.pst_name_rules.specs.Earlier.{earlier}
 
 abbrev pub NoLater : Finding → Finding → Type 0

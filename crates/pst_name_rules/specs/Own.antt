@@ -1,9 +1,9 @@
 -- What declarations break, loops apart.
 use Rattle.std.specs.Prelude.{ℕ, Bool, ◌&&◌, ◌||◌, List, Option, None, if◌then◌else◌}
-use Rattle.pst_scope.specs.declared.declaration.Declaration.{Declaration}
-use Rattle.pst_scope.specs.declared.referent.Finding.{Finding}
-use Rattle.pst_scope.specs.Sorts.{is_object}
-use Rattle.pst_scope.specs.NameRules.{finding, is_so, is_declared_before, owner_of, is_in_base, is_word}
+use Rattle.pst_ast.specs.declared.scope_declaration.Declaration.{Declaration}
+use Rattle.pst_ast.specs.declared.referent.Finding.{Finding}
+use Rattle.pst_ast.specs.Sorts.{is_object}
+use Rattle.pst_ast.specs.NameRules.{finding, is_so, is_declared_before, owner_of, is_in_base, is_word}
 
 -- it is a word of objects, declared in one
 abbrev pub is_reserved : List Declaration → List (List ℕ) → Declaration → Bool

@@ -1,13 +1,12 @@
 //! What declarations break.
 ghost use Rattle.std.specs.Prelude.{◌≡◌};
 ghost use Rattle.std.specs.List.{list_any};
-ghost use Rattle.pst_scope.specs.NameRules;
+ghost use Rattle.pst_ast.specs.NameRules;
 ghost use Rattle.pst_name_rules.specs.Own.{own_finding, is_reserved};
 
+use pst_ast::{Declaration, Finding, Scope, Sort};
 use pst_base::{NameId, Names};
-use pst_index::Index;
-use pst_meaning::is_text;
-use pst_scope::{Declaration, Finding, Scope, Sort};
+use pst_index::{Index, is_text};
 
 // Whether the first declaration of its name in its scope is another.
 fn is_declared_before(index: &Index, declaration: &Declaration) -> bool

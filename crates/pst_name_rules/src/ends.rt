@@ -1,16 +1,14 @@
 //! What traversals, the ends of binds and assignments break.
 ghost use Rattle.std.specs.Prelude.{◌≡◌};
 ghost use Rattle.std.specs.Option.{option_or};
-ghost use Rattle.pst_scope.specs.NameRules;
-ghost use Rattle.pst_scope.specs.Sorts.{is_reference};
-ghost use Rattle.pst_scope.specs.Lookups;
+ghost use Rattle.pst_ast.specs.NameRules;
+ghost use Rattle.pst_ast.specs.Sorts.{is_reference};
+ghost use Rattle.pst_ast.specs.Lookups;
 
 use crate::types::unless;
-use pst_ast::Name;
+use pst_ast::{Declaration, Environment, Finding, Name, Referent, Sort};
 use pst_base::{NameId, Names};
-use pst_index::Index;
-use pst_meaning::{handled, is_ambiguous, stands_for};
-use pst_scope::{Declaration, Environment, Finding, Referent, Sort};
+use pst_index::{Index, handled, is_ambiguous, stands_for};
 
 // Whether a name stands for a handle.
 fn is_handle_name(index: &Index, names: &Names, at: &Environment, name: Name) -> bool

@@ -2,7 +2,7 @@
 ghost use Rattle.std.specs.Prelude.{◌≡◌};
 ghost use Rattle.pst_name_rules.specs.Earlier;
 
-use pst_scope::Finding;
+use pst_ast::Finding;
 
 // Whether a finding is at an earlier place than another, or at the same one by no greater rule.
 fn is_no_later(a: &Finding, b: &Finding) -> bool

@@ -1,13 +1,12 @@
 //! What pool binds break.
 ghost use Rattle.std.specs.Prelude.{◌≡◌, is_some};
-ghost use Rattle.pst_scope.specs.NameRules;
-ghost use Rattle.pst_scope.specs.Sorts.{is_action, is_instance, is_pool};
+ghost use Rattle.pst_ast.specs.NameRules;
+ghost use Rattle.pst_ast.specs.Sorts.{is_action, is_instance, is_pool};
 
 use crate::types::unless;
-use pst_ast::Name;
+use pst_ast::{Checked, Declaration, Finding, Name, Scope, Sort, Target};
 use pst_base::Place;
 use pst_index::Index;
-use pst_scope::{Checked, Declaration, Finding, Scope, Sort, Target};
 
 /// A pool that is declared in a component.
 pub fn pool_in(index: &Index, component: Place, name: Name) -> Option<Declaration>

@@ -1,16 +1,15 @@
 //! What the uses of type names, enum items and functions break.
 ghost use Rattle.std.specs.Prelude.{◌≡◌, is_some};
 ghost use Rattle.std.specs.Option.{option_or, option_and_then};
-ghost use Rattle.pst_scope.specs.NameRules;
-ghost use Rattle.pst_scope.specs.Sorts.{is_enum, is_item, is_function, is_action};
-ghost use Rattle.pst_scope.specs.Lookups.{type_here, base_of, second_of, if_sort};
-ghost use Rattle.pst_scope.specs.NameRules.{is_wanted};
+ghost use Rattle.pst_ast.specs.NameRules;
+ghost use Rattle.pst_ast.specs.Sorts.{is_enum, is_item, is_function, is_action};
+ghost use Rattle.pst_ast.specs.Lookups.{type_here, base_of, second_of, if_sort};
+ghost use Rattle.pst_ast.specs.NameRules.{is_wanted};
 ghost use Rattle.pst_walk_parts.specs.Shown.{view_wanted};
 
-use pst_ast::{Name, TypeName};
+use pst_ast::{Declaration, Finding, Name, Scope, Sort, TypeName};
 use pst_base::Place;
 use pst_index::Index;
-use pst_scope::{Declaration, Finding, Scope, Sort};
 use pst_walk_parts::Wanted;
 
 // Whether a sort is the one that is asked for.

@@ -8,11 +8,11 @@ use Rattle.pst_ast.specs.declared.expression.PartNode.{PartNode}
 use Rattle.pst_ast.specs.declared.expression.NextPart.{NextPart}
 use Rattle.pst_ast.specs.declared.expression.ExprNode.TheBlock.{hidden-the_row-NextPart-0}
 use Rattle.pst_ast.specs.ExpressionView.{view_path, view_part, view_next_part}
-use Rattle.pst_scope.specs.declared.declaration.Declaration.{Declaration}
-use Rattle.pst_scope.specs.declared.environment.Environment.{Environment}
-use Rattle.pst_scope.specs.declared.referent.PathPart.{PathPart}
-use Rattle.pst_scope.specs.Uses.{part_of}
-use Rattle.pst_constants.specs.Constants.{item_of_path, item_read}
+use Rattle.pst_ast.specs.declared.scope_declaration.Declaration.{Declaration}
+use Rattle.pst_ast.specs.declared.environment.Environment.{Environment}
+use Rattle.pst_ast.specs.declared.referent.PathPart.{PathPart}
+use Rattle.pst_ast.specs.Uses.{part_of}
+use Rattle.pst_type_rules.specs.Constants.{item_of_path, item_read}
 use Rattle.pst_walk_parts.specs.Shown.{dotted_part}
 use Rattle.pst_walk_parts.proofs.ExpressionRows.{names_row}
 

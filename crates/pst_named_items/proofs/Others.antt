@@ -7,9 +7,9 @@ use Rattle.pst_base.specs.declared.table.NameId.{NameId}
 use Rattle.pst_ast.specs.declared.leaf.Name.{Name}
 use Rattle.pst_ast.specs.declared.shared.DotName.{DotName}
 use Rattle.pst_ast.specs.SharedTree.{NamesTree, MakeNames}
-use Rattle.pst_scope.specs.declared.declaration.Declaration.{Declaration}
-use Rattle.pst_scope.specs.Declarations.{names_of}
-use Rattle.pst_scope.specs.Uses.{Joins, target_by}
+use Rattle.pst_ast.specs.declared.scope_declaration.Declaration.{Declaration}
+use Rattle.pst_ast.specs.Declarations.{names_of}
+use Rattle.pst_ast.specs.Uses.{Joins, target_by}
 use Rattle.pst_named_items.specs.Named.{Named, named}
 
 joins_stay : (ds : List Declaration) (names : List (List ℕ)) (labels : List NameId) (joined : List Name)

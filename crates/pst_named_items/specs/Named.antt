@@ -1,9 +1,9 @@
 -- Whether an expression names enum items alone.
 use Rattle.std.specs.Prelude.{ℕ, List, Bool, true, false, ◌&&◌, Option, is_some}
 use Rattle.std.specs.List.{fold}
-use Rattle.pst_scope.specs.declared.declaration.Declaration.{Declaration}
-use Rattle.pst_scope.specs.Uses.{Use}
-use Rattle.pst_constants.specs.Constants.{item_of_use}
+use Rattle.pst_ast.specs.declared.scope_declaration.Declaration.{Declaration}
+use Rattle.pst_ast.specs.Uses.{Use}
+use Rattle.pst_type_rules.specs.Constants.{item_of_use}
 
 -- what the sources declare and the texts of names, and whether the uses so far are items alone
 pub record Named : Type 0 where

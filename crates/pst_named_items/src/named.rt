@@ -1,17 +1,17 @@
 //! The enum items that paths name.
 ghost use Rattle.std.specs.Prelude.{◌≡◌, IfOk};
 ghost use Rattle.pst_ast.specs.ExpressionView.{view_path};
-ghost use Rattle.pst_scope.specs.Lookups.{if_sort};
-ghost use Rattle.pst_scope.specs.Paths;
-ghost use Rattle.pst_scope.specs.Sorts.{is_item};
-ghost use Rattle.pst_constants.specs.Constants;
+ghost use Rattle.pst_ast.specs.Lookups.{if_sort};
+ghost use Rattle.pst_ast.specs.Paths;
+ghost use Rattle.pst_ast.specs.Sorts.{is_item};
+ghost use Rattle.pst_type_rules.specs.Constants;
 
-use pst_ast::PathNode;
+use pst_ast::{
+    Checked, Declaration, Environment, PathNode, PathPart, PathReferent, Referent, Sort,
+};
 use pst_base::{Names, NoMemory};
-use pst_index::Index;
-use pst_meaning::{PathFor, read_path};
+use pst_index::{Index, PathFor, read_path};
 use pst_name_rules::item_by;
-use pst_scope::{Checked, Declaration, Environment, PathPart, PathReferent, Referent, Sort};
 use pst_walk_parts::path_parts::{part_of, parts_of};
 use std::alloc::Global;
 

@@ -1,19 +1,19 @@
 //! The enum items that an expression names, and whether it names nothing else.
 ghost use Rattle.std.specs.Prelude.{◌≡◌, true, false, IfOk, OnOk};
 ghost use Rattle.pst_ast.specs.ExpressionView.{view_expr};
-ghost use Rattle.pst_scope.specs.Uses.{expr_uses};
+ghost use Rattle.pst_ast.specs.Uses.{expr_uses};
 ghost use Rattle.pst_named_items.specs.Named.{are_items, named, with_found};
 
 use crate::named::item_read;
 use pst_ast::{
-    ArgumentsNode, ArmNode, DotName, EndNode, ExprNode, Name, NamesNode, NextExpr, NextPart,
-    OtherEnds, PartNode, PlainNode, StatementNode, TargetNode, TypeName, TypeNode,
+    ArgumentsNode, ArmNode, Declaration, DotName, EndNode, Environment, ExprNode, Name, NamesNode,
+    NextExpr, NextPart, OtherEnds, PartNode, PlainNode, StatementNode, TargetNode, Traversal,
+    TypeName, TypeNode,
 };
 use pst_base::{Names, NoMemory, Place};
 use pst_index::Index;
 use pst_name_rules::item_by;
 use pst_places::PlaceList;
-use pst_scope::{Declaration, Environment, Traversal};
 use pst_walk_parts::path_parts::{part_of, parts_of};
 use pst_walk_parts::show_expression::show_expr;
 use pst_walk_parts::{Role, Visitor, Wanted};

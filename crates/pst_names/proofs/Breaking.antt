@@ -4,11 +4,11 @@ use Rattle.std.specs.Prelude.{Some, None, if◌then◌else◌, Contains}
 use Rattle.pst_base.specs.declared.position.Place.{Place}
 use Rattle.pst_base.specs.Places.{IsBefore}
 use Rattle.pst_ast.specs.DeclarationTree.{UnitTree}
-use Rattle.pst_scope.specs.declared.declaration.Declaration.{Declaration}
-use Rattle.pst_scope.specs.declared.referent.Finding.{Finding}
-use Rattle.pst_scope.specs.Declarations.{declarations}
-use Rattle.pst_scope.specs.NameRules.{NameBreach, OfDeclaration, OfUse, NoRoot, DeclarationBreaks, Twice, Loops, Inherits, Reserved, finding, is_declared_before, is_in_base, finish_of, use_finding}
-use Rattle.pst_scope.specs.Uses.{uses}
+use Rattle.pst_ast.specs.declared.scope_declaration.Declaration.{Declaration}
+use Rattle.pst_ast.specs.declared.referent.Finding.{Finding}
+use Rattle.pst_ast.specs.Declarations.{declarations}
+use Rattle.pst_ast.specs.NameRules.{NameBreach, OfDeclaration, OfUse, NoRoot, DeclarationBreaks, Twice, Loops, Inherits, Reserved, finding, is_declared_before, is_in_base, finish_of, use_finding}
+use Rattle.pst_ast.specs.Uses.{uses}
 use Rattle.pst_loops.specs.First.{IsOnLoop, IsFirstOnLoop, IsNotAfter}
 use Rattle.pst_name_rules.specs.Own.{own_finding, is_reserved}
 use Rattle.pst_name_rules.specs.Leasts.{NoLater, IsLeastOf, IsIn}

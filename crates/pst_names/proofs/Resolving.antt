@@ -4,16 +4,16 @@ use Rattle.std.specs.Prelude.{Some, None, Contains}
 use Rattle.std.specs.List.{flat_map, list_any}
 use Rattle.pst_base.specs.Laws.{BeforeGoesOn}
 use Rattle.pst_ast.specs.DeclarationTree.{UnitTree}
-use Rattle.pst_scope.specs.declared.declaration.Declaration.{Declaration}
-use Rattle.pst_scope.specs.declared.entry.NameMeaning.{NameMeaning}
-use Rattle.pst_scope.specs.declared.entry.TypeEntry.{TypeEntry}
-use Rattle.pst_scope.specs.declared.referent.Finding.{Finding}
-use Rattle.pst_scope.specs.declared.referent.Meant.{Meant}
-use Rattle.pst_scope.specs.Breaches.{IsLeast, IsNone}
-use Rattle.pst_scope.specs.Declarations.{declarations}
-use Rattle.pst_scope.specs.NameRules.{NameBreach, is_root_component, use_finding}
-use Rattle.pst_scope.specs.Scopes.{AreScopes, IsMeaning, entries, use_meant}
-use Rattle.pst_scope.specs.Uses.{uses}
+use Rattle.pst_ast.specs.declared.scope_declaration.Declaration.{Declaration}
+use Rattle.pst_ast.specs.declared.entry.NameMeaning.{NameMeaning}
+use Rattle.pst_ast.specs.declared.entry.TypeEntry.{TypeEntry}
+use Rattle.pst_ast.specs.declared.referent.Finding.{Finding}
+use Rattle.pst_ast.specs.declared.referent.Meant.{Meant}
+use Rattle.pst_ast.specs.Breaches.{IsLeast, IsNone}
+use Rattle.pst_ast.specs.Declarations.{declarations}
+use Rattle.pst_ast.specs.NameRules.{NameBreach, is_root_component, use_finding}
+use Rattle.pst_ast.specs.Scopes.{AreScopes, IsMeaning, entries, use_meant}
+use Rattle.pst_ast.specs.Uses.{uses}
 use Rattle.pst_loops.specs.First.{IsFirstOnLoop}
 use Rattle.pst_numbers.specs.Meanings.{Means, AreMeanings}
 use Rattle.pst_name_rules.specs.Earlier.{earlier}

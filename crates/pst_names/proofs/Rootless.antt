@@ -7,9 +7,9 @@ use Rattle.std.proofs.lemmas.List.{length-append, length-map}
 use Rattle.pst_ast.specs.declared.declaration.Unit.{Unit}
 use Rattle.pst_ast.specs.DeclarationTree.{UnitTree}
 use Rattle.pst_ast.specs.DeclarationView.{view_unit}
-use Rattle.pst_scope.specs.declared.referent.Finding.{Finding}
-use Rattle.pst_scope.specs.Declarations.{declarations}
-use Rattle.pst_scope.specs.NameRules.{is_root_component, finish_of}
+use Rattle.pst_ast.specs.declared.referent.Finding.{Finding}
+use Rattle.pst_ast.specs.Declarations.{declarations}
+use Rattle.pst_ast.specs.NameRules.{is_root_component, finish_of}
 use Rattle.pst_name_rules.specs.Leasts.{IsLeastOf}
 use Rattle.pst_names.specs.Resolved.{IsRootless, last_finish, root_finding}
 use Rattle.pst_name_rules.proofs.Leasts.{same_some}

@@ -2,12 +2,12 @@
 use Rattle.std.proofs.Common.{◌≡◌, ◌++◌, ℕ, List, [], ◌∷◌, Option, sym, ap, ◌∙◌}
 use Rattle.std.specs.List.{fold, flat_map}
 use Rattle.std.proofs.lemmas.List.{append-nil, append_assoc}
-use Rattle.pst_scope.specs.declared.declaration.Declaration.{Declaration}
-use Rattle.pst_scope.specs.declared.referent.Finding.{Finding}
-use Rattle.pst_scope.specs.declared.referent.Meant.{Meant}
-use Rattle.pst_scope.specs.NameRules.{use_finding}
-use Rattle.pst_scope.specs.Scopes.{use_meant}
-use Rattle.pst_scope.specs.Uses.{Use}
+use Rattle.pst_ast.specs.declared.scope_declaration.Declaration.{Declaration}
+use Rattle.pst_ast.specs.declared.referent.Finding.{Finding}
+use Rattle.pst_ast.specs.declared.referent.Meant.{Meant}
+use Rattle.pst_ast.specs.NameRules.{use_finding}
+use Rattle.pst_ast.specs.Scopes.{use_meant}
+use Rattle.pst_ast.specs.Uses.{Use}
 use Rattle.pst_name_rules.specs.Earlier.{earlier}
 use Rattle.pst_names.specs.Judged.{Judged, judged}
 use Rattle.pst_name_rules.specs.Leasts.{least_at}

@@ -1,11 +1,11 @@
 -- What has been found of the uses that a walk has shown.
 use Rattle.std.specs.Prelude.{ℕ, List, ◌++◌, Option}
-use Rattle.pst_scope.specs.declared.declaration.Declaration.{Declaration}
-use Rattle.pst_scope.specs.declared.referent.Finding.{Finding}
-use Rattle.pst_scope.specs.declared.referent.Meant.{Meant}
-use Rattle.pst_scope.specs.Uses.{Use}
-use Rattle.pst_scope.specs.NameRules.{use_finding}
-use Rattle.pst_scope.specs.Scopes.{use_meant}
+use Rattle.pst_ast.specs.declared.scope_declaration.Declaration.{Declaration}
+use Rattle.pst_ast.specs.declared.referent.Finding.{Finding}
+use Rattle.pst_ast.specs.declared.referent.Meant.{Meant}
+use Rattle.pst_ast.specs.Uses.{Use}
+use Rattle.pst_ast.specs.NameRules.{use_finding}
+use Rattle.pst_ast.specs.Scopes.{use_meant}
 use Rattle.pst_name_rules.specs.Earlier.{earlier}
 
 -- what the sources declare and the texts of names, the least finding so far, and what the names so far stand for

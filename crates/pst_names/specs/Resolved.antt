@@ -3,16 +3,16 @@ use Rattle.std.specs.Prelude.{◌≡◌, ℕ, List, ◌∷◌, [], ◌++◌, ◌
 use Rattle.std.specs.Option.{option_map}
 use Rattle.std.specs.List.{list_any}
 use Rattle.pst_ast.specs.DeclarationTree.{UnitTree}
-use Rattle.pst_scope.specs.declared.referent.Checked.{Checked}
-use Rattle.pst_scope.specs.declared.referent.Checked.TheVariants.{Is, Breaks}
-use Rattle.pst_scope.specs.declared.referent.Finding.{Finding}
-use Rattle.pst_scope.specs.Breaches.{IsLeast, IsNone}
-use Rattle.pst_scope.specs.Declarations.{declarations}
-use Rattle.pst_scope.specs.NameRules.{NameBreach, is_root_component, finish_of}
-use Rattle.pst_scope.specs.Scopes.{AreScopes}
-use Rattle.pst_scope.specs.declared.entry.Scopes.{Scopes}
-use Rattle.pst_scope.specs.declared.entry.TypeEntry.{TypeEntry}
-use Rattle.pst_scope.specs.declared.entry.NameMeaning.{NameMeaning}
+use Rattle.pst_ast.specs.declared.referent.Checked.{Checked}
+use Rattle.pst_ast.specs.declared.referent.Checked.TheVariants.{Is, Breaks}
+use Rattle.pst_ast.specs.declared.referent.Finding.{Finding}
+use Rattle.pst_ast.specs.Breaches.{IsLeast, IsNone}
+use Rattle.pst_ast.specs.Declarations.{declarations}
+use Rattle.pst_ast.specs.NameRules.{NameBreach, is_root_component, finish_of}
+use Rattle.pst_ast.specs.Scopes.{AreScopes}
+use Rattle.pst_ast.specs.declared.entry.Scopes.{Scopes}
+use Rattle.pst_ast.specs.declared.entry.TypeEntry.{TypeEntry}
+use Rattle.pst_ast.specs.declared.entry.NameMeaning.{NameMeaning}
 use Rattle.pst_names.specs.declared.end.RuleEnd.{RuleEnd}
 use Rattle.pst_names.specs.declared.end.RuleEnd.TheVariants as rule_end
 

@@ -2,19 +2,18 @@
 ghost use Rattle.std.specs.Prelude.{◌≡◌, IfOk, None, map};
 ghost use Rattle.std.specs.List.{list_any};
 ghost use Rattle.pst_ast.specs.DeclarationView.{view_unit};
-ghost use Rattle.pst_scope.specs.Declarations.{declarations};
-ghost use Rattle.pst_scope.specs.NameRules.{is_root_component, use_finding};
-ghost use Rattle.pst_scope.specs.Uses.{uses};
+ghost use Rattle.pst_ast.specs.Declarations.{declarations};
+ghost use Rattle.pst_ast.specs.NameRules.{is_root_component, use_finding};
+ghost use Rattle.pst_ast.specs.Uses.{uses};
 ghost use Rattle.pst_name_rules.specs.Own.{own_finding as the_own};
 ghost use Rattle.pst_name_rules.specs.Leasts.{IsLeastOf, least_at};
 ghost use Rattle.pst_names.specs.Resolved.{IsBreach, root_finding as the_root};
 
-use pst_ast::Unit;
+use pst_ast::{Finding, Unit};
 use pst_base::{Names, NoMemory};
 use pst_index::Index;
 use pst_loops::first_on_loop;
 use pst_name_rules::{earlier, has_root, own_finding};
-use pst_scope::Finding;
 use std::alloc::Global;
 
 // The least of the findings at declarations, loops apart.

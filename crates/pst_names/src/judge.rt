@@ -1,13 +1,12 @@
 //! A visitor that judges each use of a name, and keeps what it stands for.
 ghost use Rattle.std.specs.Prelude.{◌≡◌, ◌++◌, [], None, OnOk};
-ghost use Rattle.pst_scope.specs.Scopes.{meant, meant_declared};
+ghost use Rattle.pst_ast.specs.Scopes.{meant, meant_declared};
 ghost use Rattle.pst_name_rules.specs.Earlier;
 
-use pst_ast::Name;
+use pst_ast::{Declaration, Finding, Meant, Name, Referent};
 use pst_base::{Names, NoMemory};
 use pst_index::Index;
 use pst_name_rules::earlier;
-use pst_scope::{Declaration, Finding, Meant, Referent};
 use std::alloc::Global;
 use std::marker::Model;
 

@@ -1,15 +1,15 @@
 //! Judging paths of names.
 ghost use Rattle.std.specs.Prelude.{◌≡◌, ◌++◌, ◌∷◌, [], OnOk, map};
-ghost use Rattle.pst_scope.specs.NameRules.{found};
-ghost use Rattle.pst_scope.specs.Paths.{read_path as the_path};
-ghost use Rattle.pst_scope.specs.Scopes.{meant_each, path_meant};
-ghost use Rattle.pst_meaning.specs.Fitting.{fits_of};
+ghost use Rattle.pst_ast.specs.NameRules.{found};
+ghost use Rattle.pst_ast.specs.Paths.{read_path as the_path};
+ghost use Rattle.pst_ast.specs.Scopes.{meant_each, path_meant};
+ghost use Rattle.pst_index.specs.Fitting.{fits_of};
 ghost use Rattle.pst_name_rules.specs.Earlier;
 
 use crate::judge::Judge;
+use pst_ast::{Checked, Environment, Finding, PathPart, PathReferent};
 use pst_base::NoMemory;
-use pst_meaning::{PathFor, read_path};
-use pst_scope::{Checked, Environment, Finding, PathPart, PathReferent};
+use pst_index::{PathFor, read_path};
 
 impl<'a> Judge<'a> {
     // Keeps what each name of a path stands for.

@@ -1,15 +1,14 @@
 //! Judging pool binds and their targets.
 ghost use Rattle.std.specs.Prelude.{◌≡◌, ◌++◌, OnOk, IfOk};
 ghost use Rattle.pst_ast.specs.DeclarationView.{view_target};
-ghost use Rattle.pst_scope.specs.Scopes.{along_meant, target_meant};
-ghost use Rattle.pst_scope.specs.Uses.{Binds, Targets, target_use};
+ghost use Rattle.pst_ast.specs.Scopes.{along_meant, target_meant};
+ghost use Rattle.pst_ast.specs.Uses.{Binds, Targets, target_use};
 ghost use Rattle.pst_names.specs.Judged.{judged};
 
 use crate::judge::Judge;
-use pst_ast::{Name, TargetNode};
+use pst_ast::{Checked, Declaration, Name, TargetNode};
 use pst_base::{NoMemory, Place};
 use pst_name_rules::{binds_finding, instance_within, pool_in, target_of, targets_finding};
-use pst_scope::{Checked, Declaration};
 use std::alloc::Global;
 
 /// A target, read from its end.

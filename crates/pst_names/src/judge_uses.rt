@@ -1,20 +1,20 @@
 //! The judge as a visitor.
 ghost use Rattle.std.specs.Prelude.{◌≡◌, ◌++◌, OnOk};
-ghost use Rattle.pst_scope.specs.Scopes.{component_meant, type_meant};
+ghost use Rattle.pst_ast.specs.Scopes.{component_meant, type_meant};
 ghost use Rattle.pst_names.specs.Judged.{judged};
 
 use crate::judge::Judge;
 use pst_ast::{
-    ArgumentsNode, ArmNode, DotName, EndNode, ExprNode, Name, NamesNode, NextExpr, NextPart,
-    OtherEnds, PartNode, PlainNode, StatementNode, TargetNode, TypeName, TypeNode,
+    ArgumentsNode, ArmNode, Declaration, DotName, EndNode, Environment, ExprNode, Name, NamesNode,
+    NextExpr, NextPart, OtherEnds, PartNode, PathPart, PlainNode, StatementNode, TargetNode,
+    Traversal, TypeName, TypeNode,
 };
 use pst_base::{NoMemory, Place};
-use pst_meaning::{PathFor, stands_for};
+use pst_index::{PathFor, stands_for};
 use pst_name_rules::{
     assigned_finding, base_finding, calls_finding, end_finding, end_named, enum_by, handle_finding,
     item_by, item_finding, type_finding,
 };
-use pst_scope::{Declaration, Environment, PathPart, Traversal};
 use pst_walk_parts::path_parts::{part_of, parts_of, plain_parts};
 use pst_walk_parts::{Role, Visitor, Wanted};
 

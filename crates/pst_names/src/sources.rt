@@ -2,22 +2,21 @@
 ghost use Rattle.std.specs.Prelude.{◌≡◌, IfErr, IfOk, None, map};
 ghost use Rattle.std.specs.List.{flat_map};
 ghost use Rattle.pst_ast.specs.DeclarationView.{view_unit};
-ghost use Rattle.pst_scope.specs.Declarations.{declarations as the_declarations};
-ghost use Rattle.pst_scope.specs.NameRules.{use_finding};
-ghost use Rattle.pst_scope.specs.Scopes.{use_meant};
-ghost use Rattle.pst_scope.specs.Uses.{uses};
+ghost use Rattle.pst_ast.specs.Declarations.{declarations as the_declarations};
+ghost use Rattle.pst_ast.specs.NameRules.{use_finding};
+ghost use Rattle.pst_ast.specs.Scopes.{use_meant};
+ghost use Rattle.pst_ast.specs.Uses.{uses};
 ghost use Rattle.pst_name_rules.specs.Leasts.{least_at};
 ghost use Rattle.pst_names.specs.Resolved.{AreResolved, IsJudged, IsUnresolved};
 
 use crate::breaches::least_breach;
 use crate::end::RuleEnd;
 use crate::judge::Judge;
-use pst_ast::Unit;
+use pst_ast::{Checked, Finding, Meant, Scopes, Unit};
 use pst_base::{Names, NoMemory};
 use pst_collect::declarations;
 use pst_index::Index;
 use pst_numbers::scopes;
-use pst_scope::{Checked, Finding, Meant, Scopes};
 use pst_walk::walk;
 use std::alloc::Global;
 

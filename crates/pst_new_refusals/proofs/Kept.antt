@@ -22,8 +22,8 @@ use Rattle.pst_legal.specs.Slots.{node_slot, act_slot, output_slot, resource_slo
 use Rattle.pst_legal.specs.Constraints.{HasConstraint, OfCompound, OfAct, OfOutput, OfClaim, OfFirst, Inline, IsActOfType, is_refused_at}
 use Rattle.pst_legal.specs.First.{NoneRefused}
 use Rattle.pst_built.proofs.Members.{In, in_get, none_any, to_left, to_right, to_map, to_flat_map, to_numbered}
-use Rattle.pst_statements.specs.Listed.{Stating, stating, action_constraints, object_constraints, of_fill, of_output, of_claim, of_act, of_first_object}
-use Rattle.pst_statements.proofs.Listed.{in_contains}
+use Rattle.pst_slots.specs.Listed.{Stating, stating, action_constraints, object_constraints, of_fill, of_output, of_claim, of_act, of_first_object}
+use Rattle.pst_slots.proofs.Listed.{in_contains}
 use Rattle.pst_refusals.specs.Failing.{fails}
 use Rattle.pst_new_refusals.specs.Far.{is_far, is_far_slot, has_far}
 use Rattle.pst_new_refusals.specs.Since.{IsUnread, IsFresh, IsSince}

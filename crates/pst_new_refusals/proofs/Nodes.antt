@@ -7,7 +7,7 @@ use Rattle.std.proofs.lemmas.Option.{same_Some}
 use Rattle.pst_model.specs.ModelTree.{ModelTree}
 use Rattle.pst_scen.specs.declared.tree.Node.{Node}
 use Rattle.pst_scen.specs.declared.scenario.Scenario.{Scenario}
-use Rattle.pst_statements.specs.Listed.{of_fill}
+use Rattle.pst_slots.specs.Listed.{of_fill}
 use Rattle.pst_refusals.specs.Failing.{fails}
 use Rattle.pst_new_refusals.specs.Newly.{AreFree}
 

@@ -8,7 +8,7 @@ use Rattle.pst_scen.specs.declared.act.Filled.{Filled}
 use Rattle.pst_scen.specs.declared.scenario.Scenario.{Scenario}
 use Rattle.pst_legal.specs.Types.{is_state_pool}
 use Rattle.pst_legal.specs.First.{NoneRefused}
-use Rattle.pst_statements.specs.Listed.{of_act, of_fill, of_first_object}
+use Rattle.pst_slots.specs.Listed.{of_act, of_fill, of_first_object}
 use Rattle.pst_refusals.specs.Failing.{fails}
 use Rattle.pst_new_refusals.specs.Since.{IsSince}
 

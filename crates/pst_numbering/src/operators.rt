@@ -1,6 +1,6 @@
 //! The operators of expressions.
 ghost use Rattle.std.specs.Prelude.{◌≡◌};
-ghost use Rattle.pst_constants.specs.Values.{binary_of, unary_of};
+ghost use Rattle.pst_type_rules.specs.Values.{binary_of, unary_of};
 
 use pst_ast::{Operator, PrefixOperator};
 use pst_expr::{BinaryOp, UnaryOp};

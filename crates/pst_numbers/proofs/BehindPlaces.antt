@@ -9,8 +9,8 @@ use Rattle.std.proofs.lemmas.Option.{get_or_from_slice_get}
 use Rattle.pst_base.specs.declared.position.Place.{Place}
 use Rattle.pst_base.specs.Places.{IsBefore}
 use Rattle.pst_base.specs.Laws.{BeforeGoesOn}
-use Rattle.pst_scope.specs.declared.entry.NameMeaning.{NameMeaning}
-use Rattle.pst_scope.specs.Scopes.{AreInOrder}
+use Rattle.pst_ast.specs.declared.entry.NameMeaning.{NameMeaning}
+use Rattle.pst_ast.specs.Scopes.{AreInOrder}
 
 goes_on : BeforeGoesOn
 goes_on = grind arith

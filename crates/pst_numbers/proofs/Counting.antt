@@ -8,9 +8,9 @@ use Rattle.std.proofs.lemmas.Bool.{eqb-true}
 use Rattle.std.proofs.lemmas.List.{length-append, append-nil}
 use Rattle.std.proofs.lemmas.List.Elements.{filter-append}
 use Rattle.pst_base.specs.declared.position.Place.{Place}
-use Rattle.pst_scope.specs.declared.declaration.Declaration.{Declaration}
-use Rattle.pst_scope.specs.Sorts.{same_place}
-use Rattle.pst_scope.specs.Scopes.{is_type, is_inside, names_in}
+use Rattle.pst_ast.specs.declared.scope_declaration.Declaration.{Declaration}
+use Rattle.pst_ast.specs.Sorts.{same_place}
+use Rattle.pst_ast.specs.Scopes.{is_type, is_inside, names_in}
 use Rattle.pst_numbers.specs.declared.keys.PlaceKey.{PlaceKey}
 use Rattle.pst_numbers.specs.declared.keys.MemberKey.{MemberKey}
 use Rattle.pst_numbers.specs.NumberKeys.{place_key, member_key}

@@ -7,10 +7,10 @@ use Rattle.std.proofs.lemmas.List.{append-nil, drop_more}
 use Rattle.std.proofs.lemmas.List.Elements.{Contains-append_right}
 use Rattle.std.proofs.lemmas.Option.{same_Some}
 use Rattle.pst_base.specs.declared.position.Place.{Place}
-use Rattle.pst_scope.specs.declared.declaration.Declaration.{Declaration}
-use Rattle.pst_scope.specs.declared.entry.NameMeaning.{NameMeaning}
-use Rattle.pst_scope.specs.declared.referent.Meant.{Meant}
-use Rattle.pst_scope.specs.Scopes.{AreInOrder, Numbers, numbers_of}
+use Rattle.pst_ast.specs.declared.scope_declaration.Declaration.{Declaration}
+use Rattle.pst_ast.specs.declared.entry.NameMeaning.{NameMeaning}
+use Rattle.pst_ast.specs.declared.referent.Meant.{Meant}
+use Rattle.pst_ast.specs.Scopes.{AreInOrder, Numbers, numbers_of}
 use Rattle.pst_numbers.specs.Meanings.{Means, AreMeanings, HaveSame, with_numbers, meaning_of, meanings_of}
 
 module _ {X : Type 0} where

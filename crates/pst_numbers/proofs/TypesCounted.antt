@@ -3,8 +3,8 @@ use Rattle.std.proofs.Common.{◌≡◌, ℕ, ◌+◌, ◌<◌, Bool, List, [], 
 use Rattle.std.specs.Prelude.{position}
 use Rattle.std.proofs.lemmas.List.{take_more, length-take-le}
 use Rattle.pst_base.specs.declared.position.Place.{Place}
-use Rattle.pst_scope.specs.declared.entry.TypeEntry.{TypeEntry}
-use Rattle.pst_scope.specs.Sorts.{same_place}
+use Rattle.pst_ast.specs.declared.entry.TypeEntry.{TypeEntry}
+use Rattle.pst_ast.specs.Sorts.{same_place}
 use Rattle.pst_numbers.specs.declared.keys.PlaceKey.{PlaceKey}
 use Rattle.pst_numbers.specs.NumberKeys.{place_key, same_place_key}
 use Rattle.pst_numbers.specs.Ranked.{or_new}

@@ -3,10 +3,10 @@ use Rattle.std.specs.Prelude.{◌≡◌, ◌↔◌, ◌⊎◌, List, Option, Som
 use Rattle.std.specs.List.{filter_map, Contains, AllAdjacentBelow}
 use Rattle.std.specs.Option.{option_map}
 use Rattle.pst_base.specs.Places.{IsBefore}
-use Rattle.pst_scope.specs.declared.declaration.Declaration.{Declaration}
-use Rattle.pst_scope.specs.declared.entry.NameMeaning.{NameMeaning}
-use Rattle.pst_scope.specs.declared.referent.Meant.{Meant}
-use Rattle.pst_scope.specs.Scopes.{AreInOrder, Numbers, numbers_of}
+use Rattle.pst_ast.specs.declared.scope_declaration.Declaration.{Declaration}
+use Rattle.pst_ast.specs.declared.entry.NameMeaning.{NameMeaning}
+use Rattle.pst_ast.specs.declared.referent.Meant.{Meant}
+use Rattle.pst_ast.specs.Scopes.{AreInOrder, Numbers, numbers_of}
 
 -- a name with what it stands for, as numbers
 abbrev pub Means : List Declaration → Meant → NameMeaning → Type 0

@@ -2,8 +2,8 @@
 use Rattle.std.specs.Prelude.{◌≡◌, List}
 use Rattle.std.specs.HashMap.{get}
 use Rattle.pst_base.specs.declared.position.Place.{Place}
-use Rattle.pst_scope.specs.declared.declaration.Declaration.{Declaration}
-use Rattle.pst_scope.specs.Scopes.{number_of}
+use Rattle.pst_ast.specs.declared.scope_declaration.Declaration.{Declaration}
+use Rattle.pst_ast.specs.Scopes.{number_of}
 use Rattle.pst_numbers.specs.declared.numbering.Numbers.{Numbers}
 use Rattle.pst_numbers.specs.NumberKeys.{place_key, same_place_key, same_member_key}
 use Rattle.pst_numbers.specs.Ranked.{HasRanks}

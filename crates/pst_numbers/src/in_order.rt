@@ -1,11 +1,11 @@
 //! Meanings in order of place.
 ghost use Rattle.std.specs.Prelude.{◌++◌, ◌∷◌, [], IfOk, OnOk, IsTrue};
 ghost use Rattle.std.specs.List.Sorted.{IsPermutation};
-ghost use Rattle.pst_scope.specs.Scopes.{AreInOrder};
+ghost use Rattle.pst_ast.specs.Scopes.{AreInOrder};
 ghost use Rattle.pst_numbers.specs.Meanings.{AreSorted, HasOneMore, HaveSame};
 
+use pst_ast::NameMeaning;
 use pst_base::NoMemory;
-use pst_scope::NameMeaning;
 use std::alloc::Global;
 
 // Sorts meanings by their places.

@@ -1,11 +1,11 @@
 //! The types and functions in order of declaration.
 ghost use Rattle.std.specs.Prelude.{◌≡◌, IfOk, Some, None};
 ghost use Rattle.std.specs.Option.{option_map, option_and_then};
-ghost use Rattle.pst_scope.specs.Scopes;
+ghost use Rattle.pst_ast.specs.Scopes;
 
+use pst_ast::{Declaration, Sort, TypeEntry, TypeSort};
 use pst_base::{NameId, NoMemory, Place};
 use pst_index::Index;
-use pst_scope::{Declaration, Sort, TypeEntry, TypeSort};
 use std::alloc::Global;
 
 /// The sort of a type or function; none of anything else.

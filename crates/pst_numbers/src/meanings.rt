@@ -1,16 +1,16 @@
 //! What the names of a list mean, as numbers.
 ghost use Rattle.std.specs.Prelude.{◌≡◌, List, IfOk};
-ghost use Rattle.pst_scope.specs.declared.declaration.Declaration.{Declaration};
-ghost use Rattle.pst_scope.specs.Scopes.{entries as entries_in};
+ghost use Rattle.pst_ast.specs.declared.scope_declaration.Declaration.{Declaration};
+ghost use Rattle.pst_ast.specs.Scopes.{entries as entries_in};
 ghost use Rattle.pst_numbers.specs.Meanings.{AreMeanings, meaning_of as meaning_in, meanings_of as meanings_in};
 ghost use Rattle.pst_numbers.specs.Numbered.{AreNumbers};
 
 use crate::in_order::in_order;
 use crate::listed::entries;
 use crate::numbering::Numbers;
+use pst_ast::{Meant, NameMeaning, Scopes};
 use pst_base::{Items, NoMemory};
 use pst_index::Index;
-use pst_scope::{Meant, NameMeaning, Scopes};
 use std::alloc::Global;
 
 // What a name means; none where what it stands for has no numbers.

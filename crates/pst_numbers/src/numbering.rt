@@ -1,9 +1,9 @@
 //! What is declared, as numbers.
 ghost use Rattle.std.specs.Prelude.{◌≡◌, List, Some, IfOk, OnOk, position};
 ghost use Rattle.std.specs.HashMap.{get};
-ghost use Rattle.pst_scope.specs.declared.declaration.Declaration.{Declaration};
-ghost use Rattle.pst_scope.specs.Scopes;
-ghost use Rattle.pst_scope.specs.Sorts.{same_place};
+ghost use Rattle.pst_ast.specs.declared.scope_declaration.Declaration.{Declaration};
+ghost use Rattle.pst_ast.specs.Scopes;
+ghost use Rattle.pst_ast.specs.Sorts.{same_place};
 ghost use Rattle.pst_numbers.specs.NumberKeys.{place_key as key_of, same_place_key};
 ghost use Rattle.pst_numbers.specs.Numbered.{AreNumbers};
 ghost use Rattle.pst_numbers.specs.Ranked.{or_new};
@@ -11,8 +11,8 @@ ghost use Rattle.pst_numbers.specs.Ranked.{or_new};
 use crate::keys::{MemberKey, PlaceKey, member_key, place_key};
 use crate::listed::sort_of;
 use crate::ranking::ranks;
+use pst_ast::{Declaration, Referent, TypeEntry};
 use pst_base::{NoMemory, Place};
-use pst_scope::{Declaration, Referent, TypeEntry};
 use std::alloc::Global;
 use std::collections::HashMap;
 

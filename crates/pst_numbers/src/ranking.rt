@@ -6,8 +6,8 @@ ghost use Rattle.pst_numbers.specs.Ranked.{HasRanks, IsCounted, IsRanked, counts
 
 use crate::keys::{MemberKey, PlaceKey, member_key, place_key};
 use crate::listed::sort_of;
+use pst_ast::Declaration;
 use pst_base::{NoMemory, Place};
-use pst_scope::Declaration;
 use std::alloc::Global;
 use std::collections::HashMap;
 

@@ -15,11 +15,11 @@ use Rattle.pst_legal.specs.ValueReading.{Whole, read}
 use Rattle.pst_legal.specs.First.{ReadsLegal}
 use Rattle.pst_legal.specs.Legal.{Legal}
 use Rattle.pst_order.specs.Laws.{WholeHasNoCycle, MustKeepsGroups}
-use Rattle.pst_order_stays.specs.GoesOn.{GoesOn}
-use Rattle.pst_order_stays.specs.SoFar.{HasRead}
-use Rattle.pst_order_stays.specs.Laws.{OrderStays, OrdersStay}
-use Rattle.pst_order_stays.proofs.Longer.{longer_go_on}
-use Rattle.pst_order_stays.proofs.Stays.{refers_on}
+use Rattle.pst_built.specs.GoesOn.{GoesOn}
+use Rattle.pst_built.specs.SoFar.{HasRead}
+use Rattle.pst_built.specs.OrderStaysLaws.{OrderStays, OrdersStay}
+use Rattle.pst_built.proofs.OrderStaysLonger.{longer_go_on}
+use Rattle.pst_built.proofs.Stays.{refers_on}
 use Rattle.pst_order_ahead.specs.Ahead.{Takes, MustAhead, Directly, Grouped, Through, AfterFirst, BeforeSource, AfterTaker}
 use Rattle.pst_order_ahead.specs.Laws.{MustAheadComes}
 use Rattle.pst_order_ahead.proofs.Chain.{takes_first, takes_next}

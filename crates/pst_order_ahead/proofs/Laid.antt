@@ -14,8 +14,8 @@ use Rattle.pst_legal.specs.Growing.{nothing_yet, open_act, most_acts, most_nodes
 use Rattle.pst_legal.specs.Reading.{Reading, Wants, Stops, Reads, then_read, read_tree}
 use Rattle.pst_legal.specs.SupplyReading.{Spot, Source, Initially, From, New, sources, inferred, may_infer, put_link, linked_to, supplied_by, read_supply}
 use Rattle.pst_legal.specs.ValueReading.{answer_of, read_values}
-use Rattle.pst_longer.proofs.Goes.{Stands, stands}
-use Rattle.pst_longer.proofs.Readers.{goes_supply}
+use Rattle.pst_built.proofs.Goes.{Stands, stands}
+use Rattle.pst_built.proofs.Readers.{goes_supply}
 use Rattle.pst_built.proofs.Bares.{node_in, nodes_in, nodes_put}
 use Rattle.pst_built.proofs.Parents.{parents, InOrder, in_preorder, is_preorder}
 use Rattle.pst_built.proofs.Members.{in_get}
@@ -25,8 +25,8 @@ use Rattle.pst_built.proofs.Trees.{IsGrowth, tree_grows}
 use Rattle.pst_built.proofs.Supply.{same_length}
 use Rattle.pst_built.proofs.Values.{IsSameOrder}
 use Rattle.pst_built.proofs.Built.{leaf_at}
-use Rattle.pst_order_stays.specs.SoFar.{HasRead}
-use Rattle.pst_read_fits.proofs.Filled.{gives_here}
+use Rattle.pst_built.specs.SoFar.{HasRead}
+use Rattle.pst_built.proofs.Filled.{gives_here}
 use Rattle.pst_read_slots.proofs.Same.{values_same}
 use Rattle.pst_order_ahead.specs.LaidOut.{IsLaidOut}
 use Rattle.pst_order_ahead.specs.Laws.{TreesAreLaidOut}

@@ -14,9 +14,9 @@ use Rattle.pst_legal.specs.ValueReading.{read}
 use Rattle.pst_legal.specs.First.{ReadsLegal}
 use Rattle.pst_legal.specs.Legal.{Legal}
 use Rattle.pst_built.proofs.Spots.{at_act}
-use Rattle.pst_reached.proofs.Lists.{get_below}
-use Rattle.pst_order_stays.specs.SoFar.{HasRead}
-use Rattle.pst_order_stays.specs.Laws.{IsBarren, OrderStays, OrdersStay, GroupClashesStay}
+use Rattle.pst_built.proofs.Lists.{get_below}
+use Rattle.pst_built.specs.SoFar.{HasRead}
+use Rattle.pst_built.specs.OrderStaysLaws.{IsBarren, OrderStays, OrdersStay, GroupClashesStay}
 use Rattle.pst_order_ahead.specs.Ahead.{IsRefusedAhead, Cycle, GroupClash, ParallelOrder, ParallelClash}
 use Rattle.pst_order_ahead.specs.Laws.{MustAheadComes, RefusalsAheadStay}
 use Rattle.pst_order_ahead.proofs.Chain.{users_ordered}

@@ -8,7 +8,7 @@ use Rattle.pst_scen.specs.Flows.{Reads, Writes}
 use Rattle.pst_scen.specs.Order.{Together}
 use Rattle.pst_scen.specs.Conflicts.{Conflict}
 use Rattle.pst_scen.specs.Plans.{StandParallel}
-use Rattle.pst_order_stays.specs.SoFar.{DirectSoFar}
+use Rattle.pst_built.specs.SoFar.{DirectSoFar}
 
 -- a reads or replaces the object of the state pool that the link names
 abbrev pub Takes : Scenario → ℕ → ℕ → Link → Type 0

@@ -5,8 +5,8 @@ use Rattle.pst_scen.specs.declared.scenario.Scenario.{Scenario}
 use Rattle.pst_scen.specs.Order.{Must}
 use Rattle.pst_legal.specs.ValueReading.{read}
 use Rattle.pst_legal.specs.First.{ReadsLegal}
-use Rattle.pst_order_stays.specs.SoFar.{HasRead}
-use Rattle.pst_order_stays.specs.Laws.{IsBarren}
+use Rattle.pst_built.specs.SoFar.{HasRead}
+use Rattle.pst_built.specs.OrderStaysLaws.{IsBarren}
 use Rattle.pst_order_ahead.specs.LaidOut.{IsLaidOut, ReadsTree}
 use Rattle.pst_order_ahead.specs.Ahead.{MustAhead, IsRefusedAhead}
 

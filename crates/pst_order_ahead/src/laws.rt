@@ -1,8 +1,8 @@
 //! Laws of the order ahead of links.
 ghost use Rattle.pst_order_ahead.specs.Laws.{TreesAreLaidOut, MustAheadComes, RefusalsAheadStay};
 
+use pst_built::{clashes_stay, orders_stay};
 use pst_order::{must_keeps_groups, whole_is_sound};
-use pst_order_stays::{clashes_stay, orders_stay};
 
 /// Once a list of choices has read the activity, what it has read is laid out: its nodes stand in preorder, the
 /// actions of its leaves come first and in the order of the leaves, and its numbers have 31 bits.

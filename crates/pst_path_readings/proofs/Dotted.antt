@@ -9,8 +9,8 @@ use Rattle.pst_ast.specs.declared.expression.NextPart.{NextPart}
 use Rattle.pst_ast.specs.declared.expression.ExprNode.TheBlock.{hidden-the_row-NextPart-0}
 use Rattle.pst_ast.specs.ExpressionView.{view_path, view_part, view_next_part}
 use Rattle.pst_model.specs.ConstraintTree.{SlotTree}
-use Rattle.pst_scope.specs.declared.referent.PathPart.{PathPart}
-use Rattle.pst_scope.specs.Uses.{part_of}
+use Rattle.pst_ast.specs.declared.referent.PathPart.{PathPart}
+use Rattle.pst_ast.specs.Uses.{part_of}
 use Rattle.pst_terms.specs.Sources.{Sources}
 use Rattle.pst_terms.specs.Terms.{Reading}
 use Rattle.pst_terms.specs.Readings.{Setting, reading_of, dotted_reading}

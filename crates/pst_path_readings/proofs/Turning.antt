@@ -4,7 +4,7 @@ use Rattle.std.specs.Prelude.{reverse, Option, Some, None, if◌then◌else◌}
 use Rattle.std.specs.List.{find}
 use Rattle.pst_base.specs.declared.position.Place.{Place}
 use Rattle.pst_model.specs.ConstraintTree.{SlotTree}
-use Rattle.pst_scope.specs.Sorts.{same_place}
+use Rattle.pst_ast.specs.Sorts.{same_place}
 use Rattle.pst_terms.specs.Terms.{Reading}
 use Rattle.pst_terms.specs.Readings as tree
 use Rattle.pst_path_readings.specs.declared.setting.Turn.{Turn}

@@ -1,10 +1,10 @@
 -- Names behind references and claims.
 use Rattle.std.specs.Prelude.{ℕ}
 use Rattle.pst_model.specs.ConstraintTree.{SlotTree, First, ClaimId, Prev}
-use Rattle.pst_scope.specs.declared.declaration.Declaration.{Declaration}
-use Rattle.pst_scope.specs.declared.referent.Referent.{Referent}
-use Rattle.pst_scope.specs.declared.referent.Referent.TheVariants.{Declared, Initial, Number}
-use Rattle.pst_inherited.specs.Bases.{number_in, members_that}
+use Rattle.pst_ast.specs.declared.scope_declaration.Declaration.{Declaration}
+use Rattle.pst_ast.specs.declared.referent.Referent.{Referent}
+use Rattle.pst_ast.specs.declared.referent.Referent.TheVariants.{Declared, Initial, Number}
+use Rattle.pst_tree.specs.Bases.{number_in, members_that}
 use Rattle.pst_terms.specs.Sources.{Sources, declared_in}
 use Rattle.pst_terms.specs.Terms.{Reading, AThing}
 use Rattle.pst_terms.specs.Readings.{typed_field, field_reading, nothing}

@@ -5,7 +5,7 @@ use Rattle.pst_terms.specs.Terms.{Reading, ANumber, AThing}
 use Rattle.std.specs.List.{find}
 use Rattle.std.specs.Option.{option_map}
 use Rattle.pst_base.specs.declared.position.Place.{Place}
-use Rattle.pst_scope.specs.Sorts.{same_place}
+use Rattle.pst_ast.specs.Sorts.{same_place}
 use Rattle.pst_terms.specs.Readings as tree
 use Rattle.pst_path_readings.specs.declared.setting.Turn.{Turn}
 use Rattle.pst_path_readings.specs.declared.setting.Turn.TheVariants as turn

@@ -1,8 +1,8 @@
 //! Names behind dots.
 ghost use Rattle.std.specs.Prelude.{◌≡◌, ◌∷◌, [], Some, None, IfOk};
 ghost use Rattle.pst_numbering.specs.Kept.{view_reading};
-ghost use Rattle.pst_scope.specs.declared.referent.Referent.TheVariants as the_referent;
-ghost use Rattle.pst_scope.specs.Sorts;
+ghost use Rattle.pst_ast.specs.declared.referent.Referent.TheVariants as the_referent;
+ghost use Rattle.pst_ast.specs.Sorts;
 ghost use Rattle.pst_terms.specs.Readings as tree;
 ghost use Rattle.pst_path_readings.specs.Behind.{claim_reading as of_claim, member_number, reference_reading as of_reference, replaced_reading as of_replaced};
 ghost use Rattle.pst_path_readings.specs.Wrapped.{wrapped};
@@ -10,9 +10,9 @@ ghost use Rattle.pst_sources.specs.Shown.{sources_of};
 
 use crate::fields::{FieldOf, field_reading, typed_field};
 use crate::wrap::{Wrap, nothing};
+use pst_ast::{Declaration, Referent, Sort};
 use pst_base::NoMemory;
 use pst_numbering::{OwnSlot, PathReading};
-use pst_scope::{Declaration, Referent, Sort};
 use pst_sources::Sources;
 use pst_type_members::MemberSort;
 

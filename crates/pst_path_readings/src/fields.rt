@@ -7,9 +7,9 @@ ghost use Rattle.pst_path_readings.specs.Wrapped.{own_of, slot_of, wrapped};
 ghost use Rattle.pst_sources.specs.Shown.{sources_of};
 
 use crate::wrap::{Wrap, nothing};
+use pst_ast::Declaration;
 use pst_base::NoMemory;
 use pst_numbering::{KeptSlot, OwnSlot, PathReading};
-use pst_scope::Declaration;
 use pst_sources::Sources;
 
 /// What a field is one of.

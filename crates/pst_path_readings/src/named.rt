@@ -1,7 +1,7 @@
 //! Names without dots.
 ghost use Rattle.std.specs.Prelude.{◌≡◌, IfOk};
 ghost use Rattle.pst_model.specs.ConstraintTree.{Local};
-ghost use Rattle.pst_inherited.specs.Bases;
+ghost use Rattle.pst_tree.specs.Bases;
 ghost use Rattle.pst_numbering.specs.Kept.{view_reading};
 ghost use Rattle.pst_terms.specs.Readings as tree;
 ghost use Rattle.pst_terms.specs.Terms.{AThing};
@@ -12,9 +12,9 @@ ghost use Rattle.pst_sources.specs.Shown.{sources_of};
 use crate::fields::{FieldOf, field_reading};
 use crate::setting::{Setting, Turn};
 use crate::wrap::{Wrap, nothing};
+use pst_ast::{Declaration, Referent, Sort};
 use pst_base::NoMemory;
 use pst_numbering::{OwnSlot, PathReading};
-use pst_scope::{Declaration, Referent, Sort};
 use pst_sources::Sources;
 use pst_type_members::number_in;
 

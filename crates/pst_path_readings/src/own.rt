@@ -1,7 +1,7 @@
 //! Paths in constraints of actions and objects.
 ghost use Rattle.std.specs.Prelude.{◌≡◌, None, IfOk, is_some, not, ◌&&◌};
 ghost use Rattle.pst_numbering.specs.Kept.{view_reading};
-ghost use Rattle.pst_scope.specs.Lookups;
+ghost use Rattle.pst_ast.specs.Lookups;
 ghost use Rattle.pst_terms.specs.Readings as tree;
 ghost use Rattle.pst_terms.specs.Sources.{declared_in};
 ghost use Rattle.pst_path_readings.specs.Set.{view_setting};
@@ -12,11 +12,10 @@ use crate::behind::behind_reading;
 use crate::named::name_reading;
 use crate::setting::Setting;
 use crate::wrap::{Wrap, nothing};
-use pst_ast::Name;
+use pst_ast::{Checked, Declaration, Name, Owner, PathReferent, Referent, Sort};
 use pst_base::NoMemory;
-use pst_meaning::{stands_for, traversed, traversed_member};
+use pst_index::{stands_for, traversed, traversed_member};
 use pst_numbering::PathReading;
-use pst_scope::{Checked, Declaration, Owner, PathReferent, Referent, Sort};
 use pst_sources::Sources;
 
 // A path in the text of an action or object.

@@ -9,12 +9,11 @@ ghost use Rattle.pst_sources.specs.Shown.{sources_of};
 use crate::named::item_reading;
 use crate::own::checked_reading;
 use crate::setting::Setting;
-use pst_ast::PathNode;
+use pst_ast::{PathNode, PathPart};
 use pst_base::NoMemory;
-use pst_meaning::{PathFor, read_path};
+use pst_index::{PathFor, read_path};
 use pst_name_rules::item_by;
 use pst_numbering::{PathReader, PathReading};
-use pst_scope::PathPart;
 use pst_sources::Sources;
 use pst_walk_parts::path_parts::{part_of, parts_of};
 

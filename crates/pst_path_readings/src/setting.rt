@@ -2,8 +2,8 @@
 ghost use Rattle.std.specs.Prelude.{◌≡◌, reverse};
 ghost use Rattle.pst_path_readings.specs.Set.{turn_found};
 
+use pst_ast::{Declaration, Environment};
 use pst_base::Place;
-use pst_scope::{Declaration, Environment};
 
 /// What an index stands for.
 #[derive(Clone, Copy, Debug, PartialEq, Eq)]

@@ -3,7 +3,7 @@ use Rattle.std.specs.Prelude.{◌≡◌, ℕ, suc, Bool, nat_eq, ◌&&◌, List,
 use Rattle.std.specs.Option.{option_or}
 use Rattle.std.specs.HashMap.{HashMap, get}
 use Rattle.pst_base.specs.declared.position.Place.{Place}
-use Rattle.pst_scope.specs.Sorts.{same_place}
+use Rattle.pst_ast.specs.Sorts.{same_place}
 use Rattle.pst_places.specs.declared.key.PlaceKey.{PlaceKey}
 
 -- the number of the first place that is that one, where the list begins with that number

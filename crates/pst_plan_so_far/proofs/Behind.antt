@@ -8,7 +8,7 @@ use Rattle.pst_legal.specs.Growing.{nothing_yet, most_nodes, most_acts}
 use Rattle.pst_legal.specs.Reading.{Reading, Wants, Stops, Reads, then_read, read_tree}
 use Rattle.pst_legal.specs.SupplyReading.{read_supply}
 use Rattle.pst_legal.specs.ValueReading.{Options, Dead, Whole, answer_of, read_values}
-use Rattle.pst_longer.proofs.Goes.{Stands}
+use Rattle.pst_built.proofs.Goes.{Stands}
 use Rattle.pst_built.proofs.Bares.{nodes_in, bares}
 use Rattle.pst_built.proofs.Parents.{parents, InOrder}
 use Rattle.pst_built.proofs.Links.{Links}
@@ -19,8 +19,8 @@ use Rattle.pst_built.proofs.Supply.{Joined, joined_first, same_length, AreLinked
 use Rattle.pst_built.proofs.Values.{IsSameOrder}
 use Rattle.pst_built.proofs.Built.{built}
 use Rattle.pst_built.proofs.Linked.{are_linked}
-use Rattle.pst_order_stays.specs.SoFar.{HasRead}
-use Rattle.pst_read_fits.proofs.Filled.{gives_here}
+use Rattle.pst_built.specs.SoFar.{HasRead}
+use Rattle.pst_built.proofs.Filled.{gives_here}
 use Rattle.pst_read_slots.proofs.Same.{values_same}
 use Rattle.pst_plan_so_far.specs.Laws.{SourcesAreBuilt}
 

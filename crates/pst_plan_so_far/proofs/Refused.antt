@@ -15,9 +15,9 @@ use Rattle.pst_scen.specs.Order.{Cause, Sequence, Buffer, Source, Previous, Repl
 use Rattle.pst_scen.specs.Plans.{StandParallel}
 use Rattle.pst_scen.specs.Refusals.{Refusal, Cycle, GroupClash, ParallelOrder, ParallelClash, GroupClashes, Two, One, IsRefused}
 use Rattle.pst_legal.specs.ValueReading.{read}
-use Rattle.pst_order_stays.specs.SoFar as so-far
-use Rattle.pst_order_stays.specs.SoFar.{CauseSoFar, MustSoFar, HasRead}
-use Rattle.pst_order_stays.specs.Laws.{IsBarren, CyclesStay, GroupClashesStay, OwnClashesStay, ParallelOrdersStay, ParallelClashesStay}
+use Rattle.pst_built.specs.SoFar as so-far
+use Rattle.pst_built.specs.SoFar.{CauseSoFar, MustSoFar, HasRead}
+use Rattle.pst_built.specs.OrderStaysLaws.{IsBarren, CyclesStay, GroupClashesStay, OwnClashesStay, ParallelOrdersStay, ParallelClashesStay}
 use Rattle.pst_plan_so_far.specs.Laws.{PlansRefuseLists}
 
 module _ (s : Scenario) (linked : AreLinked s.actions) where

@@ -6,8 +6,8 @@ use Rattle.pst_scen.specs.Scenarios.{AreLinked}
 use Rattle.pst_scen.specs.Refusals.{Refusal, IsRefused}
 use Rattle.pst_legal.specs.ValueReading.{read}
 use Rattle.pst_order.specs.Built.{IsBuilt}
-use Rattle.pst_order_stays.specs.SoFar.{HasRead}
-use Rattle.pst_order_stays.specs.Laws.{IsBarren}
+use Rattle.pst_built.specs.SoFar.{HasRead}
+use Rattle.pst_built.specs.OrderStaysLaws.{IsBarren}
 pub use Rattle.pst_read_slots.specs.Laws.{ReadsSources}
 
 -- Where a list reads the activity and the sources, and perhaps claims and values behind them, what it has read is built, and

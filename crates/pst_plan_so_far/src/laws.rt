@@ -1,7 +1,7 @@
 //! Laws of plans behind the sources.
 ghost use Rattle.pst_plan_so_far.specs.Laws.{SourcesAreBuilt, PlansRefuseLists};
 
-use pst_order_stays::{clashes_stay, parallel_disputes_stay};
+use pst_built::{clashes_stay, parallel_disputes_stay};
 
 /// Where a list of choices has read the activity and the sources, and perhaps claims and values behind
 /// them, what it has read is built and its links name what there is.

@@ -5,7 +5,7 @@ use Rattle.std.specs.List.{fold, filter_map, cons_option}
 use Rattle.std.proofs.lemmas.List.{append-nil}
 use Rattle.pst_base.specs.declared.table.NameId.{NameId}
 use Rattle.pst_ast.specs.declared.leaf.Name.{Name}
-use Rattle.pst_scope.specs.Uses.{Use, Joins}
+use Rattle.pst_ast.specs.Uses.{Use, Joins}
 use Rattle.pst_pool_binds.specs.PoolBinds.{ExplicitBind, explicit_of}
 use Rattle.pst_pool_binds.specs.FoundBinds.{with_bind, with_use}
 

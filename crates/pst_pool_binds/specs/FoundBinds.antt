@@ -2,7 +2,7 @@
 use Rattle.std.specs.Prelude.{List, [], ◌∷◌, ◌++◌, map, Option, Some, None}
 use Rattle.pst_base.specs.declared.position.Place.{Place}
 use Rattle.pst_ast.specs.DeclarationTree.{PoolBindTree, ComponentPartPoolBind}
-use Rattle.pst_scope.specs.Uses.{Use}
+use Rattle.pst_ast.specs.Uses.{Use}
 use Rattle.pst_pool_binds.specs.declared.found_binds.FoundBind.{FoundBind}
 use Rattle.pst_pool_binds.specs.declared.found_binds.FoundDefault.{FoundDefault}
 use Rattle.pst_pool_binds.specs.PoolBinds.{ExplicitBind, DefaultBind, explicit_of, default_in_part}

@@ -4,7 +4,7 @@ use Rattle.std.specs.List.{flat_map, filter_map}
 use Rattle.pst_base.specs.declared.position.Place.{Place}
 use Rattle.pst_ast.specs.declared.leaf.Name.{Name}
 use Rattle.pst_ast.specs.DeclarationTree.{UnitTree, ItemTree, ItemComponent, MakeComponent, ComponentPartTree, ComponentPartPoolBind, MakePoolBind, TargetsAll}
-use Rattle.pst_scope.specs.Uses.{Use, Targets, uses}
+use Rattle.pst_ast.specs.Uses.{Use, Targets, uses}
 use Rattle.pst_type_rules.specs.Sites.{items_of}
 
 -- A target of a bind in a component: instances that lead down from an instance of that component, an action type, and its reference or claim.

@@ -1,18 +1,18 @@
 //! The explicit binds of the sources.
 ghost use Rattle.std.specs.Prelude.{◌≡◌, ◌++◌, ◌∷◌, [], Some, IfOk, OnOk, map};
 ghost use Rattle.pst_ast.specs.DeclarationView.{view_target, view_unit};
-ghost use Rattle.pst_scope.specs.Uses.{target_use};
+ghost use Rattle.pst_ast.specs.Uses.{target_use};
 ghost use Rattle.pst_pool_binds.specs.FoundBinds.{view_bind, view_binds, with_use};
 ghost use Rattle.pst_pool_binds.specs.PoolBinds.{explicit_of};
 ghost use Rattle.pst_pool_binds.specs.PoolBinds;
 
 use crate::found_binds::FoundBind;
 use pst_ast::{
-    ArgumentsNode, ArmNode, DotName, EndNode, ExprNode, Name, NamesNode, NextExpr, NextPart,
-    OtherEnds, PartNode, PlainNode, StatementNode, TargetNode, TypeName, TypeNode, Unit,
+    ArgumentsNode, ArmNode, Declaration, DotName, EndNode, Environment, ExprNode, Name, NamesNode,
+    NextExpr, NextPart, OtherEnds, PartNode, PlainNode, StatementNode, TargetNode, Traversal,
+    TypeName, TypeNode, Unit,
 };
 use pst_base::{NoMemory, Place};
-use pst_scope::{Declaration, Environment, Traversal};
 use pst_walk::walk;
 use pst_walk_parts::{Role, Visitor, Wanted};
 use std::alloc::Global;

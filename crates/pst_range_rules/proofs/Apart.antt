@@ -14,7 +14,7 @@ use Rattle.pst_base.specs.declared.position.Place.{Place}
 use Rattle.pst_base.specs.Places.{IsBefore}
 use Rattle.pst_expr.specs.declared.ranges.Span.{Span}
 use Rattle.pst_expr.specs.Spans.{IsInSpan}
-use Rattle.pst_scope.specs.declared.referent.Finding.{Finding}
+use Rattle.pst_ast.specs.declared.referent.Finding.{Finding}
 use Rattle.pst_name_rules.specs.Earlier.{earlier, is_no_later}
 use Rattle.pst_name_rules.specs.Leasts.{least_at}
 use Rattle.pst_range_rules.specs.declared.span.RangeSpan.{RangeSpan}

@@ -9,11 +9,11 @@ use Rattle.pst_ast.specs.ExpressionTree.{ExprTree, RangeTree, RangeSingle, Range
 use Rattle.pst_ast.specs.ActivityTree.{ArmLabelTree, ArmLabelRanges, ArmLabelDefault}
 use Rattle.pst_ast.specs.DeclarationTree.{UnitTree}
 use Rattle.pst_expr.specs.declared.ranges.Span.{Span}
-use Rattle.pst_scope.specs.declared.environment.Environment.{Environment}
-use Rattle.pst_scope.specs.declared.referent.Finding.{Finding}
-use Rattle.pst_scope.specs.Uses.{Arms}
-use Rattle.pst_constants.specs.Constants.{IsConstant}
-use Rattle.pst_constants.specs.Domains.{IsSpanOf, Single, Between, span}
+use Rattle.pst_ast.specs.declared.environment.Environment.{Environment}
+use Rattle.pst_ast.specs.declared.referent.Finding.{Finding}
+use Rattle.pst_ast.specs.Uses.{Arms}
+use Rattle.pst_type_rules.specs.Constants.{IsConstant}
+use Rattle.pst_type_rules.specs.Domains.{IsSpanOf, Single, Between, span}
 use Rattle.pst_type_rules.specs.Places.{range_place}
 use Rattle.pst_type_rules.specs.TypeRules.{UseBreaks, ReversedInMatch, Meeting, TwoDefaults, ranges_of_arms}
 use Rattle.pst_name_rules.specs.Earlier.{earlier}

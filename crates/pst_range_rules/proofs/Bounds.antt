@@ -7,7 +7,7 @@ use Rattle.std.proofs.lemmas.Int.{ints, clamps}
 use Rattle.std.proofs.lemmas.Nat.{pow_pos}
 use Rattle.std.proofs.Math.Pow.{pow_mono}
 use Rattle.pst_num.specs.Range.{least, greatest}
-use Rattle.pst_constants.specs.Domains.{span, signed_span, unsigned_span}
+use Rattle.pst_type_rules.specs.Domains.{span, signed_span, unsigned_span}
 use Rattle.pst_range_rules.specs.Types.{clamped, signed_of, unsigned_of}
 
 lowest : (n : ℕ) → 2 ^ 63 ≤ n → least ≡ int_max (neg_ℤ (pos n)) least

@@ -7,9 +7,9 @@ use Rattle.pst_ast.specs.ExpressionTree.{ExprTree, RangeTree}
 use Rattle.pst_ast.specs.DeclarationTree.{UnitTree}
 use Rattle.pst_expr.specs.declared.ranges.Span.{Span}
 use Rattle.pst_expr.specs.Spans.{IsInSpan}
-use Rattle.pst_scope.specs.declared.environment.Environment.{Environment}
-use Rattle.pst_constants.specs.Constants.{IsConstant}
-use Rattle.pst_constants.specs.Domains.{IsSpanOf, IsInRanges}
+use Rattle.pst_ast.specs.declared.environment.Environment.{Environment}
+use Rattle.pst_type_rules.specs.Constants.{IsConstant}
+use Rattle.pst_type_rules.specs.Domains.{IsSpanOf, IsInRanges}
 use Rattle.pst_range_rules.specs.declared.span.RangeSpan.{RangeSpan}
 use Rattle.pst_range_rules.specs.Spans.{range_span, span_of, spans_of}
 use Rattle.pst_range_rules.specs.Types.{keeps_nothing, misses}

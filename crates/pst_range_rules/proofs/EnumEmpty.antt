@@ -12,15 +12,15 @@ use Rattle.pst_ast.specs.SharedTree.{DomainTree, MakeDomain, TypeNamed}
 use Rattle.pst_ast.specs.DeclarationTree.{UnitTree}
 use Rattle.pst_expr.specs.declared.ranges.Span.{Span}
 use Rattle.pst_expr.specs.Spans.{IsInSpan}
-use Rattle.pst_scope.specs.declared.declaration.Declaration.{Declaration}
-use Rattle.pst_scope.specs.declared.environment.Environment.{Environment}
-use Rattle.pst_scope.specs.Declarations.{declarations}
-use Rattle.pst_scope.specs.Lookups.{type_named}
-use Rattle.pst_scope.specs.Sorts.{same_place}
-use Rattle.pst_scope.specs.Uses.{HasType}
-use Rattle.pst_constants.specs.Enums.{DeclaredItem, DeclaredEnum, enums, enum_at}
-use Rattle.pst_constants.specs.Constants.{IsConstant, IsItemValue}
-use Rattle.pst_constants.specs.Domains.{ranges_behind, ranges_of, IsKept, IsEnumNamed, IsInType, OfEnum, IsBaseKnown, Enum, IsKnown}
+use Rattle.pst_ast.specs.declared.scope_declaration.Declaration.{Declaration}
+use Rattle.pst_ast.specs.declared.environment.Environment.{Environment}
+use Rattle.pst_ast.specs.Declarations.{declarations}
+use Rattle.pst_ast.specs.Lookups.{type_named}
+use Rattle.pst_ast.specs.Sorts.{same_place}
+use Rattle.pst_ast.specs.Uses.{HasType}
+use Rattle.pst_type_rules.specs.Enums.{DeclaredItem, DeclaredEnum, enums, enum_at}
+use Rattle.pst_type_rules.specs.Constants.{IsConstant, IsItemValue}
+use Rattle.pst_type_rules.specs.Domains.{ranges_behind, ranges_of, IsKept, IsEnumNamed, IsInType, OfEnum, IsBaseKnown, Enum, IsKnown}
 use Rattle.pst_type_rules.specs.Places.{type_place}
 use Rattle.pst_type_rules.specs.TypeRules.{UseBreaks, Empty}
 use Rattle.pst_evaluate.specs.Settled.{AreItemValues}

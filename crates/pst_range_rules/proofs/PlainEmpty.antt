@@ -9,10 +9,10 @@ use Rattle.pst_ast.specs.SharedTree.{WidthTree, PlainTree, PlainInt, PlainBit, P
 use Rattle.pst_ast.specs.DeclarationTree.{UnitTree}
 use Rattle.pst_expr.specs.declared.ranges.Span.{Span}
 use Rattle.pst_expr.specs.Spans.{IsInSpan}
-use Rattle.pst_scope.specs.declared.environment.Environment.{Environment}
-use Rattle.pst_scope.specs.Uses.{HasType}
-use Rattle.pst_constants.specs.Constants.{IsConstant}
-use Rattle.pst_constants.specs.Domains.{HasSpan, Int, IntOfWidth, Bit, BitOfWidth, Boolean, signed_span, unsigned_span, span, ranges_behind, ranges_of, IsKept, IsInType, OfPlain, IsBaseKnown, Plain, IsKnown}
+use Rattle.pst_ast.specs.declared.environment.Environment.{Environment}
+use Rattle.pst_ast.specs.Uses.{HasType}
+use Rattle.pst_type_rules.specs.Constants.{IsConstant}
+use Rattle.pst_type_rules.specs.Domains.{HasSpan, Int, IntOfWidth, Bit, BitOfWidth, Boolean, signed_span, unsigned_span, span, ranges_behind, ranges_of, IsKept, IsInType, OfPlain, IsBaseKnown, Plain, IsKnown}
 use Rattle.pst_type_rules.specs.Places.{type_place}
 use Rattle.pst_type_rules.specs.TypeRules.{UseBreaks, Empty}
 use Rattle.pst_range_rules.specs.Spans.{have_common, spans_of}

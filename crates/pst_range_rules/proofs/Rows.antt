@@ -5,8 +5,8 @@ use Rattle.pst_ast.specs.declared.expression.ExprNode.TheBlock.{items-the_row-Ne
 use Rattle.pst_ast.specs.declared.expression.RangesNode.{RangesNode, RangesNode', out-RangesNode, Row_of-NextRange, end_of-NextRange, more_of-NextRange}
 use Rattle.pst_ast.specs.ExpressionTree.{RangeTree}
 use Rattle.pst_ast.specs.ExpressionView.{view_range, view_ranges, view_next_range_row}
-use Rattle.pst_scope.specs.Uses.{next_ends}
-use Rattle.pst_constants.specs.Domains.{ranges_of}
+use Rattle.pst_ast.specs.Uses.{next_ends}
+use Rattle.pst_type_rules.specs.Domains.{ranges_of}
 use Rattle.pst_range_rules.specs.Spans.{as_range}
 
 ranges_row : {n : _} (k : Row_of-NextRange n) → next_ends (view_next_range_row k) ≡ map as_range (items-the_row-NextRange n k)

@@ -6,14 +6,14 @@ use Rattle.pst_base.specs.Laws.{BeforeGoesOn}
 use Rattle.pst_ast.specs.ExpressionTree.{ExprTree}
 use Rattle.pst_ast.specs.SharedTree.{TypeTree, TypePlain, TypeNamed}
 use Rattle.pst_ast.specs.DeclarationTree.{UnitTree}
-use Rattle.pst_scope.specs.Declarations.{declarations}
-use Rattle.pst_scope.specs.declared.environment.Environment.{Environment}
-use Rattle.pst_scope.specs.declared.referent.Finding.{Finding}
-use Rattle.pst_scope.specs.NameRules.{finding}
-use Rattle.pst_scope.specs.Uses.{HasType}
-use Rattle.pst_constants.specs.Constants.{IsConstant}
-use Rattle.pst_constants.specs.Domains.{IsInType, IsKnown, ranges_behind, ranges_in}
-use Rattle.pst_constants.specs.Enums.{enums}
+use Rattle.pst_ast.specs.Declarations.{declarations}
+use Rattle.pst_ast.specs.declared.environment.Environment.{Environment}
+use Rattle.pst_ast.specs.declared.referent.Finding.{Finding}
+use Rattle.pst_ast.specs.NameRules.{finding}
+use Rattle.pst_ast.specs.Uses.{HasType}
+use Rattle.pst_type_rules.specs.Constants.{IsConstant}
+use Rattle.pst_type_rules.specs.Domains.{IsInType, IsKnown, ranges_behind, ranges_in}
+use Rattle.pst_type_rules.specs.Enums.{enums}
 use Rattle.pst_type_rules.specs.Places.{range_place, type_place}
 use Rattle.pst_type_rules.specs.TypeRules.{UseBreaks, ReversedInDomain, Empty}
 use Rattle.pst_name_rules.specs.Leasts.{IsLeastOf, IsIn}

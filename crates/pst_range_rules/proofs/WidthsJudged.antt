@@ -10,12 +10,12 @@ use Rattle.pst_ast.specs.ExpressionTree.{ExprTree}
 use Rattle.pst_ast.specs.SharedTree.{MakeLow, WidthTree, MakeWidth, PlainTree, PlainInt, PlainBit, PlainBool}
 use Rattle.pst_ast.specs.DeclarationTree.{UnitTree}
 use Rattle.pst_expr.specs.Spans.{IsInSpan}
-use Rattle.pst_scope.specs.declared.environment.Environment.{Environment}
-use Rattle.pst_scope.specs.declared.referent.Finding.{Finding}
-use Rattle.pst_scope.specs.NameRules.{finding}
-use Rattle.pst_scope.specs.Uses.{HasPlain}
-use Rattle.pst_constants.specs.Constants.{IsConstant}
-use Rattle.pst_constants.specs.Domains.{HasWidth, ByCount, ByHighest, span}
+use Rattle.pst_ast.specs.declared.environment.Environment.{Environment}
+use Rattle.pst_ast.specs.declared.referent.Finding.{Finding}
+use Rattle.pst_ast.specs.NameRules.{finding}
+use Rattle.pst_ast.specs.Uses.{HasPlain}
+use Rattle.pst_type_rules.specs.Constants.{IsConstant}
+use Rattle.pst_type_rules.specs.Domains.{HasWidth, ByCount, ByHighest, span}
 use Rattle.pst_type_rules.specs.Limits.{widths_of}
 use Rattle.pst_type_rules.specs.Places.{plain_place}
 use Rattle.pst_type_rules.specs.TypeRules.{UseBreaks, WidthOutside, LowestNotZero, width_in, lowest_in}

@@ -1,7 +1,7 @@
 -- Constants by the facts.
 use Rattle.std.specs.Prelude.{ℤ, Option}
 use Rattle.pst_ast.specs.ExpressionTree.{ExprTree}
-use Rattle.pst_scope.specs.declared.environment.Environment.{Environment}
+use Rattle.pst_ast.specs.declared.environment.Environment.{Environment}
 use Rattle.pst_evaluate.specs.Kept.{constant_by, known_in}
 use Rattle.pst_range_rules.specs.declared.facts.RangeFacts.{RangeFacts}
 

@@ -3,9 +3,9 @@ use Rattle.std.specs.Prelude.{ℕ, ℤ, List, Option}
 use Rattle.pst_base.specs.declared.position.Place.{Place}
 use Rattle.pst_ast.specs.SharedTree.{PlainTree, TypeTree, TypePlain, TypeNamed}
 use Rattle.pst_ast.specs.ActivityTree.{ArmLabelTree}
-use Rattle.pst_scope.specs.declared.declaration.Declaration.{Declaration}
-use Rattle.pst_scope.specs.declared.environment.Environment.{Environment}
-use Rattle.pst_scope.specs.declared.referent.Finding.{Finding}
+use Rattle.pst_ast.specs.declared.scope_declaration.Declaration.{Declaration}
+use Rattle.pst_ast.specs.declared.environment.Environment.{Environment}
+use Rattle.pst_ast.specs.declared.referent.Finding.{Finding}
 use Rattle.pst_evaluate.specs.Kept.{constant_by}
 use Rattle.pst_enum_values.specs.Gathered.{EnumPlaces}
 use Rattle.pst_range_rules.specs.Types.{enum_named, named_type, plain_type}

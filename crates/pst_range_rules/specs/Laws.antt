@@ -4,11 +4,11 @@ use Rattle.pst_base.specs.declared.position.Place.{Place}
 use Rattle.pst_ast.specs.SharedTree.{PlainTree, TypeTree}
 use Rattle.pst_ast.specs.ActivityTree.{ArmLabelTree}
 use Rattle.pst_ast.specs.DeclarationTree.{UnitTree}
-use Rattle.pst_scope.specs.Declarations.{declarations}
-use Rattle.pst_scope.specs.declared.environment.Environment.{Environment}
-use Rattle.pst_scope.specs.declared.referent.Finding.{Finding}
-use Rattle.pst_scope.specs.Uses.{Use, HasPlain, HasType, Arms}
-use Rattle.pst_constants.specs.Enums.{enums}
+use Rattle.pst_ast.specs.Declarations.{declarations}
+use Rattle.pst_ast.specs.declared.environment.Environment.{Environment}
+use Rattle.pst_ast.specs.declared.referent.Finding.{Finding}
+use Rattle.pst_ast.specs.Uses.{Use, HasPlain, HasType, Arms}
+use Rattle.pst_type_rules.specs.Enums.{enums}
 use Rattle.pst_type_rules.specs.TypeRules.{UseBreaks}
 use Rattle.pst_name_rules.specs.Leasts.{IsLeastOf}
 use Rattle.pst_evaluate.specs.Settled.{AreItemValues}

@@ -4,8 +4,8 @@ use Rattle.std.specs.List.{list_any, flat_map}
 use Rattle.pst_ast.specs.ActivityTree.{ArmLabelTree, ArmLabelRanges, ArmLabelDefault}
 use Rattle.pst_ast.specs.ExpressionTree.{ExprTree}
 use Rattle.pst_expr.specs.declared.ranges.Span.{Span}
-use Rattle.pst_scope.specs.declared.referent.Finding.{Finding}
-use Rattle.pst_scope.specs.NameRules.{finding}
+use Rattle.pst_ast.specs.declared.referent.Finding.{Finding}
+use Rattle.pst_ast.specs.NameRules.{finding}
 use Rattle.pst_name_rules.specs.Earlier.{earlier}
 use Rattle.pst_name_rules.specs.Leasts.{least_at}
 use Rattle.pst_type_rules.specs.TypeRules.{ranges_of_arms}

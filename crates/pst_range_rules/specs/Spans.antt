@@ -5,10 +5,10 @@ use Rattle.pst_ast.specs.ExpressionTree.{ExprTree, RangeTree, RangeSingle, Range
 use Rattle.pst_ast.specs.ExpressionView.{view_range}
 use Rattle.pst_ast.specs.declared.expression.NextRange.{NextRange}
 use Rattle.pst_expr.specs.declared.ranges.Span.{Span}
-use Rattle.pst_scope.specs.declared.referent.Finding.{Finding}
-use Rattle.pst_scope.specs.NameRules.{finding}
+use Rattle.pst_ast.specs.declared.referent.Finding.{Finding}
+use Rattle.pst_ast.specs.NameRules.{finding}
 use Rattle.pst_name_rules.specs.Leasts.{least_at}
-use Rattle.pst_constants.specs.Domains.{span}
+use Rattle.pst_type_rules.specs.Domains.{span}
 use Rattle.pst_type_rules.specs.Places.{range_place}
 use Rattle.pst_range_rules.specs.declared.span.RangeSpan.{RangeSpan}
 

@@ -9,11 +9,11 @@ use Rattle.pst_ast.specs.ExpressionTree.{ExprTree}
 use Rattle.pst_ast.specs.SharedTree.{WidthTree, PlainTree, PlainInt, PlainBit, PlainBool, DomainTree, TypePlain, TypeNamed}
 use Rattle.pst_num.specs.Range.{least, greatest}
 use Rattle.pst_expr.specs.declared.ranges.Span.{Span}
-use Rattle.pst_scope.specs.declared.declaration.Declaration.{Declaration}
-use Rattle.pst_scope.specs.declared.referent.Finding.{Finding}
-use Rattle.pst_scope.specs.Lookups.{type_named}
-use Rattle.pst_scope.specs.NameRules.{finding}
-use Rattle.pst_constants.specs.Domains.{span, signed_span, unsigned_span, ranges_behind}
+use Rattle.pst_ast.specs.declared.scope_declaration.Declaration.{Declaration}
+use Rattle.pst_ast.specs.declared.referent.Finding.{Finding}
+use Rattle.pst_ast.specs.Lookups.{type_named}
+use Rattle.pst_ast.specs.NameRules.{finding}
+use Rattle.pst_type_rules.specs.Domains.{span, signed_span, unsigned_span, ranges_behind}
 use Rattle.pst_type_rules.specs.Places.{type_place}
 use Rattle.pst_name_rules.specs.Earlier.{earlier}
 use Rattle.pst_enum_values.specs.Gathered.{EnumPlaces, EnumRow, are_known, is_inside, values_of}

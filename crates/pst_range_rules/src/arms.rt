@@ -1,7 +1,7 @@
 //! The arms of matches.
 ghost use Rattle.std.specs.Prelude.{◌≡◌, ◌++◌, ◌∷◌, [], IfOk, OnOk, map};
 ghost use Rattle.pst_ast.specs.ActivityView.{view_arm, view_arm_label};
-ghost use Rattle.pst_scope.specs.Uses.{arm_label};
+ghost use Rattle.pst_ast.specs.Uses.{arm_label};
 ghost use Rattle.pst_type_rules.specs.TypeRules.{ranges_of_label, ranges_of_arms};
 ghost use Rattle.pst_evaluate.specs.Kept.{known_in};
 ghost use Rattle.pst_range_rules.specs.Facts.{constant_at};
@@ -13,10 +13,9 @@ use crate::facts::RangeFacts;
 use crate::meeting::meeting_in;
 use crate::reversed::reversed_in;
 use crate::span::{RangeSpan, add_ranges};
-use pst_ast::{ArmLabel, ArmNode};
+use pst_ast::{ArmLabel, ArmNode, Environment, Finding};
 use pst_base::NoMemory;
 use pst_name_rules::earlier;
-use pst_scope::{Environment, Finding};
 
 // Adds the ranges of a label.
 fn add_label(

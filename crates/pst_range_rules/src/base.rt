@@ -8,10 +8,9 @@ ghost use Rattle.pst_range_rules.specs.Widths.{width_by};
 
 use crate::facts::RangeFacts;
 use crate::plain::width_value;
-use pst_ast::{PlainNode, WidthNode};
+use pst_ast::{Environment, PlainNode, WidthNode};
 use pst_base::NoMemory;
 use pst_expr::Span;
-use pst_scope::Environment;
 
 // A power of 2.
 fn power(exponent: u32) -> i64

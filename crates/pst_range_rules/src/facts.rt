@@ -3,12 +3,11 @@ ghost use Rattle.std.specs.Prelude.{◌≡◌, IfOk};
 ghost use Rattle.pst_ast.specs.ExpressionView.{view_expr};
 ghost use Rattle.pst_range_rules.specs.Facts.{constant_at};
 
-use pst_ast::ExprNode;
+use pst_ast::{Environment, ExprNode};
 use pst_base::{Names, NoMemory};
 use pst_enum_values::EnumTable;
 use pst_evaluate::constant_value;
 use pst_index::Index;
-use pst_scope::Environment;
 use std::alloc::Global;
 
 /// What names stand for, and the values of enum items.

@@ -6,10 +6,10 @@ ghost use Rattle.pst_range_rules.specs.Meetings as tree;
 ghost use Rattle.pst_range_rules.specs.Spans.{have_common, meet};
 
 use crate::span::RangeSpan;
+use pst_ast::Finding;
 use pst_base::{NoMemory, Place};
 use pst_expr::Span;
 use pst_name_rules::earlier;
-use pst_scope::Finding;
 use std::alloc::Global;
 
 /// Whether two spans have a number in common.

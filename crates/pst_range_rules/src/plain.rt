@@ -9,9 +9,8 @@ ghost use Rattle.pst_range_rules.specs.Found.{plain_found};
 ghost use Rattle.pst_range_rules.specs.Widths as tree;
 
 use crate::facts::RangeFacts;
-use pst_ast::{PlainNode, WidthNode};
+use pst_ast::{Environment, Finding, PlainNode, WidthNode};
 use pst_base::{NoMemory, Place};
-use pst_scope::{Environment, Finding};
 
 // The second part of a width.
 fn lowest_value(

@@ -4,9 +4,9 @@ ghost use Rattle.pst_name_rules.specs.Leasts.{least_at};
 ghost use Rattle.pst_range_rules.specs.Spans as tree;
 
 use crate::span::RangeSpan;
+use pst_ast::Finding;
 use pst_expr::Span;
 use pst_name_rules::earlier;
-use pst_scope::Finding;
 
 // Whether a span is reversed.
 fn is_reversed(span: Option<Span>) -> bool

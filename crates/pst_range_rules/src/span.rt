@@ -1,17 +1,16 @@
 //! Ranges, and the spans that they have.
 ghost use Rattle.std.specs.Prelude.{◌≡◌, ◌++◌, ◌∷◌, [], IfOk, OnOk, map};
 ghost use Rattle.pst_ast.specs.ExpressionView.{view_range, view_ranges};
-ghost use Rattle.pst_constants.specs.Domains.{ranges_of};
+ghost use Rattle.pst_type_rules.specs.Domains.{ranges_of};
 ghost use Rattle.pst_type_rules.specs.Places.{range_place};
 ghost use Rattle.pst_range_rules.specs.Facts.{constant_at};
 ghost use Rattle.pst_range_rules.specs.Spans as tree;
 
 use crate::facts::RangeFacts;
 use crate::place::expr_place;
-use pst_ast::{NextRange, RangeNode, RangesNode};
+use pst_ast::{Environment, NextRange, RangeNode, RangesNode};
 use pst_base::{NoMemory, Place};
 use pst_expr::Span;
-use pst_scope::Environment;
 
 /// A range, where it begins, with its span where its ends are constants.
 #[derive(Clone, Copy)]

@@ -2,7 +2,7 @@
 ghost use Rattle.std.specs.Prelude.{◌≡◌, IfOk, is_some};
 ghost use Rattle.std.specs.Option.{option_map};
 ghost use Rattle.pst_ast.specs.SharedView.{view_domain, view_plain, view_type};
-ghost use Rattle.pst_constants.specs.Domains.{ranges_behind};
+ghost use Rattle.pst_type_rules.specs.Domains.{ranges_behind};
 ghost use Rattle.pst_type_rules.specs.Places as places;
 ghost use Rattle.pst_evaluate.specs.Kept.{known_in};
 ghost use Rattle.pst_enum_values.specs.Kept.{IsFound};
@@ -16,11 +16,10 @@ use crate::empty::{is_empty_enum, is_empty_plain};
 use crate::facts::RangeFacts;
 use crate::reversed::reversed_in;
 use crate::span::{RangeSpan, add_ranges};
-use pst_ast::{DomainNode, PlainNode, TypeName, TypeNode};
+use pst_ast::{DomainNode, Environment, Finding, PlainNode, TypeName, TypeNode};
 use pst_base::{NoMemory, Place};
 use pst_enum_values::EnumValues;
 use pst_name_rules::earlier;
-use pst_scope::{Environment, Finding};
 
 // The ranges of a domain.
 fn ranges_in(

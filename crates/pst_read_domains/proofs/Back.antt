@@ -18,8 +18,8 @@ use Rattle.pst_legal.specs.Blanks.{claim_field}
 use Rattle.pst_legal.specs.Standing.{field_span}
 use Rattle.pst_legal.specs.Slots.{pool_span}
 use Rattle.pst_built.proofs.Spots.{at_act}
-use Rattle.pst_more_known.specs.Known.{Allows, claim_numbers, InDomains}
-use Rattle.pst_more_known.specs.Onward.{Both, MoreFilled, Onward}
+use Rattle.pst_built.specs.Known.{Allows, claim_numbers, InDomains}
+use Rattle.pst_built.specs.Onward.{Both, MoreFilled, Onward}
 
 both_some : {A : Type 0} (G : A → A → Type 0) (o p : Option A) (x : A) → Both G o p → o ≡ Some x → (y : A) × (p ≡ Some y) × G x y
 both_some G None p x both e = absurd (none-some x e)

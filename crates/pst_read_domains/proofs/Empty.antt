@@ -19,13 +19,13 @@ use Rattle.pst_legal.specs.Growing.{nothing_yet, Look, Inner, Leaf, open_act, op
 use Rattle.pst_legal.specs.Menus.{menu}
 use Rattle.pst_legal.specs.Reading.{Wants, then_read, put_value, value_number, read_tree}
 use Rattle.pst_legal.specs.SupplyReading.{Spot, Source, Initially, From, New, with_link, act_with_link, put_link, linked_to, is_stream, supplied_by, read_supply}
-use Rattle.pst_longer.specs.StepsOf.{FieldSteps}
-use Rattle.pst_longer.proofs.Goes.{Stands, stands, goes_then}
-use Rattle.pst_longer.proofs.Read.{AnyWay, any_ways}
-use Rattle.pst_longer.proofs.Readers.{goes_tree, goes_supply}
+use Rattle.pst_built.specs.StepsOf.{FieldSteps}
+use Rattle.pst_built.proofs.Goes.{Stands, stands, goes_then}
+use Rattle.pst_built.proofs.Read.{AnyWay, any_ways}
+use Rattle.pst_built.proofs.Readers.{goes_tree, goes_supply}
 use Rattle.pst_built.proofs.Bares.{alter_same}
 use Rattle.pst_built.proofs.Parents.{get_cases}
-use Rattle.pst_reached.proofs.Lists.{get_mapped}
+use Rattle.pst_built.proofs.Lists.{get_mapped}
 
 -- the values of an action
 pub record Held : Type 0 where

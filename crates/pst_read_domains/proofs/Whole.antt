@@ -24,18 +24,18 @@ use Rattle.pst_legal.specs.ValueReading.{answer_of, read_values, read}
 use Rattle.pst_built.specs.Laws.{IsConcreteRoot}
 use Rattle.pst_built.proofs.Parents.{get_more}
 use Rattle.pst_built.proofs.SoundActs.{all_get, served_pool}
-use Rattle.pst_reached.proofs.Lists.{get_mapped}
-use Rattle.pst_order_stays.specs.SoFar.{HasRead}
-use Rattle.pst_more_known.specs.Known.{Allows, InDomains}
-use Rattle.pst_more_known.specs.Laws.{RefusalsGoOn}
-use Rattle.pst_read_onward.specs.Laws.{LongerListsKeepWhatIsKnown}
-use Rattle.pst_read_nodes.specs.Laws.{ReadLeavesHaveActions, HandlesHaveTheirTypes}
-use Rattle.pst_read_fits.specs.Laws.{WholeReadingsFit}
-use Rattle.pst_read_values.specs.Laws.{CompoundsAreValued, CompoundValuesAreInDomains}
-use Rattle.pst_read_acts.specs.Laws.{IsOfItsType, ActsAreOfTheirTypes, LinksJoinPools}
-use Rattle.pst_refusals_stay.proofs.Hulls.{in_hull}
-use Rattle.pst_refusals_stay.proofs.Domains.{values_in_domains}
-use Rattle.pst_whole_ahead.specs.Laws.{WholeListsLieAhead}
+use Rattle.pst_built.proofs.Lists.{get_mapped}
+use Rattle.pst_built.specs.SoFar.{HasRead}
+use Rattle.pst_built.specs.Known.{Allows, InDomains}
+use Rattle.pst_built.specs.MoreKnownLaws.{RefusalsGoOn}
+use Rattle.pst_built.specs.ReadOnwardLaws.{LongerListsKeepWhatIsKnown}
+use Rattle.pst_read_domains.specs.ReadNodesLaws.{ReadLeavesHaveActions, HandlesHaveTheirTypes}
+use Rattle.pst_built.specs.ReadFitsLaws.{WholeReadingsFit}
+use Rattle.pst_read_domains.specs.ReadValuesLaws.{CompoundsAreValued, CompoundValuesAreInDomains}
+use Rattle.pst_read_domains.specs.ReadActsLaws.{IsOfItsType, ActsAreOfTheirTypes, LinksJoinPools}
+use Rattle.pst_read_domains.proofs.Hulls.{in_hull}
+use Rattle.pst_read_domains.proofs.Domains.{values_in_domains}
+use Rattle.pst_read_domains.specs.WholeAheadLaws.{WholeListsLieAhead}
 use Rattle.pst_read_domains.specs.Laws.{ReadValuesAreInDomains, RefusalsStayRefused}
 use Rattle.pst_read_domains.proofs.Back.{LinksAreJoined, CompoundsAreAllowed, domains_before}
 use Rattle.pst_read_domains.proofs.Empty.{IsUnvalued, place_unvalued}

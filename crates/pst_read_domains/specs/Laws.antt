@@ -5,9 +5,9 @@ use Rattle.pst_model.specs.Sound.{IsSound}
 use Rattle.pst_scen.specs.declared.scenario.Scenario.{Scenario}
 use Rattle.pst_legal.specs.ValueReading.{read}
 use Rattle.pst_built.specs.Laws.{IsConcreteRoot}
-use Rattle.pst_order_stays.specs.SoFar.{HasRead}
-use Rattle.pst_more_known.specs.Known.{InDomains}
-use Rattle.pst_more_known.specs.Refused.{SomeRefused}
+use Rattle.pst_built.specs.SoFar.{HasRead}
+use Rattle.pst_built.specs.Known.{InDomains}
+use Rattle.pst_built.specs.Refused.{SomeRefused}
 
 -- What is known of whatever a list of choices has read lies in its domains.
 abbrev pub ReadValuesAreInDomains : Type 0

@@ -1,13 +1,11 @@
 //! Laws of what is known so far.
 ghost use Rattle.pst_read_domains.specs.Laws.{ReadValuesAreInDomains, RefusalsStayRefused};
 
-use pst_more_known::refusals_go_on;
-use pst_read_acts::{acts_are_of_their_types, links_join_pools};
-use pst_read_fits::whole_readings_fit;
-use pst_read_nodes::{handles_have_their_types, nodes_stand_for_pieces};
-use pst_read_onward::longer_lists_keep_what_is_known;
-use pst_read_values::compound_values_are_in_domains;
-use pst_whole_ahead::whole_lists_lie_ahead;
+use crate::{
+    acts_are_of_their_types, compound_values_are_in_domains, handles_have_their_types,
+    links_join_pools, nodes_stand_for_pieces, whole_lists_lie_ahead,
+};
+use pst_built::{longer_lists_keep_what_is_known, refusals_go_on, whole_readings_fit};
 
 /// What is known of whatever a list of choices has read, whole or so far, of a sound model and for a
 /// root that isn't abstract, lies in its domains: values in those of their fields, claimed instances

@@ -1,3 +1,9 @@
 pub mod Chain
 pub mod Planned
 pub mod Unrefused
+pub mod Sorted
+pub mod Turns
+pub mod Came
+pub mod Numbers
+pub mod NodeKinds
+pub mod Shapes

@@ -1,8 +1,8 @@
 -- What is read whole, holds its constraints and has a plan is legal.
 use Rattle.pst_built.specs.Laws.{WholeReadingsAreBuilt, WholeReadingsAreScenarios, WholeReadingsHaveSources}
-use Rattle.pst_read_fits.specs.Laws.{WholeReadingsFit}
-use Rattle.pst_read_shape.specs.Laws.{WholeReadingsHaveShape}
-use Rattle.pst_read_numbers.specs.Laws.{WholeReadingsAreNumbered}
+use Rattle.pst_built.specs.ReadFitsLaws.{WholeReadingsFit}
+use Rattle.pst_read_legal.specs.ReadShapeLaws.{WholeReadingsHaveShape}
+use Rattle.pst_read_legal.specs.ReadNumbersLaws.{WholeReadingsAreNumbered}
 use Rattle.pst_read_legal.specs.Laws.{WritersComeFromFirst, RunningReadingsAreSupplied, PlannedReadingsAreLegal}
 
 pub are_supplied : WritersComeFromFirst → WholeReadingsHaveSources → WholeReadingsAreNumbered → RunningReadingsAreSupplied

@@ -1,1 +1,3 @@
 pub mod Laws
+pub mod ReadNumbersLaws
+pub mod ReadShapeLaws

@@ -1,13 +1,12 @@
 //! Laws of plans and of whole readings.
 ghost use Rattle.pst_read_legal.specs.Laws.{WritersComeFromFirst, RunningReadingsAreSupplied, PlannedReadingsAreLegal, LegalIsUnrefused};
 
+use crate::{fitting_scenarios_have_shape, whole_readings_are_numbered};
 use pst_built::{
-    whole_readings_are_built, whole_readings_are_scenarios, whole_readings_have_sources,
+    whole_readings_are_built, whole_readings_are_scenarios, whole_readings_fit,
+    whole_readings_have_sources,
 };
 use pst_order::{must_is_kept, whole_is_sound};
-use pst_read_fits::whole_readings_fit;
-use pst_read_numbers::whole_readings_are_numbered;
-use pst_read_shape::fitting_scenarios_have_shape;
 
 /// Where a scenario's links lead to sources and it can run to its end, the previous writers of each
 /// output to a state pool lead back to the pool's first object. So a scenario that is read whole and

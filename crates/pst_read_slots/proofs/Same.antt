@@ -8,9 +8,9 @@ use Rattle.pst_legal.specs.SupplyReading.{alter}
 use Rattle.pst_legal.specs.ValueReading.{with_option, with_claim, act_with_value, with_output_value, with_claim_value, filled_with_value, read_values, with_firsts}
 use Rattle.pst_built.proofs.Bares.{bare, bares_in, node_in, kind_in, alter_same}
 use Rattle.pst_built.proofs.Values.{IsSameOrder}
-use Rattle.pst_longer.specs.StepsOf.{BlankSteps}
-use Rattle.pst_longer.proofs.Goes.{Stands, stands}
-use Rattle.pst_longer.proofs.Readers.{goes_values}
+use Rattle.pst_built.specs.StepsOf.{BlankSteps}
+use Rattle.pst_built.proofs.Goes.{Stands, stands}
+use Rattle.pst_built.proofs.Readers.{goes_values}
 
 pub same : (s : Scenario) → IsSameOrder s s
 same s = record { level = refl; nodes = refl; acts = refl; kinds = refl; references = refl }

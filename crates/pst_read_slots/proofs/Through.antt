@@ -29,15 +29,15 @@ use Rattle.pst_built.proofs.Values.{IsSameOrder}
 use Rattle.pst_built.proofs.Trees.{IsGrowth, tree_grows}
 use Rattle.pst_built.proofs.Supply.{joined_first, IsSupplied, supply_gives}
 use Rattle.pst_built.proofs.Linked.{are_linked}
-use Rattle.pst_longer.specs.Goes.{Stands}
-use Rattle.pst_reached.proofs.Lists.{get_mapped}
-use Rattle.pst_read_fits.specs.Laws.{ActivitiesFillTheirRoot}
-use Rattle.pst_read_fits.proofs.Keeps.{Keeps, LeavesStay, keeps_then, supply_keeps}
-use Rattle.pst_read_fits.proofs.Went.{twice}
-use Rattle.pst_read_fits.proofs.Fresh.{AreFresh, fresh_tree, fresh_supply}
-use Rattle.pst_read_fits.proofs.Served.{open_is}
-use Rattle.pst_read_fits.proofs.Filled.{gives_here}
-use Rattle.pst_order_stays.specs.SoFar.{HasRead}
+use Rattle.pst_built.specs.Goes.{Stands}
+use Rattle.pst_built.proofs.Lists.{get_mapped}
+use Rattle.pst_built.specs.ReadFitsLaws.{ActivitiesFillTheirRoot}
+use Rattle.pst_built.proofs.Keeps.{Keeps, LeavesStay, keeps_then, supply_keeps}
+use Rattle.pst_built.proofs.Went.{twice}
+use Rattle.pst_built.proofs.Fresh.{AreFresh, fresh_tree, fresh_supply}
+use Rattle.pst_built.proofs.Served.{open_is}
+use Rattle.pst_built.proofs.Filled.{gives_here}
+use Rattle.pst_built.specs.SoFar.{HasRead}
 use Rattle.pst_slots.specs.Decided.{IsReadThrough}
 use Rattle.pst_read_slots.specs.Laws.{ListsBehindTheSources, SlotsBehindTheSources}
 use Rattle.pst_read_slots.proofs.Same.{values_same}

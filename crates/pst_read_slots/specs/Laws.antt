@@ -12,7 +12,7 @@ use Rattle.pst_legal.specs.Standing.{Standing}
 use Rattle.pst_legal.specs.Constraints.{HasConstraint}
 use Rattle.pst_built.specs.Laws.{IsConcreteRoot}
 use Rattle.pst_slots.specs.Decided.{IsPlaced, IsReadThrough}
-use Rattle.pst_order_stays.specs.SoFar.{HasRead}
+use Rattle.pst_built.specs.SoFar.{HasRead}
 
 -- the list of choices reads the activity and the sources, and perhaps claims and values behind them
 abbrev pub ReadsSources : ModelTree → ℕ → ℕ → ℕ → List ℕ → Type 0

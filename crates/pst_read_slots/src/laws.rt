@@ -1,7 +1,7 @@
 //! Laws of lists of choices that go on behind the sources.
 ghost use Rattle.pst_read_slots.specs.Laws.{ListsBehindTheSources, SlotsBehindTheSources};
 
-use pst_read_fits::activities_fill_their_root;
+use pst_built::activities_fill_their_root;
 use pst_slots::slots_are_placed;
 
 /// A list of choices that reads the activity and the sources of a sound model, and perhaps more, for

@@ -10,10 +10,10 @@ use Rattle.pst_legal.specs.Standing.{Standing}
 use Rattle.pst_legal.specs.Pieces.{is_true}
 use Rattle.pst_legal.specs.Constraints.{HasConstraint, Holds, value_at}
 use Rattle.pst_built.proofs.Members.{In, none_any, any_found}
-use Rattle.pst_statements.specs.Listed.{Stating, stating, constraints_of}
-use Rattle.pst_statements.proofs.Found.{found}
-use Rattle.pst_statements.proofs.Kept.{all_found, stands_at}
-use Rattle.pst_statements.proofs.Listed.{has_listed, listed_has}
+use Rattle.pst_slots.specs.Listed.{Stating, stating, constraints_of}
+use Rattle.pst_slots.proofs.Found.{found}
+use Rattle.pst_slots.proofs.Kept.{all_found, stands_at}
+use Rattle.pst_slots.proofs.Listed.{has_listed, listed_has}
 use Rattle.pst_refusals.specs.Failing.{fails}
 use Rattle.pst_refusals.specs.Answers.{StandEarlier, TellsRefusals, TellsUnmet}
 

@@ -6,7 +6,7 @@ use Rattle.pst_model.specs.ModelTree.{ModelTree}
 use Rattle.pst_scen.specs.declared.tree.Node.{Node}
 use Rattle.pst_scen.specs.declared.tree.Fill.{Fill}
 use Rattle.pst_scen.specs.declared.tree.Fill.TheVariants as fill
-use Rattle.pst_statements.specs.Stated.{Stated, parent_of, place_in, part_at, repeated_in, below, below_node, stated_within}
+use Rattle.pst_slots.specs.Stated.{Stated, parent_of, place_in, part_at, repeated_in, below, below_node, stated_within}
 
 module _ (m : ModelTree) (nodes : List Node) where
   up_one : (levels n parent : ℕ) (node : Node) (f : Fill) → parent_of nodes n ≡ Some parent → slice_get nodes parent ≡ Some node → node.fill ≡ f

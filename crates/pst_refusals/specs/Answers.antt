@@ -5,7 +5,7 @@ use Rattle.pst_scen.specs.declared.tree.Node.{Node}
 use Rattle.pst_scen.specs.declared.scenario.Scenario.{Scenario}
 use Rattle.pst_legal.specs.Constraints.{Holds}
 use Rattle.pst_legal.specs.First.{NoneRefused}
-use Rattle.pst_more_known.specs.Refused.{SomeRefused}
+use Rattle.pst_built.specs.Refused.{SomeRefused}
 
 -- each node's parent stands before it
 abbrev pub StandEarlier : List Node → Type 0

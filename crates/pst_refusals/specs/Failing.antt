@@ -12,7 +12,7 @@ use Rattle.pst_legal.specs.Standing.{Standing}
 use Rattle.pst_legal.specs.Constraints.{is_refused_at, value_at}
 use Rattle.pst_known.specs.declared.known.Known.{Known}
 use Rattle.pst_known.specs.declared.known.Known.TheVariants as known
-use Rattle.pst_statements.specs.Listed.{Stating}
+use Rattle.pst_slots.specs.Listed.{Stating}
 
 abbrev pub bound_in : Known → Option Span
 bound_in (known.Value v) = Some (record { low = v; high = v })

@@ -5,7 +5,7 @@ use Rattle.pst_model.specs.ActivityTree.{StepTree}
 use Rattle.pst_model.specs.ModelTree.{ModelTree}
 use Rattle.pst_model.specs.ModelView.{view_step}
 use Rattle.pst_legal.specs.Types.{action_activity}
-use Rattle.pst_statements.specs.Stated.{Stated}
+use Rattle.pst_slots.specs.Stated.{Stated}
 use Rattle.pst_refusals.specs.declared.statement.Stated.{Stated as Found}
 
 abbrev pub stated_at : ℕ → StepTree → List ℕ → Stated

@@ -7,7 +7,7 @@ ghost use Rattle.pst_model.specs.Sound.{IsSound};
 ghost use Rattle.pst_legal.specs.Types.{type_of, is_state_pool, is_output, pool_object};
 ghost use Rattle.pst_legal.specs.Blanks.{claims_of, refers_to, used_state_pools};
 ghost use Rattle.pst_known.specs.Known.{seen};
-ghost use Rattle.pst_statements.specs.Listed.{action_constraints, of_output, of_claim, of_act, of_first_object};
+ghost use Rattle.pst_slots.specs.Listed.{action_constraints, of_output, of_claim, of_act, of_first_object};
 ghost use Rattle.pst_refusals.specs.Failing.{fails, is_used_state};
 ghost use Rattle.std.specs.Option.{option_map};
 ghost use Rattle.pst_model.specs.ModelView.{view_object};

@@ -9,7 +9,7 @@ ghost use Rattle.pst_legal.specs.Pieces.{is_true};
 ghost use Rattle.pst_legal.specs.Standing.{bound_of, value_of};
 ghost use Rattle.pst_legal.specs.Constraints.{is_refused_at, value_at};
 ghost use Rattle.pst_known.specs.Known.{known_of};
-ghost use Rattle.pst_statements.specs.Listed.{stating};
+ghost use Rattle.pst_slots.specs.Listed.{stating};
 ghost use Rattle.pst_refusals.specs.Failing.{bound_in, value_in, fails_at, fails};
 
 use crate::site::Site;

@@ -4,8 +4,8 @@ ghost use Rattle.std.specs.List.{list_any, enumerate_from};
 ghost use Rattle.pst_model.specs.ModelView.{view_model, view_step};
 ghost use Rattle.pst_model.specs.Sound.{IsSound};
 ghost use Rattle.pst_known.specs.Known.{seen};
-ghost use Rattle.pst_statements.specs.Listed.{of_fill, of_step, of_stated, of_node};
-ghost use Rattle.pst_statements.specs.Stated.{statement_of as statement_in};
+ghost use Rattle.pst_slots.specs.Listed.{of_fill, of_step, of_stated, of_node};
+ghost use Rattle.pst_slots.specs.Stated.{statement_of as statement_in};
 ghost use Rattle.pst_refusals.specs.Failing.{fails};
 
 use crate::fails::some_fails;

@@ -1,7 +1,7 @@
 //! Where nodes stand in their parents.
 ghost use Rattle.std.specs.Prelude.{◌≡◌};
 ghost use Rattle.pst_scen.specs.Tree.{is_parent};
-ghost use Rattle.pst_statements.specs.Stated.{parent_of, place_in};
+ghost use Rattle.pst_slots.specs.Stated.{parent_of, place_in};
 
 use pst_scen::Node;
 

@@ -5,7 +5,7 @@ ghost use Rattle.pst_model.specs.ModelView.{view_model};
 ghost use Rattle.pst_model.specs.Sound.{IsSound};
 ghost use Rattle.pst_legal.specs.Types.{is_state_pool};
 ghost use Rattle.pst_known.specs.Known.{seen};
-ghost use Rattle.pst_statements.specs.Listed.{of_act, of_fill, of_first_object};
+ghost use Rattle.pst_slots.specs.Listed.{of_act, of_fill, of_first_object};
 ghost use Rattle.pst_refusals.specs.Failing.{fails};
 
 use crate::acts::{is_state_pool, of_act, of_first};

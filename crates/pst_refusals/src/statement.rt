@@ -6,8 +6,8 @@ ghost use Rattle.pst_model.specs.declared.activity.Arm.{Arm as TheArm};
 ghost use Rattle.pst_model.specs.ModelView.{view_model, view_step};
 ghost use Rattle.pst_scen.specs.declared.tree.Fill.TheVariants as fill;
 ghost use Rattle.pst_legal.specs.Statements.{step_below};
-ghost use Rattle.pst_statements.specs.Stated.{part_at, repeated_in, stated_within, statement_of, place_in, at_place};
-ghost use Rattle.pst_statements.specs.Stated.{parent_of as parent_in};
+ghost use Rattle.pst_slots.specs.Stated.{part_at, repeated_in, stated_within, statement_of, place_in, at_place};
+ghost use Rattle.pst_slots.specs.Stated.{parent_of as parent_in};
 ghost use Rattle.pst_refusals.specs.Founds.{stated_of, stated_at, step_at};
 
 use crate::places::{parent_of, place_in};

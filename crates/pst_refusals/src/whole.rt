@@ -4,7 +4,7 @@ ghost use Rattle.std.specs.List.{list_any};
 ghost use Rattle.pst_model.specs.ModelView.{view_model};
 ghost use Rattle.pst_model.specs.Sound.{IsSound};
 ghost use Rattle.pst_known.specs.Known.{seen};
-ghost use Rattle.pst_statements.specs.Listed.{constraints_of};
+ghost use Rattle.pst_slots.specs.Listed.{constraints_of};
 ghost use Rattle.pst_refusals.specs.Failing.{fails};
 ghost use Rattle.pst_refusals.specs.Answers.{StandEarlier, TellsRefusals, TellsUnmet};
 

@@ -9,7 +9,7 @@ use Rattle.pst_scen.specs.declared.scenario.Scenario.{Scenario}
 use Rattle.pst_legal.specs.Types.{type_of}
 use Rattle.pst_legal.specs.Blanks.{Blank, Instance, claims_of, instance_blanks, claim_blanks, value_blanks}
 use Rattle.pst_few_places.specs.Fillings.{all_blanks}
-use Rattle.pst_reached.proofs.Lists.{get_mapped}
+use Rattle.pst_built.proofs.Lists.{get_mapped}
 use Rattle.pst_claim_rivals.specs.declared.claims.OpenClaim.{OpenClaim}
 use Rattle.pst_claim_rivals.specs.Claims.{open_claim, claims_in, open_claims}
 use Rattle.pst_claim_rivals.proofs.Lists.{map_flat, get_front}

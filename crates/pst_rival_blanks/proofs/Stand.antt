@@ -13,7 +13,7 @@ use Rattle.pst_scen.specs.declared.scenario.Scenario.{Scenario}
 use Rattle.pst_legal.specs.Types.{type_of, action_claim, served_claim}
 use Rattle.pst_legal.specs.Blanks.{Blank, Instance, claims_of}
 use Rattle.pst_legal.specs.ValueReading.{is_lock, with_firsts}
-use Rattle.pst_reached.proofs.Lists.{get_mapped}
+use Rattle.pst_built.proofs.Lists.{get_mapped}
 use Rattle.pst_few_places.specs.Fillings.{all_blanks, filled}
 use Rattle.pst_blank_values.specs.Rows.{Claims, of_act, stands_in}
 use Rattle.pst_blank_values.specs.Values.{value_of_option, blank_values, AreBare, IsSameAct}

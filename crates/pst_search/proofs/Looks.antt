@@ -8,12 +8,12 @@ use Rattle.pst_scen.specs.Refusals.{IsUnrefused}
 use Rattle.pst_legal.specs.Constraints.{Holds}
 use Rattle.pst_legal.specs.First.{NoneRefused}
 use Rattle.pst_legal.specs.ValueReading.{Answer, Options, Dead, Whole, read}
-use Rattle.pst_longer.specs.Laws.{DeadStaysDead, WholeListsEnd}
+use Rattle.pst_built.specs.LongerLaws.{DeadStaysDead, WholeListsEnd}
 use Rattle.pst_built.specs.Laws.{IsConcreteRoot, WholeReadingsAreBuilt}
 use Rattle.pst_order.specs.Built.{IsBuilt}
-use Rattle.pst_order_stays.specs.SoFar.{HasRead}
+use Rattle.pst_built.specs.SoFar.{HasRead}
 use Rattle.pst_read_legal.specs.Laws.{PlannedReadingsAreLegal, LegalIsUnrefused}
-use Rattle.pst_refusals_stay.specs.Laws.{RefusedListsAreBarren}
+use Rattle.pst_read_domains.specs.RefusalsStayLaws.{RefusedListsAreBarren}
 use Rattle.pst_refusals.specs.Answers.{TellsRefusals}
 use Rattle.pst_shape.specs.Walks.{next_of, IfRead, HasDigit}
 use Rattle.pst_link_walk.specs.Walks.{Kept}

@@ -7,7 +7,7 @@ use Rattle.pst_legal.specs.Blanks.{claim_blanks, value_blanks}
 use Rattle.pst_legal.specs.Reading.{then_read}
 use Rattle.pst_legal.specs.ValueReading.{Answer, Options, Dead, Whole, answer_of, with_firsts, read_values, read_blanks}
 use Rattle.pst_legal.specs.First.{NoneRefused}
-use Rattle.pst_order_stays.specs.SoFar.{HasRead}
+use Rattle.pst_built.specs.SoFar.{HasRead}
 use Rattle.pst_few_places.specs.Fillings.{all_blanks, filled, named}
 use Rattle.pst_few_places.proofs.Named.{blanks_join}
 use Rattle.pst_shape.specs.Walks.{IfRead}

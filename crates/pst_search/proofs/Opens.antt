@@ -17,10 +17,10 @@ use Rattle.pst_legal.specs.Blanks.{Blank, options, domain_of}
 use Rattle.pst_legal.specs.Standing.{hull}
 use Rattle.pst_legal.specs.Reading.{Reading, Wants, Stops, option_at}
 use Rattle.pst_legal.specs.ValueReading.{answer_of, with_option, read_blanks}
-use Rattle.pst_order_stays.specs.SoFar.{HasRead}
+use Rattle.pst_built.specs.SoFar.{HasRead}
 use Rattle.pst_built.proofs.Values.{IsSameOrder}
 use Rattle.pst_read_slots.proofs.Same.{same_then, option_same}
-use Rattle.pst_whole_ahead.proofs.Same.{same_domain}
+use Rattle.pst_read_domains.proofs.Same.{same_domain}
 use Rattle.pst_few_places.specs.Fillings.{all_blanks, filled, named}
 use Rattle.pst_blank_values.specs.Values.{blank_values, value_of_option}
 use Rattle.pst_written_constraints.specs.Spans.{blank_hulls}

@@ -3,7 +3,7 @@ use Rattle.std.proofs.Common.{◌≡◌, refl, sym, subst}
 use Rattle.pst_model.specs.ModelView.{view_model}
 use Rattle.pst_scen.specs.declared.scenario.Scenario.{Scenario}
 use Rattle.pst_legal.specs.ValueReading.{Answer, Options, Dead, Whole}
-use Rattle.pst_order_stays.specs.SoFar.{HasRead}
+use Rattle.pst_built.specs.SoFar.{HasRead}
 use Rattle.pst_shape.specs.Walks.{IfRead}
 use Rattle.pst_link_walk.specs.Walks.{Kept}
 use Rattle.pst_list_walk.specs.Walks.{answer, IsRead}

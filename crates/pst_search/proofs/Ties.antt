@@ -24,7 +24,7 @@ use Rattle.pst_legal.specs.Standing.{hull}
 use Rattle.pst_legal.specs.Constraints.{Holds}
 use Rattle.pst_legal.specs.Reading.{Reads, Wants, Stops, then_read}
 use Rattle.pst_legal.specs.ValueReading.{Answer, Options, Dead, Whole, answer_of, with_firsts, read_blanks, read_values}
-use Rattle.pst_order_stays.specs.SoFar.{HasRead}
+use Rattle.pst_built.specs.SoFar.{HasRead}
 use Rattle.pst_few_places.proofs.Named.{blanks_join}
 use Rattle.pst_blank_values.specs.Values.{blank_values}
 use Rattle.pst_written_constraints.specs.Spans.{HoldOptions}
@@ -33,7 +33,7 @@ use Rattle.pst_written_constraints.specs.Open.{blank_bounds, OpenTogether}
 use Rattle.pst_constraint_sites.specs.Senses.{LinksJoin}
 use Rattle.pst_refusals.specs.Answers.{StandEarlier}
 use Rattle.pst_built.proofs.Values.{IsSameOrder}
-use Rattle.pst_longer.proofs.Goes.{Stands}
+use Rattle.pst_built.proofs.Goes.{Stands}
 use Rattle.pst_read_slots.proofs.Same.{values_same}
 use Rattle.pst_few_places.specs.Fillings.{all_blanks, AreOptions, filled}
 use Rattle.pst_shape.specs.Walks.{IfRead, HasDigit}

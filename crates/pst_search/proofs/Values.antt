@@ -13,7 +13,7 @@ use Rattle.pst_scen.specs.declared.scenario.Scenario.{Scenario}
 use Rattle.pst_legal.specs.Blanks.{Blank, Instance, OfFirst, OfAct, OfOutput, OfClaim, domain_of, options}
 use Rattle.pst_legal.specs.Reading.{option_at}
 use Rattle.pst_built.proofs.Values.{IsSameOrder}
-use Rattle.pst_whole_ahead.proofs.Same.{same_domain}
+use Rattle.pst_read_domains.proofs.Same.{same_domain}
 use Rattle.pst_few_places.specs.Fillings.{all_blanks, named}
 use Rattle.pst_blanks.specs.Blanks.{blank_value}
 use Rattle.pst_value_walk.specs.Choices.{value_by}

@@ -5,7 +5,7 @@ use Rattle.pst_scen.specs.declared.scenario.Scenario.{Scenario}
 use Rattle.pst_scen.specs.Plan.{Entries}
 use Rattle.pst_scen.specs.Plans.{IsPlanOf}
 use Rattle.pst_legal.specs.ValueReading.{Answer, Options, Whole}
-use Rattle.pst_order_stays.specs.Laws.{IsBarren}
+use Rattle.pst_built.specs.OrderStaysLaws.{IsBarren}
 use Rattle.pst_link_walk.specs.Walks.{Kept}
 use Rattle.pst_list_walk.specs.Walks.{answer}
 use Rattle.pst_search_loop.specs.Kept.{Kept as Walked}

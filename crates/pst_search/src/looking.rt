@@ -15,16 +15,14 @@ use crate::copies::copy_scenario;
 use crate::judging::{has_plan, judge};
 use crate::shortage::is_short;
 use pst_base::NoMemory;
-use pst_built::whole_readings_are_built;
+use pst_built::{dead_stays_dead, whole_lists_end, whole_readings_are_built};
 use pst_graph::plan_of;
 use pst_link_order::is_refused_ahead;
 use pst_list_walk::ListWalk;
-use pst_longer::{dead_stays_dead, whole_lists_end};
 use pst_order_ahead::{refusals_ahead_stay, trees_are_laid_out};
 use pst_plan_so_far::{plans_refuse_lists, sources_are_built};
+use pst_read_domains::{nodes_stand_for_pieces, refused_lists_are_barren};
 use pst_read_legal::{legal_is_unrefused, planned_readings_are_legal};
-use pst_read_nodes::nodes_stand_for_pieces;
-use pst_refusals_stay::refused_lists_are_barren;
 use pst_scen::{Next, Plan, Scenario};
 use pst_search_loop::{Conflict, Judged, Look};
 use pst_search_places::{

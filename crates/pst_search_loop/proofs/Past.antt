@@ -11,7 +11,7 @@ use Rattle.pst_legal.specs.ValueReading.{Whole}
 use Rattle.pst_legal.specs.Legal.{Legal}
 use Rattle.pst_legal.specs.First.{ReadsLegal, NoneBelow, NoneBefore, AreLive, IsFirst, Spent}
 use Rattle.pst_built.specs.Laws.{WholeReadingsAreBuilt}
-use Rattle.pst_reached.specs.Laws.{LegalScenariosAreRead}
+use Rattle.pst_built.specs.ReachedLaws.{LegalScenariosAreRead}
 use Rattle.pst_search_loop.specs.Kept.{Facts, Kept, at_level, answer, Sought, SameKept}
 use Rattle.pst_search_loop.specs.Search.{IsLeast, IsSpent, IsEmpty}
 use Rattle.pst_search_loop.specs.Levels.{ArePast, IsOfSearch}

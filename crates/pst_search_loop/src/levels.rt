@@ -7,8 +7,7 @@ ghost use Rattle.pst_search_loop.specs.Levels.{Concludes};
 use crate::level::{Found, search_level};
 use crate::walker::Walker;
 use pst_base::NoMemory;
-use pst_built::whole_readings_are_built;
-use pst_reached::legal_scenarios_are_read;
+use pst_built::{legal_scenarios_are_read, whole_readings_are_built};
 use std::alloc::Global;
 
 /// What a search comes to.

@@ -5,7 +5,7 @@ use Rattle.std.proofs.lemmas.Bool.{cases_lt}
 use Rattle.pst_scen.specs.declared.scenario.Scenario.{Scenario}
 use Rattle.pst_legal.specs.ValueReading.{Options, Dead, Whole, read}
 use Rattle.pst_legal.specs.First.{ReadsLegal}
-use Rattle.pst_longer.specs.Laws.{ChoicesNameOptions}
+use Rattle.pst_built.specs.LongerLaws.{ChoicesNameOptions}
 use Rattle.pst_search_loop.specs.declared.conflict.Conflict.{Conflict}
 use Rattle.pst_search_loop.specs.Conflicts.{IsEarlier}
 use Rattle.pst_search_loop.specs.Kept.{Kept, answer, Agrees, IsConflict, Rests}

@@ -1,8 +1,8 @@
 //! Laws of conflicts by places.
 ghost use Rattle.pst_search_places.specs.Laws.{PlaceFactsHold, BarrenListsConflict, PlacesRestOnEarlierOnes, FewPlacesConflict, FewPlacesExclude, PlacesRestOnTheSources};
 
+use pst_built::places_go_on;
 use pst_few_places::few_places_refuse;
-use pst_longer::places_go_on;
 
 /// What each choice of a list stands for holds of that list.
 pub fn place_facts_hold()

@@ -5,7 +5,7 @@ use Rattle.pst_base.specs.declared.position.Place.{Place}
 use Rattle.pst_ast.specs.ExpressionTree.{ExprTree, ExprIn, RangesTree, RangeTree, RangeSingle, RangeBetween}
 use Rattle.pst_expr.specs.declared.ranges.Span.{Span}
 use Rattle.pst_model.specs.ConstraintTree.{SlotTree}
-use Rattle.pst_constants.specs.Domains.{ranges_of}
+use Rattle.pst_type_rules.specs.Domains.{ranges_of}
 use Rattle.pst_terms.specs.Laws.{RewritingKeepsValues}
 use Rattle.pst_terms.specs.Sources.{Sources}
 use Rattle.pst_terms.specs.Readings.{Setting, reading_of, expr_term}

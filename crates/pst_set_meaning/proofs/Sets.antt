@@ -7,7 +7,7 @@ use Rattle.pst_ast.specs.SharedTree.{NextExprTree}
 use Rattle.pst_ast.specs.ConstraintTree.{ConstraintTree, ConstraintOne, ConstraintBlock, ConstraintItemTree, ConstraintItemEmpty, ConstraintItemExpr, ConstraintItemImplies, ConstraintItemIf, ConstraintItemIfElse, ConstraintItemUnique, ConstraintItemForeach, ConstraintItemRow, NoConstraintItemRow, MoreConstraintItemRow, ConstraintContentNamed, ConstraintContentSet, ConstraintDeclarationTree, MakeConstraintDeclaration}
 use Rattle.pst_expr.specs.declared.tree.UnaryOp.TheVariants.{Not}
 use Rattle.pst_model.specs.ConstraintTree.{SlotTree}
-use Rattle.pst_scope.specs.Uses.{next_expr}
+use Rattle.pst_ast.specs.Uses.{next_expr}
 use Rattle.pst_terms.specs.Laws.{RewritingKeepsValues}
 use Rattle.pst_terms.specs.Sources.{Sources}
 use Rattle.pst_terms.specs.Terms.{Prefix}

@@ -3,8 +3,8 @@ use Rattle.std.specs.Prelude.{◌≡◌, ℕ, ◌<◌, ℤ, pos, List, [], ◌�
 use Rattle.pst_ast.specs.ExpressionTree.{ExprTree}
 use Rattle.pst_ast.specs.ConstraintTree.{ConstraintTree, ConstraintOne, ConstraintBlock, ConstraintItemTree, ConstraintItemEmpty, ConstraintItemExpr, ConstraintItemImplies, ConstraintItemIf, ConstraintItemIfElse, ConstraintItemUnique, ConstraintItemForeach, ConstraintItemRow, NoConstraintItemRow, MoreConstraintItemRow, ConstraintContentNamed, ConstraintContentSet, ConstraintDeclarationTree, MakeConstraintDeclaration}
 use Rattle.pst_model.specs.ConstraintTree.{SlotTree}
-use Rattle.pst_constants.specs.Values.{value_under}
-use Rattle.pst_scope.specs.Uses.{next_expr}
+use Rattle.pst_type_rules.specs.Values.{value_under}
+use Rattle.pst_ast.specs.Uses.{next_expr}
 use Rattle.pst_terms.specs.Sources.{Sources}
 use Rattle.pst_terms.specs.Readings.{Setting, AtNumber, reading_of}
 use Rattle.pst_terms.specs.Values.{path_value}

@@ -5,7 +5,7 @@ use Rattle.pst_ast.specs.ExpressionTree.{ExprTree, ExprIn, RangesTree, RangeTree
 use Rattle.pst_ast.specs.ConstraintTree.{ConstraintTree, ConstraintDeclarationTree}
 use Rattle.pst_expr.specs.declared.ranges.Span.{Span}
 use Rattle.pst_model.specs.ConstraintTree.{SlotTree}
-use Rattle.pst_constants.specs.Domains.{ranges_of}
+use Rattle.pst_type_rules.specs.Domains.{ranges_of}
 use Rattle.pst_terms.specs.Sources.{Sources}
 use Rattle.pst_terms.specs.Readings.{Setting}
 use Rattle.pst_elab_rules.specs.Constraints.{set_terms, declaration_terms}

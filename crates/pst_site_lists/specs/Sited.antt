@@ -5,7 +5,7 @@ use Rattle.pst_ast.specs.DeclarationView.{view_enum}
 use Rattle.pst_ast.specs.ExpressionTree.{ExprTree, PartTree, MakePart}
 use Rattle.pst_ast.specs.ExpressionView.{view_expr}
 use Rattle.pst_ast.specs.SharedView.{view_type}
-use Rattle.pst_constants.specs.Enums.{DeclaredEnum, enum_of}
+use Rattle.pst_type_rules.specs.Enums.{DeclaredEnum, enum_of}
 use Rattle.pst_type_rules.specs.Sites.{DeclaredField, size_in}
 use Rattle.pst_site_lists.specs.declared.site.EnumSite.{EnumSite}
 use Rattle.pst_site_lists.specs.declared.site.FieldSite.{FieldSite}

@@ -2,7 +2,7 @@
 ghost use Rattle.std.specs.Prelude.{◌≡◌, ◌++◌, IfOk, OnOk, map};
 ghost use Rattle.std.specs.List.{flat_map};
 ghost use Rattle.pst_ast.specs.DeclarationView.{view_component_part, view_item, view_unit};
-ghost use Rattle.pst_constants.specs.Enums.{enums, enums_in_item, enums_in_part};
+ghost use Rattle.pst_type_rules.specs.Enums.{enums, enums_in_item, enums_in_part};
 ghost use Rattle.pst_site_lists.specs.Sited.{view_enum_site};
 
 use crate::site::EnumSite;

@@ -5,19 +5,19 @@ ghost use Rattle.std.specs.Option.{option_map};
 ghost use Rattle.pst_ast.specs.DeclarationView.{view_action, view_action_part, view_component_part, view_field, view_item, view_next_field, view_object, view_object_part, view_unit};
 ghost use Rattle.pst_ast.specs.ExpressionView.{view_expr, view_part};
 ghost use Rattle.pst_ast.specs.SharedView.{view_type};
-ghost use Rattle.pst_scope.specs.declared.declaration.Sort.TheVariants.{Object as AnObject};
-ghost use Rattle.pst_scope.specs.Declarations.{action_declared, base_name, level_of, next_field_part, type_declared};
-ghost use Rattle.pst_scope.specs.Uses.{environment};
+ghost use Rattle.pst_ast.specs.declared.scope_declaration.Sort.TheVariants.{Object as AnObject};
+ghost use Rattle.pst_ast.specs.Declarations.{action_declared, base_name, level_of, next_field_part, type_declared};
+ghost use Rattle.pst_ast.specs.Uses.{environment};
 ghost use Rattle.pst_type_rules.specs.Sites;
 ghost use Rattle.pst_site_lists.specs.Sited.{size_of_part, view_field_site};
 
 use crate::site::FieldSite;
 use pst_ast::{
-    ActionNode, ActionPart, BaseNode, ComponentPart, ExprNode, FieldNode, Item, NextField,
-    ObjectNode, ObjectPart, PartNode, TypeName, TypeNode, Unit,
+    ActionNode, ActionPart, BaseNode, ComponentPart, Declaration, Environment, ExprNode, FieldNode,
+    Inner, Item, NextField, ObjectNode, ObjectPart, Owner, PartNode, Scope, Sort, TypeName,
+    TypeNode, Unit,
 };
 use pst_base::{NoMemory, Place};
-use pst_scope::{Declaration, Environment, Inner, Owner, Scope, Sort};
 use std::alloc::Global;
 
 // The environment of what stands in the text of an owner, outside of bodies and indices.

@@ -1,7 +1,6 @@
 //! Fields and enums, with where they stand.
-use pst_ast::{EnumNode, ExprNode, Name, TypeNode};
+use pst_ast::{EnumNode, Environment, ExprNode, Name, TypeNode};
 use pst_base::Place;
-use pst_scope::Environment;
 
 /// A field of the sources.
 #[derive(Drop)]

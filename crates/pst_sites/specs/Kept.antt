@@ -1,7 +1,7 @@
 -- How the sites of the sources are kept.
 use Rattle.std.specs.Prelude.{◌≡◌, map}
 use Rattle.pst_ast.specs.DeclarationView.{view_action, view_function, view_unit}
-use Rattle.pst_constants.specs.Enums.{enums}
+use Rattle.pst_type_rules.specs.Enums.{enums}
 use Rattle.pst_type_rules.specs.Sites.{action_of, actions, fields, function_of, functions}
 use Rattle.pst_site_lists.specs.Sited.{view_enum_site, view_field_site}
 use Rattle.pst_sites.specs.declared.sites.Sites.TheInside.{Inside}

@@ -3,7 +3,7 @@ ghost use Rattle.std.specs.Prelude.{◌≡◌, IfOk, map};
 ghost use Rattle.std.specs.List.{find};
 ghost use Rattle.std.specs.Option.{option_map};
 ghost use Rattle.pst_ast.specs.DeclarationView.{view_action, view_function};
-ghost use Rattle.pst_scope.specs.Sorts.{same_place};
+ghost use Rattle.pst_ast.specs.Sorts.{same_place};
 ghost use Rattle.pst_type_rules.specs.Sites.{action_of, function_of};
 ghost use Rattle.pst_site_lists.specs.Sited.{view_enum_site, view_field_site};
 

@@ -2,7 +2,7 @@
 ghost use Rattle.std.specs.Prelude.{◌≡◌, IfOk, map};
 ghost use Rattle.std.specs.Option.{option_map};
 ghost use Rattle.pst_ast.specs.DeclarationView.{view_action, view_function, view_unit};
-ghost use Rattle.pst_constants.specs.Enums;
+ghost use Rattle.pst_type_rules.specs.Enums;
 ghost use Rattle.pst_type_rules.specs.Sites as tree;
 ghost use Rattle.pst_site_lists.specs.Sited.{view_enum_site, view_field_site};
 
@@ -137,7 +137,7 @@ impl<'a> Sites<'a> {
     }
 
     /// The enum whose name stands at a place.
-    #[tactic(auto, unfolding(pst_constants::specs::Enums::enum_at))]
+    #[tactic(auto, unfolding(pst_type_rules::specs::Enums::enum_at))]
     pub fn enum_at(&self, place: Place) -> Option<EnumSite<'a>>
         ensures { option_map view_enum_site result ≡ Enums.enum_at (map view_unit self.now) place }
     {

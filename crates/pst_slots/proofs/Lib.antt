@@ -9,3 +9,8 @@ pub mod Sounds
 mod Whole
 mod Placed
 mod Both
+pub mod Children
+pub mod Found
+pub mod Kept
+pub mod Listed
+mod StatementsWhole

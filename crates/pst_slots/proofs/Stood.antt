@@ -11,7 +11,7 @@ use Rattle.pst_legal.specs.Growing.{Look}
 use Rattle.pst_legal.specs.Pieces.{Piece, IsWay}
 use Rattle.pst_legal.specs.Statements.{children_of}
 use Rattle.pst_built.proofs.Parents.{get_more, get_last}
-use Rattle.pst_statements.proofs.Children.{kids}
+use Rattle.pst_slots.proofs.Children.{kids}
 use Rattle.pst_slots.proofs.Parts.{IsLookOf, PartsOf, PartOf}
 
 -- ---- the nodes in a parent, of longer lists

@@ -29,7 +29,7 @@ use Rattle.pst_legal.specs.Slots.{behind, traversed_type, unread_slot, act_slot,
 use Rattle.pst_legal.specs.Statements.{handle_node, node_on, way_in, StandsFor}
 use Rattle.pst_legal.specs.Constraints.{HasConstraint, OfCompound, OfAct, OfOutput, OfClaim, OfFirst, Inline}
 use Rattle.pst_built.proofs.SoundActs.{all_get, some_and}
-use Rattle.pst_statements.proofs.Kept.{stands_at}
+use Rattle.pst_slots.proofs.Kept.{stands_at}
 use Rattle.pst_slots.specs.Decided.{IsDecided}
 use Rattle.pst_slots.proofs.Lists.{decided_or, nothing_unread, zip_past}
 use Rattle.pst_slots.proofs.Owned.{no_span}

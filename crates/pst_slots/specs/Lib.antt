@@ -1,2 +1,5 @@
 pub mod Decided
 pub mod Laws
+pub mod Stated
+pub mod Listed
+pub mod StatementsLaws

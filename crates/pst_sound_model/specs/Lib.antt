@@ -1,1 +1,17 @@
 pub mod Laws
+pub mod SoundRootLaws
+pub mod Rows
+pub mod Conditions
+pub mod SoundBodiesLaws
+pub mod SoundTiesLaws
+pub mod SoundStepsLaws
+pub mod SoundPlacesLaws
+pub mod SoundServedLaws
+pub mod SoundSteadyLaws
+pub mod SoundActivitiesLaws
+pub mod SoundNamesLaws
+pub mod SoundTypesLaws
+pub mod Blocks
+pub mod Used
+pub mod SoundExpressionsConditions
+pub mod SoundExpressionsLaws

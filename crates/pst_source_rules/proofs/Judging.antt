@@ -9,9 +9,9 @@ use Rattle.pst_elab_rules.specs.declared.end.ElabEnd.TheVariants as the_end
 use Rattle.pst_elab_rules.specs.Ends.{AreTyped, HasMany, IsFirstBreach, InNames, InTypes, AtLast}
 use Rattle.pst_names.specs.declared.end.RuleEnd.TheVariants as rule_end
 use Rattle.pst_names.specs.Resolved.{IsUnresolved}
-use Rattle.pst_scope.specs.Breaches.{IsNone}
-use Rattle.pst_scope.specs.NameRules.{NameBreach}
-use Rattle.pst_scope.specs.declared.referent.Finding.{Finding}
+use Rattle.pst_ast.specs.Breaches.{IsNone}
+use Rattle.pst_ast.specs.NameRules.{NameBreach}
+use Rattle.pst_ast.specs.declared.referent.Finding.{Finding}
 use Rattle.pst_tree.specs.Found.{AreMany}
 use Rattle.pst_tree.specs.Instances.{AreInstances}
 use Rattle.pst_type_rules.specs.Typed.{AreConstants}

@@ -13,8 +13,8 @@ use Rattle.pst_elab_rules.specs.Ends.{LastBreach, OfPools, OfRoot, RootBreach, N
 use Rattle.pst_name_rules.specs.Earlier.{earlier, is_no_later}
 use Rattle.pst_name_rules.specs.Leasts.{IsLeastOf, NoLater}
 use Rattle.pst_name_rules.proofs.Leasts.{least_of_both}
-use Rattle.pst_scope.specs.Breaches.{IsLeast, IsNone, IsNoLater}
-use Rattle.pst_scope.specs.declared.referent.Finding.{Finding}
+use Rattle.pst_ast.specs.Breaches.{IsLeast, IsNone, IsNoLater}
+use Rattle.pst_ast.specs.declared.referent.Finding.{Finding}
 use Rattle.pst_source_rules.specs.Judged.{IsLast, both_of, no_root, or_first}
 
 some_none : {r : ℕ} → Some r ≡ None → ⊥

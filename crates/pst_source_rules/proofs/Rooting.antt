@@ -5,9 +5,9 @@ use Rattle.std.specs.List.{filter, list_any, enumerate_from}
 use Rattle.std.specs.Option.{option_map_or, option_and_then}
 use Rattle.pst_ast.specs.declared.instance.Instance.{Instance}
 use Rattle.pst_ast.specs.DeclarationTree.{UnitTree}
-use Rattle.pst_scope.specs.declared.declaration.Declaration.{Declaration}
-use Rattle.pst_scope.specs.Declarations.{declarations}
-use Rattle.pst_scope.specs.Lookups.{declared_at, is_text}
+use Rattle.pst_ast.specs.declared.scope_declaration.Declaration.{Declaration}
+use Rattle.pst_ast.specs.Declarations.{declarations}
+use Rattle.pst_ast.specs.Lookups.{declared_at, is_text}
 use Rattle.pst_bind.specs.Needs.{is_concrete, is_home, homes_of}
 use Rattle.pst_elab_rules.specs.Ends.{is_filled, is_root}
 use Rattle.pst_source_rules.specs.Rooted.{has_home_in, is_named_root}

@@ -6,8 +6,8 @@ use Rattle.pst_bind.specs.declared.pool_map.PoolMap.{PoolMap}
 use Rattle.pst_bind.specs.PoolRules.{IsPoolMap}
 use Rattle.pst_model.specs.Limits.{most_instances}
 use Rattle.pst_name_rules.specs.Earlier.{earlier}
-use Rattle.pst_scope.specs.Breaches.{IsLeast, IsNone}
-use Rattle.pst_scope.specs.declared.referent.Finding.{Finding}
+use Rattle.pst_ast.specs.Breaches.{IsLeast, IsNone}
+use Rattle.pst_ast.specs.declared.referent.Finding.{Finding}
 use Rattle.pst_tree.specs.Instances.{AreInstances}
 use Rattle.pst_type_rules.specs.Typed.{AreConstants}
 use Rattle.pst_elab_rules.specs.declared.end.ElabEnd.{ElabEnd}

@@ -3,8 +3,8 @@ use Rattle.std.specs.Prelude.{ℕ, Bool, false, ◌&&◌, List}
 use Rattle.std.specs.List.{list_any}
 use Rattle.std.specs.Option.{option_map_or, option_and_then}
 use Rattle.pst_ast.specs.declared.instance.Instance.{Instance}
-use Rattle.pst_scope.specs.declared.declaration.Declaration.{Declaration}
-use Rattle.pst_scope.specs.Lookups.{declared_at, is_text}
+use Rattle.pst_ast.specs.declared.scope_declaration.Declaration.{Declaration}
+use Rattle.pst_ast.specs.Lookups.{declared_at, is_text}
 use Rattle.pst_bind.specs.Needs.{is_home}
 
 abbrev pub has_home_in : List Declaration → List Instance → Declaration → Bool

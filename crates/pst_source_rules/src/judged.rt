@@ -2,21 +2,20 @@
 ghost use Rattle.std.specs.Prelude.{◌≡◌, ◌≤◌, IfErr, IfOk, length, map};
 ghost use Rattle.pst_ast.specs.DeclarationView.{view_unit};
 ghost use Rattle.pst_elab_rules.specs.Ends as ends;
-ghost use Rattle.pst_scope.specs.Breaches.{IsNone};
-ghost use Rattle.pst_scope.specs.NameRules.{NameBreach};
-ghost use Rattle.pst_scope.specs.Scopes.{AreScopes};
+ghost use Rattle.pst_ast.specs.Breaches.{IsNone};
+ghost use Rattle.pst_ast.specs.NameRules.{NameBreach};
+ghost use Rattle.pst_ast.specs.Scopes.{AreScopes};
 ghost use Rattle.pst_source_rules.specs.Judged.{IsEnd, IsJudged};
 ghost use Rattle.pst_tree.specs.Instances.{AreInstances};
 ghost use Rattle.pst_type_rules.specs.Typed.{AreConstants};
 
 use crate::last::last;
 use crate::root::RootWords;
-use pst_ast::Unit;
+use pst_ast::{Finding, Scopes, Unit};
 use pst_base::Names;
 use pst_bind::PoolMap;
 use pst_elab_rules::ElabEnd;
 use pst_names::{RuleEnd, resolve};
-use pst_scope::{Finding, Scopes};
 use pst_tree::{Tree, TreeEnd, instances};
 use pst_type_rules::Typed;
 use pst_types::check;

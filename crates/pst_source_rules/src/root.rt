@@ -5,17 +5,16 @@ ghost use Rattle.std.specs.Option.{option_and_then, option_map_or};
 ghost use Rattle.pst_ast.specs.DeclarationView.{view_unit};
 ghost use Rattle.pst_bind.specs.Needs as need;
 ghost use Rattle.pst_elab_rules.specs.Ends as tree;
-ghost use Rattle.pst_scope.specs.Declarations.{declarations as the_declarations};
-ghost use Rattle.pst_scope.specs.Lookups;
-ghost use Rattle.pst_scope.specs.Sorts;
+ghost use Rattle.pst_ast.specs.Declarations.{declarations as the_declarations};
+ghost use Rattle.pst_ast.specs.Lookups;
+ghost use Rattle.pst_ast.specs.Sorts;
 ghost use Rattle.pst_type_rules.specs.Members.{those_that};
 ghost use Rattle.pst_source_rules.specs.Rooted.{has_home_in, is_named_root};
 
-use pst_ast::Instance;
+use pst_ast::{Declaration, Instance, Sort};
 use pst_base::{NameId, Names, NoMemory};
 use pst_bind::component_of;
 use pst_index::Index;
-use pst_scope::{Declaration, Sort};
 use pst_sites::Sites;
 use std::alloc::Global;
 

@@ -5,7 +5,7 @@ use Rattle.std.specs.List.{find}
 use Rattle.std.specs.Option.{option_map, option_and_then}
 use Rattle.std.proofs.lemmas.Option.{slice_get_past, slice_get_read}
 use Rattle.pst_base.specs.declared.position.Place.{Place}
-use Rattle.pst_scope.specs.Sorts.{same_place}
+use Rattle.pst_ast.specs.Sorts.{same_place}
 use Rattle.pst_places.specs.Numbers.{number_in, number_from}
 
 -- counting from one more gives one more

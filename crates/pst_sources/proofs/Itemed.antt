@@ -7,8 +7,8 @@ use Rattle.pst_ast.specs.declared.leaf.Name.{Name}
 use Rattle.pst_ast.specs.DeclarationTree.{EnumItemTree, MakeEnumItem}
 use Rattle.pst_ast.specs.DeclarationView.{view_enum_item, view_next_enum_item}
 use Rattle.pst_ast.specs.declared.declaration.NextEnumItem.{NextEnumItem}
-use Rattle.pst_scope.specs.Declarations.{next_item}
-use Rattle.pst_constants.specs.Enums.{DeclaredEnum, items_behind, enums}
+use Rattle.pst_ast.specs.Declarations.{next_item}
+use Rattle.pst_type_rules.specs.Enums.{DeclaredEnum, items_behind, enums}
 use Rattle.pst_site_lists.specs.Sited.{view_enum_site}
 use Rattle.pst_site_lists.specs.declared.site.EnumSite.{EnumSite}
 use Rattle.pst_terms.specs.Sources.{Sources, item_values, next_value, all_item_values}

@@ -1,7 +1,7 @@
 -- How the sources and the values of their constants are kept.
 use Rattle.std.specs.Prelude.{◌≡◌, map}
 use Rattle.pst_ast.specs.DeclarationView.{view_unit}
-use Rattle.pst_scope.specs.Declarations.{declarations}
+use Rattle.pst_ast.specs.Declarations.{declarations}
 use Rattle.pst_sources.specs.Shown.{Shown}
 use Rattle.pst_sources.specs.declared.known.Known.TheInside.{Inside}
 

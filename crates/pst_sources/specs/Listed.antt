@@ -4,7 +4,7 @@ use Rattle.std.specs.Option.{option_map, option_map_or}
 use Rattle.pst_base.specs.declared.position.Place.{Place}
 use Rattle.pst_ast.specs.ExpressionTree.{ExprTree}
 use Rattle.pst_ast.specs.DeclarationTree.{EnumItemTree, MakeEnumItem}
-use Rattle.pst_constants.specs.Enums.{expr_in}
+use Rattle.pst_type_rules.specs.Enums.{expr_in}
 use Rattle.pst_terms.specs.Sources.{Sources, value_of, next_value}
 
 abbrev pub item_expr : EnumItemTree → Option ExprTree

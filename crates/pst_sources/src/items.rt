@@ -2,7 +2,7 @@
 ghost use Rattle.std.specs.Prelude.{◌≡◌, ◌++◌, ◌∷◌, [], pos, Some, IfOk, OnOk, map};
 ghost use Rattle.std.specs.List.{flat_map};
 ghost use Rattle.pst_ast.specs.DeclarationView.{view_enum_item, view_next_enum_item};
-ghost use Rattle.pst_scope.specs.Declarations.{next_item};
+ghost use Rattle.pst_ast.specs.Declarations.{next_item};
 ghost use Rattle.pst_site_lists.specs.Sited.{view_enum_site};
 ghost use Rattle.pst_terms.specs.Sources.{all_item_values, item_values, next_value};
 ghost use Rattle.pst_sources.specs.Listed.{item_expr, value_with, values_from};

@@ -2,18 +2,17 @@
 ghost use Rattle.std.specs.Prelude.{◌≡◌, IfOk, map};
 ghost use Rattle.pst_ast.specs.DeclarationView.{view_unit};
 ghost use Rattle.pst_ast.specs.ExpressionView.{view_expr};
-ghost use Rattle.pst_scope.specs.Declarations.{declarations};
+ghost use Rattle.pst_ast.specs.Declarations.{declarations};
 ghost use Rattle.pst_terms.specs.Fields as numbering;
 ghost use Rattle.pst_terms.specs.Sources as tree;
 ghost use Rattle.pst_sources.specs.Shown.{sources_of, with_constants};
 
 use crate::first_token::expr_place;
 use crate::lookup::{constant_in, places_of_constants};
-use pst_ast::ExprNode;
+use pst_ast::{Declaration, ExprNode};
 use pst_base::{Names, NoMemory};
 use pst_index::Index;
 use pst_places::PlaceList;
-use pst_scope::Declaration;
 use pst_sites::Sites;
 use pst_type_members::{MemberSort, Members};
 use pst_type_rules::ConstantValue;

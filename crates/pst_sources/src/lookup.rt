@@ -2,7 +2,7 @@
 ghost use Rattle.std.specs.Prelude.{◌≡◌, ℤ, IfOk, map, Option};
 ghost use Rattle.std.specs.List.{find};
 ghost use Rattle.pst_base.specs.declared.position.Place.{Place as APlace};
-ghost use Rattle.pst_scope.specs.Sorts.{same_place};
+ghost use Rattle.pst_ast.specs.Sorts.{same_place};
 
 use pst_base::{NoMemory, Place};
 use pst_places::PlaceList;

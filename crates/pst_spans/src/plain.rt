@@ -2,7 +2,7 @@
 ghost use Rattle.std.specs.Prelude.{◌≡◌, IfOk};
 ghost use Rattle.std.specs.Option.{option_map};
 ghost use Rattle.pst_ast.specs.SharedView.{view_plain, view_width};
-ghost use Rattle.pst_constants.specs.Domains as domain;
+ghost use Rattle.pst_type_rules.specs.Domains as domain;
 ghost use Rattle.pst_elab_rules.specs.Spans as tree;
 ghost use Rattle.pst_sources.specs.Shown.{sources_of};
 

@@ -4,14 +4,14 @@ use Rattle.std.specs.Prelude.{Some, None, IsTrue, slice_get}
 use Rattle.pst_base.specs.declared.table.NameId.{NameId}
 use Rattle.pst_ast.specs.ActivityTree.{StatementTree}
 use Rattle.pst_ast.specs.DeclarationTree.{UnitTree}
-use Rattle.pst_scope.specs.declared.declaration.Declaration.{Declaration}
-use Rattle.pst_scope.specs.Declarations.{declarations}
-use Rattle.pst_scope.specs.Lookups.{base_of}
+use Rattle.pst_ast.specs.declared.scope_declaration.Declaration.{Declaration}
+use Rattle.pst_ast.specs.Declarations.{declarations}
+use Rattle.pst_ast.specs.Lookups.{base_of}
 use Rattle.pst_type_rules.specs.Handles.{IsSteady, IsSteadyIn}
 use Rattle.pst_type_rules.specs.Members.{activities_of, bodies_of, IsCompound, Own, Inherited}
 use Rattle.pst_type_rules.specs.Sites.{DeclaredAction, action_at}
 use Rattle.pst_traversals.specs.Own.{first_in, has_any, own_activity, has_body}
-use Rattle.pst_inherited.proofs.Declared.{base_there}
+use Rattle.pst_tree.proofs.InheritedDeclared.{base_there}
 use Rattle.pst_steady.specs.Numbered.{IsNumber}
 use Rattle.pst_steady.proofs.Numbering.{base_acts}
 use Rattle.pst_steady.proofs.Lists.{some_is, no_some}

@@ -5,9 +5,9 @@ use Rattle.std.specs.HashMap.{HashMap, get}
 use Rattle.pst_base.specs.declared.position.Place.{Place}
 use Rattle.pst_base.specs.declared.table.NameId.{NameId}
 use Rattle.pst_ast.specs.DeclarationTree.{UnitTree}
-use Rattle.pst_scope.specs.declared.declaration.Declaration.{Declaration}
-use Rattle.pst_scope.specs.Declarations.{declarations}
-use Rattle.pst_scope.specs.Lookups.{base_of}
+use Rattle.pst_ast.specs.declared.scope_declaration.Declaration.{Declaration}
+use Rattle.pst_ast.specs.Declarations.{declarations}
+use Rattle.pst_ast.specs.Lookups.{base_of}
 use Rattle.pst_type_rules.specs.Handles.{IsSteadyIn}
 use Rattle.pst_type_rules.specs.Members.{IsOrDerives, Itself, Derives}
 use Rattle.pst_places.specs.Numbers.{number_in}

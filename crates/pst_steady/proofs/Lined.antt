@@ -7,9 +7,9 @@ use Rattle.std.specs.Option.{option_and_then, option_map_or}
 use Rattle.pst_base.specs.declared.table.NameId.{NameId}
 use Rattle.pst_ast.specs.ActivityTree.{StatementTree}
 use Rattle.pst_ast.specs.DeclarationTree.{UnitTree}
-use Rattle.pst_scope.specs.declared.declaration.Declaration.{Declaration}
-use Rattle.pst_scope.specs.Declarations.{declarations}
-use Rattle.pst_scope.specs.Lookups.{base_of}
+use Rattle.pst_ast.specs.declared.scope_declaration.Declaration.{Declaration}
+use Rattle.pst_ast.specs.Declarations.{declarations}
+use Rattle.pst_ast.specs.Lookups.{base_of}
 use Rattle.pst_type_rules.specs.Handles.{traversals, IsSteady, IsSteadyIn}
 use Rattle.pst_type_rules.specs.Members.{activities_of, bodies_of, IsCompound, Own, Inherited}
 use Rattle.pst_type_rules.specs.Sites.{DeclaredAction, action_at}

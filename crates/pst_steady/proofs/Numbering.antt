@@ -2,10 +2,10 @@
 use Rattle.std.proofs.Common.{◌≡◌, ◌⊎◌, inl, inr, ℕ, ◌+◌, Bool, true, false, ◌&&◌, List, [], ◌∷◌, ◌++◌, length, Option, refl, sym, ap, subst, ◌∙◌, arith}
 use Rattle.std.specs.Prelude.{Some, None, slice_get, IsTrue, if◌then◌else◌}
 use Rattle.std.specs.Option.{option_and_then}
-use Rattle.pst_scope.specs.declared.declaration.Declaration.{Declaration}
-use Rattle.pst_scope.specs.Lookups.{base_of, base_in, action_beside, type_named}
-use Rattle.pst_scope.specs.Sorts.{is_action, same_scope}
-use Rattle.pst_inherited.proofs.Declared.{base_there}
+use Rattle.pst_ast.specs.declared.scope_declaration.Declaration.{Declaration}
+use Rattle.pst_ast.specs.Lookups.{base_of, base_in, action_beside, type_named}
+use Rattle.pst_ast.specs.Sorts.{is_action, same_scope}
+use Rattle.pst_tree.proofs.InheritedDeclared.{base_there}
 use Rattle.pst_steady.specs.Numbered.{IsNumber, numbered, AreBasesSoFar}
 use Rattle.pst_steady.proofs.Lists.{some_is, no_some, push_cases, push_length}
 

@@ -3,7 +3,7 @@ use Rattle.std.specs.Prelude.{ℕ, List, length, Bool, Option, IsTrue}
 use Rattle.std.specs.HashMap.{HashMap}
 use Rattle.pst_base.specs.declared.position.Place.{Place}
 use Rattle.pst_ast.specs.DeclarationTree.{UnitTree}
-use Rattle.pst_scope.specs.Declarations.{declarations}
+use Rattle.pst_ast.specs.Declarations.{declarations}
 use Rattle.pst_traversals.specs.declared.tally.TallyKey.{TallyKey}
 use Rattle.pst_steady.specs.declared.below.Below.{Below}
 use Rattle.pst_steady.specs.Lined.{AreLined}

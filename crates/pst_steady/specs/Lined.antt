@@ -4,9 +4,9 @@ use Rattle.std.specs.HashMap.{HashMap, get}
 use Rattle.std.specs.Option.{option_map_or}
 use Rattle.pst_base.specs.declared.table.NameId.{NameId}
 use Rattle.pst_ast.specs.DeclarationTree.{UnitTree}
-use Rattle.pst_scope.specs.declared.declaration.Declaration.{Declaration}
-use Rattle.pst_scope.specs.Declarations.{declarations}
-use Rattle.pst_scope.specs.Sorts.{is_action}
+use Rattle.pst_ast.specs.declared.scope_declaration.Declaration.{Declaration}
+use Rattle.pst_ast.specs.Declarations.{declarations}
+use Rattle.pst_ast.specs.Sorts.{is_action}
 use Rattle.pst_type_rules.specs.Handles.{IsSteadyIn}
 use Rattle.pst_type_rules.specs.Members.{IsOrDerives}
 use Rattle.pst_type_rules.specs.Sites.{DeclaredAction}

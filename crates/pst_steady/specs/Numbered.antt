@@ -1,9 +1,9 @@
 -- The numbers of actions and of their bases among the declarations.
 use Rattle.std.specs.Prelude.{◌≡◌, ℕ, List, length, Option, Some, None, IsTrue, slice_get}
 use Rattle.std.specs.Option.{option_and_then}
-use Rattle.pst_scope.specs.declared.declaration.Declaration.{Declaration}
-use Rattle.pst_scope.specs.Lookups.{base_of}
-use Rattle.pst_scope.specs.Sorts.{is_action}
+use Rattle.pst_ast.specs.declared.scope_declaration.Declaration.{Declaration}
+use Rattle.pst_ast.specs.Lookups.{base_of}
+use Rattle.pst_ast.specs.Sorts.{is_action}
 
 -- the action has that number; with none it isn't among the declarations
 abbrev pub IsNumber : List Declaration → Declaration → Option ℕ → Type 0

@@ -1,7 +1,7 @@
 -- Activities and bodies in an order in which those of an action stand before those of what is derived from it.
 use Rattle.std.specs.Prelude.{◌≡◌, ◌<◌, ◌≤◌, ℕ, List, Option, Some, None, slice_get}
 use Rattle.pst_base.specs.declared.position.Place.{Place}
-use Rattle.pst_scope.specs.declared.declaration.Declaration.{Declaration}
+use Rattle.pst_ast.specs.declared.scope_declaration.Declaration.{Declaration}
 use Rattle.pst_places.specs.Numbers.{number_in}
 use Rattle.pst_steady.specs.declared.ranges.Range.{Range}
 use Rattle.pst_steady.specs.declared.reach.Seed.{Seed}

@@ -1,7 +1,7 @@
 -- Where each declaration has its activity from.
 use Rattle.std.specs.Prelude.{◌≡◌, ℕ, List, length, Option, Some, None, true, false, IsSome, slice_get}
 use Rattle.pst_ast.specs.DeclarationTree.{UnitTree}
-use Rattle.pst_scope.specs.declared.declaration.Declaration.{Declaration}
+use Rattle.pst_ast.specs.declared.scope_declaration.Declaration.{Declaration}
 use Rattle.pst_type_rules.specs.Sites.{DeclaredAction, action_at}
 use Rattle.pst_traversals.specs.Own.{own_activity, has_body}
 use Rattle.pst_steady.specs.declared.reach.Seed.{Seed}

@@ -1,7 +1,7 @@
 //! Whether all that is derived from an action traverses a handle exactly once.
 ghost use Rattle.std.specs.Prelude.{◌≡◌, IsTrue, map};
 ghost use Rattle.pst_ast.specs.DeclarationView.{view_unit};
-ghost use Rattle.pst_scope.specs.Declarations.{declarations as the_declarations};
+ghost use Rattle.pst_ast.specs.Declarations.{declarations as the_declarations};
 ghost use Rattle.pst_type_rules.specs.Handles.{IsSteadyIn};
 ghost use Rattle.pst_steady.specs.Lined.{HasUnsteady};
 ghost use Rattle.pst_steady.specs.Derived.{AreBelow};
@@ -10,8 +10,8 @@ use crate::lineage::Lineage;
 use crate::number::number_of;
 use crate::ranges::Range;
 use crate::runs::{RunKey, are_once};
+use pst_ast::Declaration;
 use pst_base::NameId;
-use pst_scope::Declaration;
 use pst_sites::Sites;
 use std::collections::HashMap;
 

@@ -2,8 +2,8 @@
 ghost use Rattle.std.specs.Prelude.{◌≡◌, ◌↔◌, ◌+◌, ◌<◌, IfOk, IsTrue, Some, length, map, slice_get};
 ghost use Rattle.std.specs.HashMap.{get};
 ghost use Rattle.pst_ast.specs.DeclarationView.{view_unit};
-ghost use Rattle.pst_scope.specs.Declarations.{declarations as the_declarations};
-ghost use Rattle.pst_scope.specs.Lookups.{base_of};
+ghost use Rattle.pst_ast.specs.Declarations.{declarations as the_declarations};
+ghost use Rattle.pst_ast.specs.Lookups.{base_of};
 ghost use Rattle.pst_type_rules.specs.Handles.{IsSteadyIn};
 ghost use Rattle.pst_traversals.specs.Tallied.{same_key};
 ghost use Rattle.pst_steady.specs.Lined.{AreLined, AreMarks, HasUnsteady, IsMark, IsUnsteadyAmong, is_once};
@@ -11,11 +11,11 @@ ghost use Rattle.pst_steady.specs.Reached.{value_at as the_value};
 
 use crate::number::number_of;
 use crate::reach::{Seed, reached, value_at};
+use pst_ast::Declaration;
 use pst_base::{NameId, NoMemory};
 use pst_index::Index;
 use pst_members::is_same_action;
 use pst_places::PlaceList;
-use pst_scope::Declaration;
 use pst_sites::Sites;
 use pst_traversals::{TallyKey, has_body, is_steady, own_activity};
 use std::alloc::Global;

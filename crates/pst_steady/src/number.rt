@@ -1,13 +1,13 @@
 //! The numbers of actions and of their bases among the declarations.
 ghost use Rattle.std.specs.Prelude.{◌≡◌, ◌+◌, ◌<◌, ◌++◌, ◌∷◌, [], IfOk, Some, slice_get, length};
-ghost use Rattle.pst_scope.specs.Lookups;
+ghost use Rattle.pst_ast.specs.Lookups;
 ghost use Rattle.pst_steady.specs.Numbered.{AreBases, IsNumber, numbered};
 
+use pst_ast::Declaration;
 use pst_base::NoMemory;
 use pst_index::Index;
 use pst_members::is_same_action;
 use pst_places::PlaceList;
-use pst_scope::Declaration;
 use std::alloc::Global;
 
 // The number of an action, looked for among all declarations.

@@ -5,9 +5,9 @@ ghost use Rattle.pst_places.specs.Numbers.{number_in};
 ghost use Rattle.pst_steady.specs.Ranged.{AreRanged, IsBetween, IsPlaced, IsRanged};
 
 use crate::reach::{Seed, value_at};
+use pst_ast::Declaration;
 use pst_base::NoMemory;
 use pst_places::PlaceList;
-use pst_scope::Declaration;
 use std::alloc::Global;
 
 /// Numbers from a first one on.

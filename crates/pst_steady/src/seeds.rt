@@ -5,9 +5,8 @@ ghost use Rattle.pst_type_rules.specs.Sites.{DeclaredAction, action_at, action_o
 ghost use Rattle.pst_steady.specs.Seeded.{AreSeeds, IsSeed};
 
 use crate::reach::Seed;
-use pst_ast::ActionNode;
+use pst_ast::{ActionNode, Declaration};
 use pst_base::{NoMemory, Place};
-use pst_scope::Declaration;
 use pst_sites::Sites;
 use pst_traversals::{has_body, own_activity};
 use std::alloc::Global;

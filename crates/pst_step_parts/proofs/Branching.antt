@@ -4,7 +4,7 @@ use Rattle.std.specs.Prelude.{Option, Some, None, if◌then◌else◌}
 use Rattle.pst_base.specs.declared.table.NameId.{NameId}
 use Rattle.pst_ast.specs.declared.shared.LabelNode.{LabelNode}
 use Rattle.pst_ast.specs.ActivityTree.{StatementLabeled, StatementPlain, CoreTree, CoreDo, CoreHandle, CoreSequence, CoreTogether, CoreSelect, CoreRepeat, CoreIf, CoreIfElse, CoreMatch, CoreBind}
-use Rattle.pst_scope.specs.Uses.{is_branch, label_of}
+use Rattle.pst_ast.specs.Uses.{is_branch, label_of}
 use Rattle.pst_step_parts.specs.Joined.{is_bind}
 
 pub labeled_branch_is : (label : LabelNode) (core : CoreTree) → is_branch (StatementLabeled label core) ≡ not (is_bind core)

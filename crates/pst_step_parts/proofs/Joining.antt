@@ -9,9 +9,9 @@ use Rattle.pst_ast.specs.declared.shared.NextName.{NextName}
 use Rattle.pst_ast.specs.declared.shared.NamesNode.{NamesNode}
 use Rattle.pst_ast.specs.SharedView.{view_names}
 use Rattle.pst_ast.specs.ActivityTree.{StatementTree}
-use Rattle.pst_scope.specs.Declarations.{names_of}
-use Rattle.pst_scope.specs.Sorts.{same_name}
-use Rattle.pst_scope.specs.Uses.{is_branch, label_of}
+use Rattle.pst_ast.specs.Declarations.{names_of}
+use Rattle.pst_ast.specs.Sorts.{same_name}
+use Rattle.pst_ast.specs.Uses.{is_branch, label_of}
 use Rattle.pst_elab_rules.specs.Steps.{joined_bits, branch_labels}
 use Rattle.pst_walk_parts.specs.Shown.{row_of}
 use Rattle.pst_step_parts.specs.Joined.{labels_of, flags_of, bits_of}

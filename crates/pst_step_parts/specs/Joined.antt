@@ -3,8 +3,8 @@ use Rattle.std.specs.Prelude.{ℕ, ◌+◌, ◌*◌, Bool, true, false, not, Lis
 use Rattle.std.specs.List.{filter, list_any}
 use Rattle.pst_base.specs.declared.table.NameId.{NameId}
 use Rattle.pst_ast.specs.ActivityTree.{StatementTree, CoreTree, CoreBind}
-use Rattle.pst_scope.specs.Sorts.{same_name}
-use Rattle.pst_scope.specs.Uses.{is_branch, label_of}
+use Rattle.pst_ast.specs.Sorts.{same_name}
+use Rattle.pst_ast.specs.Uses.{is_branch, label_of}
 
 abbrev pub is_bind : CoreTree → Bool
 is_bind (CoreBind bind) = true

@@ -1,7 +1,7 @@
 //! The labels of the branches of blocks.
 ghost use Rattle.std.specs.Prelude.{◌≡◌, IfOk, map};
 ghost use Rattle.pst_ast.specs.ActivityView.{view_core, view_statement};
-ghost use Rattle.pst_scope.specs.Uses as tree;
+ghost use Rattle.pst_ast.specs.Uses as tree;
 ghost use Rattle.pst_step_parts.specs.Joined;
 ghost use Rattle.pst_step_parts.specs.Joined.{labels_of};
 

@@ -1,10 +1,10 @@
 -- The fields of types by number: each element of an array is one.
 use Rattle.std.specs.Prelude.{ℕ, zero, suc, ◌+◌, List, [], ◌∷◌, Option, Some, None, if◌then◌else◌}
 use Rattle.std.specs.Option.{option_map, option_and_then}
-use Rattle.pst_scope.specs.declared.declaration.Declaration.{Declaration}
-use Rattle.pst_scope.specs.Sorts.{same_place}
+use Rattle.pst_ast.specs.declared.scope_declaration.Declaration.{Declaration}
+use Rattle.pst_ast.specs.Sorts.{same_place}
 use Rattle.pst_type_rules.specs.Sites.{field_at}
-use Rattle.pst_inherited.specs.Bases.{fields_of}
+use Rattle.pst_tree.specs.Bases.{fields_of}
 use Rattle.pst_terms.specs.Sources.{Sources, declared_in, amount_of}
 
 -- n numbers from one on

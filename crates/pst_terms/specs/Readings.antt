@@ -6,24 +6,24 @@ use Rattle.pst_base.specs.declared.position.Place.{Place}
 use Rattle.pst_ast.specs.declared.leaf.Name.{Name}
 use Rattle.pst_ast.specs.ExpressionTree.{ExprTree, PathTree, PathDotted, PathItem, PathLongItem}
 use Rattle.pst_model.specs.ConstraintTree.{ConstraintTree, SlotTree, Own, Object, First, ClaimId, ClaimField, Prev, IsFirst, Id, Index, Local, Through, Outer}
-use Rattle.pst_scope.specs.declared.declaration.Declaration.{Declaration}
-use Rattle.pst_scope.specs.declared.declaration.Sort.{Sort}
-use Rattle.pst_scope.specs.declared.declaration.Sort.TheVariants as sort
-use Rattle.pst_scope.specs.Sorts.{is_handle, same_place}
-use Rattle.pst_scope.specs.declared.environment.Environment.{Environment}
-use Rattle.pst_scope.specs.declared.referent.Owner.{Owner}
-use Rattle.pst_scope.specs.declared.referent.Owner.TheVariants.{Nobody, OfAction, OfObject}
-use Rattle.pst_scope.specs.declared.referent.Referent.{Referent}
-use Rattle.pst_scope.specs.declared.referent.Referent.TheVariants.{Declared, Initial, Previous, Number}
-use Rattle.pst_scope.specs.declared.referent.PathPart.{PathPart}
-use Rattle.pst_scope.specs.declared.referent.PathReferent.{PathReferent}
-use Rattle.pst_scope.specs.declared.referent.Checked.{Checked}
-use Rattle.pst_scope.specs.declared.referent.Checked.TheVariants.{Is, Breaks}
-use Rattle.pst_scope.specs.Lookups.{type_of, traversed, traversed_member, stands_for}
-use Rattle.pst_scope.specs.Paths.{is_value, read_path}
-use Rattle.pst_scope.specs.Uses.{part_of, parts_of}
-use Rattle.pst_scope.specs.NameRules.{item_by}
-use Rattle.pst_inherited.specs.Bases.{number_in, reference_number, claim_number, handle_number}
+use Rattle.pst_ast.specs.declared.scope_declaration.Declaration.{Declaration}
+use Rattle.pst_ast.specs.declared.scope_declaration.Sort.{Sort}
+use Rattle.pst_ast.specs.declared.scope_declaration.Sort.TheVariants as sort
+use Rattle.pst_ast.specs.Sorts.{is_handle, same_place}
+use Rattle.pst_ast.specs.declared.environment.Environment.{Environment}
+use Rattle.pst_ast.specs.declared.referent.Owner.{Owner}
+use Rattle.pst_ast.specs.declared.referent.Owner.TheVariants.{Nobody, OfAction, OfObject}
+use Rattle.pst_ast.specs.declared.referent.Referent.{Referent}
+use Rattle.pst_ast.specs.declared.referent.Referent.TheVariants.{Declared, Initial, Previous, Number}
+use Rattle.pst_ast.specs.declared.referent.PathPart.{PathPart}
+use Rattle.pst_ast.specs.declared.referent.PathReferent.{PathReferent}
+use Rattle.pst_ast.specs.declared.referent.Checked.{Checked}
+use Rattle.pst_ast.specs.declared.referent.Checked.TheVariants.{Is, Breaks}
+use Rattle.pst_ast.specs.Lookups.{type_of, traversed, traversed_member, stands_for}
+use Rattle.pst_ast.specs.Paths.{is_value, read_path}
+use Rattle.pst_ast.specs.Uses.{part_of, parts_of}
+use Rattle.pst_ast.specs.NameRules.{item_by}
+use Rattle.pst_tree.specs.Bases.{number_in, reference_number, claim_number, handle_number}
 use Rattle.pst_terms.specs.Sources.{Sources, declared_in, item_value}
 use Rattle.pst_terms.specs.Fields.{counted, size_of, count_of, field_number}
 use Rattle.pst_terms.specs.Terms.{Term, Reading, ANumber, AThing, AnArray, term_of}

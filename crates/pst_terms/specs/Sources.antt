@@ -6,10 +6,10 @@ use Rattle.pst_base.specs.declared.position.Place.{Place}
 use Rattle.pst_ast.specs.ExpressionTree.{ExprTree}
 use Rattle.pst_ast.specs.DeclarationTree.{UnitTree}
 use Rattle.pst_num.specs.Arithmetic.{sum_of}
-use Rattle.pst_scope.specs.declared.declaration.Declaration.{Declaration}
-use Rattle.pst_scope.specs.Declarations.{declarations}
-use Rattle.pst_scope.specs.Sorts.{same_place}
-use Rattle.pst_constants.specs.Enums.{DeclaredItem, enums}
+use Rattle.pst_ast.specs.declared.scope_declaration.Declaration.{Declaration}
+use Rattle.pst_ast.specs.Declarations.{declarations}
+use Rattle.pst_ast.specs.Sorts.{same_place}
+use Rattle.pst_type_rules.specs.Enums.{DeclaredItem, enums}
 use Rattle.pst_type_rules.specs.declared.typed.ConstantValue.{ConstantValue}
 use Rattle.pst_type_rules.specs.Places.{expr_place}
 

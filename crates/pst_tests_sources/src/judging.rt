@@ -2,12 +2,11 @@
 use crate::naming::{declared, meanings};
 use crate::placing::{instance_rows, pool_rows};
 use crate::reading::read_units;
-use pst_ast::Unit;
+use pst_ast::{Scopes, Unit};
 use pst_base::Names;
 use pst_bind::{PoolMap, pools};
 use pst_cases::write_mark;
 use pst_names::{RuleEnd, resolve};
-use pst_scope::Scopes;
 use pst_tree::{Tree, TreeEnd, instances};
 use pst_type_rules::Typed;
 use pst_types::check;

@@ -1,11 +1,11 @@
 //! What names mean, and the values of enum items.
 use crate::reading::{Sources, read_units};
+use pst_ast::{Scopes, TypeEntry, TypeSort};
 use pst_base::{NoMemory, Place};
 use pst_cases::{Mark, write_mark};
 use pst_collect::declarations;
 use pst_evaluate::item_values;
 use pst_index::Index;
-use pst_scope::{Scopes, TypeEntry, TypeSort};
 use std::alloc::{AllocError, Global};
 
 // The letter of a sort.

@@ -9,13 +9,13 @@ use Rattle.pst_base.specs.declared.position.Place.{Place}
 use Rattle.pst_base.specs.declared.table.NameId.{NameId}
 use Rattle.pst_ast.specs.declared.instance.Instance.{Instance}
 use Rattle.pst_ast.specs.DeclarationTree.{UnitTree}
-use Rattle.pst_scope.specs.declared.declaration.Declaration.{Declaration}
-use Rattle.pst_scope.specs.declared.declaration.Scope.{Scope}
-use Rattle.pst_scope.specs.declared.declaration.Scope.TheVariants.{Files, Part}
-use Rattle.pst_scope.specs.Declarations.{declarations}
-use Rattle.pst_scope.specs.Sorts.{is_instance, same_place, same_scope}
-use Rattle.pst_scope.specs.Lookups.{type_of}
-use Rattle.pst_scope.specs.NameRules.{LeadsTo, ToInstance, Reaches, AtOnce, Through, is_root_component}
+use Rattle.pst_ast.specs.declared.scope_declaration.Declaration.{Declaration}
+use Rattle.pst_ast.specs.declared.scope_declaration.Scope.{Scope}
+use Rattle.pst_ast.specs.declared.scope_declaration.Scope.TheVariants.{Files, Part}
+use Rattle.pst_ast.specs.Declarations.{declarations}
+use Rattle.pst_ast.specs.Sorts.{is_instance, same_place, same_scope}
+use Rattle.pst_ast.specs.Lookups.{type_of}
+use Rattle.pst_ast.specs.NameRules.{LeadsTo, ToInstance, Reaches, AtOnce, Through, is_root_component}
 use Rattle.pst_tree.specs.Instances.{root_of, instances_in, instance, IsSubtree, Subtree, AreSubtrees, NoSubtree, MoreSubtrees, AreInstances}
 use Rattle.pst_tree.specs.Laws.{AreComponentsRight}
 use Rattle.pst_tree.proofs.Declared.{some_is, type_there, root_there}

@@ -5,9 +5,9 @@ use Rattle.std.specs.Option.{option_map, option_and_then}
 use Rattle.pst_base.specs.declared.table.NameId.{NameId}
 use Rattle.pst_ast.specs.declared.instance.Instance.{Instance}
 use Rattle.pst_ast.specs.DeclarationTree.{UnitTree}
-use Rattle.pst_scope.specs.declared.declaration.Declaration.{Declaration}
-use Rattle.pst_scope.specs.Declarations.{declarations}
-use Rattle.pst_scope.specs.Lookups.{type_of}
+use Rattle.pst_ast.specs.declared.scope_declaration.Declaration.{Declaration}
+use Rattle.pst_ast.specs.Declarations.{declarations}
+use Rattle.pst_ast.specs.Lookups.{type_of}
 use Rattle.pst_tree.specs.Instances.{root_of, instances_in, IsSubtree, Subtree, AreSubtrees, NoSubtree, MoreSubtrees, AreInstances}
 use Rattle.pst_tree.specs.Steps.{with_those_below, row_within, subtree_within, instances_within}
 use Rattle.pst_tree.proofs.One.{some_is}

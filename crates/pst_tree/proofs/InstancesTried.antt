@@ -3,7 +3,7 @@ use Rattle.std.proofs.Common.{◌≡◌, refl}
 use Rattle.std.specs.Prelude.{ℕ, List, [], ◌∷◌, length, Some}
 use Rattle.std.specs.Option.{option_map}
 use Rattle.pst_ast.specs.DeclarationTree.{UnitTree}
-use Rattle.pst_scope.specs.Lookups.{look_up, declared_at, type_of}
+use Rattle.pst_ast.specs.Lookups.{look_up, declared_at, type_of}
 use Rattle.pst_tree.specs.Instances.{AreInstances}
 use Rattle.pst_tree.specs.Steps.{instances_within}
 use Rattle.pst_tree.specs.Tried.{names, unit, leaf, pair, top, nested, large, one_c7, one_c0, HasInstances}

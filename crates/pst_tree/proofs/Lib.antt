@@ -9,3 +9,7 @@ mod Walking
 mod LastOnes
 mod Rowed
 mod Typed
+pub mod InheritedDeclared
+pub mod InheritedFound
+pub mod Needing
+pub mod ContentFound

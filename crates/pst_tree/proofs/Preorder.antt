@@ -6,7 +6,7 @@ use Rattle.std.proofs.lemmas.List.{length-map}
 use Rattle.std.proofs.lemmas.Option.{slice_get-map, slice_get-get_or}
 use Rattle.pst_ast.specs.declared.instance.Instance.{Instance}
 use Rattle.pst_ast.specs.DeclarationTree.{UnitTree}
-use Rattle.pst_scope.specs.Declarations.{declarations}
+use Rattle.pst_ast.specs.Declarations.{declarations}
 use Rattle.pst_model.specs.declared.model.Part.{Part}
 use Rattle.pst_model.specs.Preorder.{LiesUnder, AtTop, Below, IsParent, IsSubtree, IsInstanceTree}
 use Rattle.pst_tree.specs.Instances.{AreInstances, IsSubtree as IsTree, Subtree, part_of, parts_of}

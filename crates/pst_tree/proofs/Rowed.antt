@@ -6,11 +6,11 @@ use Rattle.std.specs.List.{filter, filter_map}
 use Rattle.std.proofs.lemmas.List.{drop_more, reverse-append}
 use Rattle.std.proofs.lemmas.List.Elements.{filter_map-append}
 use Rattle.pst_base.specs.declared.position.Place.{Place}
-use Rattle.pst_scope.specs.declared.declaration.Declaration.{Declaration}
-use Rattle.pst_scope.specs.declared.declaration.Scope.{Scope}
-use Rattle.pst_scope.specs.declared.declaration.Scope.TheVariants.{Files, Part}
-use Rattle.pst_scope.specs.declared.declaration.Sort.TheVariants.{Component}
-use Rattle.pst_scope.specs.Sorts.{same_scope, same_place}
+use Rattle.pst_ast.specs.declared.scope_declaration.Declaration.{Declaration}
+use Rattle.pst_ast.specs.declared.scope_declaration.Scope.{Scope}
+use Rattle.pst_ast.specs.declared.scope_declaration.Scope.TheVariants.{Files, Part}
+use Rattle.pst_ast.specs.declared.scope_declaration.Sort.TheVariants.{Component}
+use Rattle.pst_ast.specs.Sorts.{same_scope, same_place}
 use Rattle.pst_tree.specs.declared.key.PlaceKey.{PlaceKey}
 use Rattle.pst_tree.specs.declared.rows.Member.{Member}
 use Rattle.pst_tree.specs.Members.{is_member, members_at, member_scope, place_in, place_key, place_of, same_key}

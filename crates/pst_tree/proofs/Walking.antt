@@ -5,7 +5,7 @@ use Rattle.std.specs.List.{filter_map}
 use Rattle.std.proofs.lemmas.List.{append-nil, length-append, length-map, reverse-append}
 use Rattle.pst_base.specs.declared.table.NameId.{NameId}
 use Rattle.pst_ast.specs.declared.instance.Instance.{Instance}
-use Rattle.pst_scope.specs.declared.declaration.Declaration.{Declaration}
+use Rattle.pst_ast.specs.declared.scope_declaration.Declaration.{Declaration}
 use Rattle.pst_tree.specs.declared.walk.Pending.{Pending}
 use Rattle.pst_tree.specs.Instances.{instances_in, instance, IsSubtree, Subtree, AreSubtrees, NoSubtree, MoreSubtrees}
 use Rattle.pst_tree.specs.Walked.{entry, bare, pending_of, pending_in, AreToCome, NoneToCome, MoreToCome, IsFront, AreOf, IsWalk}

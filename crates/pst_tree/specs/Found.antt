@@ -3,9 +3,9 @@ use Rattle.std.specs.Prelude.{◌≡◌, ℕ, ◌<◌, ◌≤◌, List, length, 
 use Rattle.std.specs.declared.alloc.Global.{Global}
 use Rattle.pst_ast.specs.declared.instance.Instance.{Instance}
 use Rattle.pst_ast.specs.DeclarationTree.{UnitTree}
-use Rattle.pst_scope.specs.declared.declaration.Declaration.{Declaration}
-use Rattle.pst_scope.specs.Sorts.{is_instance}
-use Rattle.pst_scope.specs.Lookups.{type_of}
+use Rattle.pst_ast.specs.declared.scope_declaration.Declaration.{Declaration}
+use Rattle.pst_ast.specs.Sorts.{is_instance}
+use Rattle.pst_ast.specs.Lookups.{type_of}
 use Rattle.pst_tree.specs.Instances.{AreInstances}
 use Rattle.pst_tree.specs.declared.tree.TreeEnd.{TreeEnd}
 use Rattle.pst_tree.specs.declared.tree.TreeEnd.TheVariants as tree_end

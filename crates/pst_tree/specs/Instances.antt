@@ -6,12 +6,12 @@ use Rattle.pst_base.specs.declared.table.NameId.{NameId}
 use Rattle.pst_ast.specs.declared.instance.Instance.{Instance}
 use Rattle.pst_ast.specs.DeclarationTree.{UnitTree}
 use Rattle.pst_model.specs.declared.model.Part.{Part}
-use Rattle.pst_scope.specs.declared.declaration.Declaration.{Declaration}
-use Rattle.pst_scope.specs.declared.declaration.Scope.TheVariants.{Part as Inside}
-use Rattle.pst_scope.specs.Declarations.{declarations}
-use Rattle.pst_scope.specs.Sorts.{is_instance, same_scope}
-use Rattle.pst_scope.specs.Lookups.{type_of}
-use Rattle.pst_scope.specs.NameRules.{is_root_component}
+use Rattle.pst_ast.specs.declared.scope_declaration.Declaration.{Declaration}
+use Rattle.pst_ast.specs.declared.scope_declaration.Scope.TheVariants.{Part as Inside}
+use Rattle.pst_ast.specs.Declarations.{declarations}
+use Rattle.pst_ast.specs.Sorts.{is_instance, same_scope}
+use Rattle.pst_ast.specs.Lookups.{type_of}
+use Rattle.pst_ast.specs.NameRules.{is_root_component}
 
 -- the component of all others
 abbrev pub root_of : List (List ℕ) → List Declaration → Option Declaration

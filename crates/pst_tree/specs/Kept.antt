@@ -1,7 +1,7 @@
 -- How the members of types are kept.
 use Rattle.std.specs.Prelude.{◌≡◌, List}
 use Rattle.std.specs.HashMap.{get}
-use Rattle.pst_scope.specs.declared.declaration.Declaration.{Declaration}
+use Rattle.pst_ast.specs.declared.scope_declaration.Declaration.{Declaration}
 use Rattle.pst_tree.specs.declared.key.PlaceKey.{PlaceKey}
 use Rattle.pst_tree.specs.declared.rows.Member.{Member}
 use Rattle.pst_tree.specs.declared.rows.Rows.{Rows}

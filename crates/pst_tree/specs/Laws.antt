@@ -3,11 +3,11 @@ use Rattle.std.specs.Prelude.{◌≡◌, ℕ, List, Some, IsTrue}
 use Rattle.std.specs.List.{Contains}
 use Rattle.pst_ast.specs.declared.instance.Instance.{Instance}
 use Rattle.pst_ast.specs.DeclarationTree.{UnitTree}
-use Rattle.pst_scope.specs.declared.declaration.Declaration.{Declaration}
-use Rattle.pst_scope.specs.Declarations.{declarations}
-use Rattle.pst_scope.specs.Sorts.{is_instance}
-use Rattle.pst_scope.specs.Lookups.{type_of}
-use Rattle.pst_scope.specs.NameRules.{Reaches}
+use Rattle.pst_ast.specs.declared.scope_declaration.Declaration.{Declaration}
+use Rattle.pst_ast.specs.Declarations.{declarations}
+use Rattle.pst_ast.specs.Sorts.{is_instance}
+use Rattle.pst_ast.specs.Lookups.{type_of}
+use Rattle.pst_ast.specs.NameRules.{Reaches}
 use Rattle.pst_model.specs.Preorder.{IsInstanceTree}
 use Rattle.pst_tree.specs.Instances.{root_of, AreInstances, parts_of}
 

@@ -7,3 +7,10 @@ pub mod Kept
 pub mod Walked
 pub mod Lasts
 pub mod Found
+pub mod Bases
+pub mod Contents
+pub mod InheritedLaws
+pub mod InheritedTried
+pub mod Needed
+pub mod InheritedFound
+pub mod KeptSites

@@ -6,8 +6,8 @@ ghost use Rattle.pst_tree.specs.Members.{is_member, member_scope, same_key, row_
 ghost use Rattle.pst_tree.specs.Kept.{AreRows};
 
 use crate::key::{PlaceKey, place_key};
+use pst_ast::{Declaration, Scope, Sort};
 use pst_base::{NoMemory, Place};
-use pst_scope::{Declaration, Scope, Sort};
 use std::alloc::Global;
 use std::collections::HashMap;
 

@@ -2,11 +2,11 @@
 ghost use Rattle.std.specs.Prelude.{◌≡◌, ◌≤◌, IfErr, IfOk, IsTrue, length, map};
 ghost use Rattle.std.specs.List.{Contains};
 ghost use Rattle.pst_ast.specs.DeclarationView.{view_unit};
-ghost use Rattle.pst_scope.specs.declared.declaration.Declaration.{Declaration as Declared};
-ghost use Rattle.pst_scope.specs.Breaches.{IsNone};
-ghost use Rattle.pst_scope.specs.Declarations.{declarations as the_declarations};
-ghost use Rattle.pst_scope.specs.NameRules.{NameBreach, Reaches, is_root_component};
-ghost use Rattle.pst_scope.specs.Scopes.{AreScopes};
+ghost use Rattle.pst_ast.specs.declared.scope_declaration.Declaration.{Declaration as Declared};
+ghost use Rattle.pst_ast.specs.Breaches.{IsNone};
+ghost use Rattle.pst_ast.specs.Declarations.{declarations as the_declarations};
+ghost use Rattle.pst_ast.specs.NameRules.{NameBreach, Reaches, is_root_component};
+ghost use Rattle.pst_ast.specs.Scopes.{AreScopes};
 ghost use Rattle.pst_tree.specs.Instances;
 ghost use Rattle.pst_tree.specs.Instances.{AreInstances};
 ghost use Rattle.pst_tree.specs.Found.{AreFound, AreTyped, IsTreeEnd};
@@ -15,12 +15,10 @@ use crate::lasts::with_lasts;
 use crate::rows::{Member, Rows};
 use crate::tree::{Tree, TreeEnd};
 use crate::walk::walk;
-use pst_ast::{Instance, Unit};
+use pst_ast::{Declaration, Instance, Scope, Scopes, Sort, Unit};
 use pst_base::{Items, Names, NoMemory};
 use pst_collect::declarations;
-use pst_index::Index;
-use pst_meaning::is_text;
-use pst_scope::{Declaration, Scope, Scopes, Sort};
+use pst_index::{Index, is_text};
 use std::alloc::Global;
 
 // Whether it is the component `pss_top` of file level.

@@ -6,10 +6,9 @@ ghost use Rattle.pst_tree.specs.Walked.{AreWalked, pending_in};
 ghost use Rattle.pst_tree.specs.Walked;
 
 use crate::rows::Rows;
-use pst_ast::Instance;
+use pst_ast::{Declaration, Instance};
 use pst_base::{NameId, NoMemory};
 use pst_index::Index;
-use pst_scope::Declaration;
 use std::alloc::Global;
 
 /// The most instances that sources may have.

@@ -8,10 +8,10 @@ use Rattle.std.specs.Option.{option_map_or}
 use Rattle.std.specs.HashMap.{get}
 use Rattle.pst_base.specs.declared.position.Place.{Place}
 use Rattle.pst_places.specs.Numbers.{number_in, number_from}
-use Rattle.pst_scope.specs.declared.declaration.Declaration.{Declaration}
-use Rattle.pst_scope.specs.Sorts.{is_handle, same_place}
+use Rattle.pst_ast.specs.declared.scope_declaration.Declaration.{Declaration}
+use Rattle.pst_ast.specs.Sorts.{is_handle, same_place}
 use Rattle.pst_type_rules.specs.Members.{those_that}
-use Rattle.pst_inherited.specs.Bases as bases
+use Rattle.pst_tree.specs.Bases as bases
 use Rattle.pst_type_members.specs.declared.among.Among.{Among}
 use Rattle.pst_type_members.specs.declared.handles.HandleRow.{HandleRow}
 use Rattle.pst_type_members.specs.declared.handles.HandleRows.{HandleRows}

@@ -1,7 +1,7 @@
 -- How members are kept.
 use Rattle.std.specs.Prelude.{◌≡◌, List}
 use Rattle.std.specs.HashMap.{get}
-use Rattle.pst_scope.specs.declared.declaration.Declaration.{Declaration}
+use Rattle.pst_ast.specs.declared.scope_declaration.Declaration.{Declaration}
 use Rattle.pst_type_members.specs.declared.key.ScopeKey.{ScopeKey}
 use Rattle.pst_type_members.specs.declared.scopes.ScopeRows.{ScopeRows}
 use Rattle.pst_type_members.specs.declared.rows.Members.TheInside.{Inside}

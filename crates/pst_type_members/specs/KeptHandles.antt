@@ -2,8 +2,8 @@
 use Rattle.std.specs.Prelude.{◌≡◌, Bool, List, length, map, Option, Some, None, IfSome, if◌then◌else◌}
 use Rattle.std.specs.Option.{option_or}
 use Rattle.std.specs.HashMap.{get}
-use Rattle.pst_scope.specs.declared.declaration.Declaration.{Declaration}
-use Rattle.pst_scope.specs.Sorts.{is_handle}
+use Rattle.pst_ast.specs.declared.scope_declaration.Declaration.{Declaration}
+use Rattle.pst_ast.specs.Sorts.{is_handle}
 use Rattle.pst_type_rules.specs.Members.{those_that}
 use Rattle.pst_type_members.specs.declared.key.ScopeKey.{ScopeKey}
 use Rattle.pst_type_members.specs.declared.handles.HandleRow.{HandleRow}

@@ -1,7 +1,7 @@
 -- Sorts of members.
 use Rattle.std.specs.Prelude.{Bool}
-use Rattle.pst_scope.specs.declared.declaration.Sort.{Sort}
-use Rattle.pst_scope.specs.Sorts.{is_field, is_reference, is_claim, is_handle}
+use Rattle.pst_ast.specs.declared.scope_declaration.Sort.{Sort}
+use Rattle.pst_ast.specs.Sorts.{is_field, is_reference, is_claim, is_handle}
 use Rattle.pst_type_members.specs.declared.lists.MemberSort.{MemberSort}
 use Rattle.pst_type_members.specs.declared.lists.MemberSort.TheVariants as by
 

@@ -1,8 +1,8 @@
 //! The action handles that types declare themselves, found by place.
 ghost use Rattle.std.specs.Prelude.{◌≡◌, List, map, IfOk, IfSome, OnOk};
 ghost use Rattle.std.specs.HashMap.{get};
-ghost use Rattle.pst_scope.specs.declared.declaration.Declaration.{Declaration as Declared};
-ghost use Rattle.pst_scope.specs.Sorts.{is_handle};
+ghost use Rattle.pst_ast.specs.declared.scope_declaration.Declaration.{Declaration as Declared};
+ghost use Rattle.pst_ast.specs.Sorts.{is_handle};
 ghost use Rattle.pst_type_rules.specs.Members.{those_that};
 ghost use Rattle.pst_type_members.specs.Among.{IsAmong};
 ghost use Rattle.pst_type_members.specs.Keyed.{members_at, same_key};
@@ -12,9 +12,9 @@ ghost use Rattle.pst_type_members.specs.KeptHandles.{AreHandleRows, IsHandleRow,
 use crate::among::Among;
 use crate::key::{ScopeKey, scope_key};
 use crate::scopes::ScopeRows;
+use pst_ast::{Declaration, Sort};
 use pst_base::{NoMemory, Place};
 use pst_places::PlaceList;
-use pst_scope::{Declaration, Sort};
 use std::alloc::Global;
 use std::collections::HashMap;
 

@@ -1,17 +1,17 @@
 //! The members of one sort that a type has with its bases.
 ghost use Rattle.std.specs.Prelude.{◌≡◌, ◌++◌, IfOk, OnOk};
 ghost use Rattle.std.specs.List.{flat_map};
-ghost use Rattle.pst_inherited.specs.Bases;
-ghost use Rattle.pst_inherited.specs.Needed.{needs_within};
+ghost use Rattle.pst_tree.specs.Bases;
+ghost use Rattle.pst_tree.specs.Needed.{needs_within};
 ghost use Rattle.pst_type_rules.specs.Members.{those_that};
 ghost use Rattle.pst_type_members.specs.Among.{IsAmong};
 ghost use Rattle.pst_type_members.specs.Listed.{is_of};
 
 use crate::among::Among;
 use crate::rows::Members;
+use pst_ast::{Declaration, Sort};
 use pst_base::NoMemory;
-use pst_inherited::with_bases;
-use pst_scope::{Declaration, Sort};
+use pst_tree::with_bases;
 use std::alloc::Global;
 
 /// A sort of members.

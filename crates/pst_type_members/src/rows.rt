@@ -1,16 +1,16 @@
 //! What types declare in their own scopes.
 ghost use Rattle.std.specs.Prelude.{◌≡◌, IfOk, IfSome};
-ghost use Rattle.pst_inherited.specs.Needed.{needs_within};
-ghost use Rattle.pst_scope.specs.Sorts.{is_handle};
+ghost use Rattle.pst_tree.specs.Needed.{needs_within};
+ghost use Rattle.pst_ast.specs.Sorts.{is_handle};
 ghost use Rattle.pst_type_rules.specs.Members.{own_members};
 ghost use Rattle.pst_type_members.specs.Among.{IsAmong};
 
 use crate::among::Among;
 use crate::handles::{HandleRows, handle_rows_of};
 use crate::scopes::{ScopeRows, rows_of};
+use pst_ast::Declaration;
 use pst_base::NoMemory;
 use pst_index::Index;
-use pst_scope::Declaration;
 use std::alloc::Global;
 use std::marker::Model;
 
@@ -26,7 +26,7 @@ pub struct Members<'a> {
 
 impl<'a> Model for Members<'a> {
     ghost use Rattle.std.specs.Prelude.{List};
-    ghost use Rattle.pst_scope.specs.declared.declaration.Declaration.{Declaration};
+    ghost use Rattle.pst_ast.specs.declared.scope_declaration.Declaration.{Declaration};
     ghost use Rattle.pst_type_members.specs.Kept.{HasRows};
 
     ghost Value = { List Declaration };

@@ -6,8 +6,8 @@ ghost use Rattle.pst_type_members.specs.Keyed.{place_in, row_in, same_key};
 ghost use Rattle.pst_type_members.specs.Kept.{AreRows};
 
 use crate::key::{ScopeKey, scope_key};
+use pst_ast::{Declaration, Scope};
 use pst_base::{NoMemory, Place};
-use pst_scope::{Declaration, Scope};
 use std::alloc::Global;
 use std::collections::HashMap;
 

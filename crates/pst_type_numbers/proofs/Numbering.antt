@@ -4,10 +4,10 @@ use Rattle.std.specs.Prelude.{Option, Some, None, if◌then◌else◌}
 use Rattle.std.specs.Option.{option_map_or}
 use Rattle.pst_base.specs.declared.position.Place.{Place}
 use Rattle.pst_places.specs.Numbers.{number_in, number_from}
-use Rattle.pst_scope.specs.declared.declaration.Declaration.{Declaration}
-use Rattle.pst_scope.specs.Sorts.{same_place}
+use Rattle.pst_ast.specs.declared.scope_declaration.Declaration.{Declaration}
+use Rattle.pst_ast.specs.Sorts.{same_place}
 use Rattle.pst_type_rules.specs.Members.{those_that}
-use Rattle.pst_inherited.specs.Bases as bases
+use Rattle.pst_tree.specs.Bases as bases
 use Rattle.pst_type_numbers.specs.declared.places.TypeSort.{TypeSort}
 use Rattle.pst_type_numbers.specs.declared.places.TypePlaces.{TypePlaces}
 use Rattle.pst_type_numbers.specs.Placed.{ArePlaces, is_of, number_or}

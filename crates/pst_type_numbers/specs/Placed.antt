@@ -3,9 +3,9 @@ use Rattle.std.specs.Prelude.{◌≡◌, ℕ, Bool, List, length, map}
 use Rattle.std.specs.Option.{option_map_or}
 use Rattle.pst_base.specs.declared.position.Place.{Place}
 use Rattle.pst_places.specs.Numbers.{number_in}
-use Rattle.pst_scope.specs.declared.declaration.Declaration.{Declaration}
-use Rattle.pst_scope.specs.declared.declaration.Sort.{Sort}
-use Rattle.pst_scope.specs.Sorts.{is_action, is_object, is_function}
+use Rattle.pst_ast.specs.declared.scope_declaration.Declaration.{Declaration}
+use Rattle.pst_ast.specs.declared.scope_declaration.Sort.{Sort}
+use Rattle.pst_ast.specs.Sorts.{is_action, is_object, is_function}
 use Rattle.pst_type_rules.specs.Members.{those_that}
 use Rattle.pst_type_numbers.specs.declared.places.TypeSort.{TypeSort}
 use Rattle.pst_type_numbers.specs.declared.places.TypeSort.TheVariants as by

@@ -1,12 +1,12 @@
 //! The sources with the numbers of their types.
 ghost use Rattle.std.specs.Prelude.{◌≡◌, IfOk};
-ghost use Rattle.pst_inherited.specs.Bases;
+ghost use Rattle.pst_tree.specs.Bases;
 ghost use Rattle.pst_terms.specs.Sources.{declared_in};
 ghost use Rattle.pst_sources.specs.Shown.{sources_of};
 
 use crate::places::{TypePlaces, TypeSort, number_of, places_of};
+use pst_ast::Declaration;
 use pst_base::NoMemory;
-use pst_scope::Declaration;
 use pst_sources::Sources;
 use std::marker::Model;
 

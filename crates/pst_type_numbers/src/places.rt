@@ -3,9 +3,9 @@ ghost use Rattle.std.specs.Prelude.{◌≡◌, IfOk, map};
 ghost use Rattle.pst_type_rules.specs.Members.{those_that};
 ghost use Rattle.pst_type_numbers.specs.Placed.{ArePlaces, is_of, number_or};
 
+use pst_ast::{Declaration, Sort};
 use pst_base::{NoMemory, Place};
 use pst_places::PlaceList;
-use pst_scope::{Declaration, Sort};
 use std::alloc::Global;
 
 /// A sort of types that are numbered by themselves.

@@ -5,3 +5,9 @@ mod WidthTried
 mod MoreTried
 mod RightTried
 mod PartsTried
+pub mod Agreeing
+pub mod OneValue
+mod ConstantsTried
+mod OneDomain
+mod ShortestDomain
+mod DomainTried

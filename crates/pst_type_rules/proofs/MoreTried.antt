@@ -10,10 +10,10 @@ use Rattle.pst_ast.specs.ActivityTree.{StatementTree}
 use Rattle.pst_ast.specs.DeclarationTree.{UnitTree}
 use Rattle.pst_expr.specs.declared.ranges.Span.{Span}
 use Rattle.pst_expr.specs.Spans.{IsInSpan}
-use Rattle.pst_scope.specs.declared.declaration.Declaration.{Declaration}
-use Rattle.pst_scope.specs.declared.environment.Environment.{Environment}
-use Rattle.pst_scope.specs.Lookups.{look_up, declared_at, base_of, member_of, item_at, value_named, type_of, traversed, stands_for}
-use Rattle.pst_constants.specs.Domains.{span, HasSpan, Bit, OfPlain, IsInType, Single, Plain, IsSpanOf}
+use Rattle.pst_ast.specs.declared.scope_declaration.Declaration.{Declaration}
+use Rattle.pst_ast.specs.declared.environment.Environment.{Environment}
+use Rattle.pst_ast.specs.Lookups.{look_up, declared_at, base_of, member_of, item_at, value_named, type_of, traversed, stands_for}
+use Rattle.pst_type_rules.specs.Domains.{span, HasSpan, Bit, OfPlain, IsInType, Single, Plain, IsSpanOf}
 use Rattle.pst_type_rules.specs.Sites.{DeclaredAction, action_at, field_at}
 use Rattle.pst_type_rules.specs.Members.{WithoutBase, Itself, Derives, IsCompound, Own, Inherited, activities_of}
 use Rattle.pst_type_rules.specs.Limits.{References, One, Array, Nothing, More}

@@ -3,9 +3,9 @@ use Rattle.std.proofs.Common.{◌≡◌, arith, refl, sym, subst, ap, ◌∙◌}
 use Rattle.std.specs.Prelude.{List, [], ◌∷◌, Some, None}
 use Rattle.pst_ast.specs.ActivityTree.{StatementTree}
 use Rattle.pst_ast.specs.DeclarationTree.{UnitTree}
-use Rattle.pst_scope.specs.declared.declaration.Declaration.{Declaration}
-use Rattle.pst_scope.specs.Declarations.{action_declared}
-use Rattle.pst_scope.specs.Lookups.{look_up, declared_at, base_of, member_of, item_at, value_named, type_of, traversed, stands_for}
+use Rattle.pst_ast.specs.declared.scope_declaration.Declaration.{Declaration}
+use Rattle.pst_ast.specs.Declarations.{action_declared}
+use Rattle.pst_ast.specs.Lookups.{look_up, declared_at, base_of, member_of, item_at, value_named, type_of, traversed, stands_for}
 use Rattle.pst_type_rules.specs.Sites.{DeclaredAction, action_at}
 use Rattle.pst_type_rules.specs.Members.{IsCompound, Own, Inherited, activities_of, bodies_of, IsTwofold, TwoActivities, TwoBodies, ActivityAndBody, TwofoldBase}
 use Rattle.pst_type_rules.specs.Handles.{ByOwner}

@@ -10,18 +10,18 @@ use Rattle.pst_ast.specs.declared.activity.EndNode.{EndNode}
 use Rattle.pst_ast.specs.ActivityTree.{ArmLabelTree, ArmLabelRanges, ArmLabelDefault}
 use Rattle.pst_ast.specs.SharedTree.{WidthTree, MakeWidth}
 use Rattle.pst_ast.specs.DeclarationTree.{UnitTree}
-use Rattle.pst_scope.specs.Sorts.{is_resource}
+use Rattle.pst_ast.specs.Sorts.{is_resource}
 use Rattle.pst_num.specs.Range.{in_range}
 use Rattle.pst_expr.specs.declared.ranges.Span.{Span}
 use Rattle.pst_expr.specs.Spans.{IsInSpan}
-use Rattle.pst_scope.specs.declared.declaration.Declaration.{Declaration}
-use Rattle.pst_scope.specs.declared.declaration.Sort.TheVariants as sort
-use Rattle.pst_scope.specs.declared.environment.Environment.{Environment}
-use Rattle.pst_scope.specs.Declarations.{declarations, member}
-use Rattle.pst_scope.specs.Lookups.{look_up, declared_at, base_of, member_of, item_at, value_named, type_of, traversed, stands_for}
-use Rattle.pst_scope.specs.Uses.{Judges, HasPlain, HasType, Arms, Ties, PoolSize}
-use Rattle.pst_constants.specs.Constants.{IsConstant}
-use Rattle.pst_constants.specs.Domains.{span, unsigned_span, HasWidth, ByCount, BitOfWidth, OfPlain, IsSpanOf, Single, Between}
+use Rattle.pst_ast.specs.declared.scope_declaration.Declaration.{Declaration}
+use Rattle.pst_ast.specs.declared.scope_declaration.Sort.TheVariants as sort
+use Rattle.pst_ast.specs.declared.environment.Environment.{Environment}
+use Rattle.pst_ast.specs.Declarations.{declarations, member}
+use Rattle.pst_ast.specs.Lookups.{look_up, declared_at, base_of, member_of, item_at, value_named, type_of, traversed, stands_for}
+use Rattle.pst_ast.specs.Uses.{Judges, HasPlain, HasType, Arms, Ties, PoolSize}
+use Rattle.pst_type_rules.specs.Constants.{IsConstant}
+use Rattle.pst_type_rules.specs.Domains.{span, unsigned_span, HasWidth, ByCount, BitOfWidth, OfPlain, IsSpanOf, Single, Between}
 use Rattle.pst_type_rules.specs.Binds.{reference_at, AreEnds}
 use Rattle.pst_type_rules.specs.TypeRules.{WidthOutside, LowestNotZero, ReversedInDomain, ReversedInMatch, Empty, InnerIn, NotConstant, ValueOutside, Meeting, TwoDefaults, SizeOfNoResources, UnfitEnds, OneHandle}
 use Rattle.pst_type_rules.specs.Tried.{on, name, number}

@@ -6,12 +6,12 @@ use Rattle.std.specs.Option.{unwrap_or}
 use Rattle.pst_base.specs.declared.position.Place.{Place}
 use Rattle.pst_ast.specs.ActivityTree.{StatementTree}
 use Rattle.pst_ast.specs.DeclarationTree.{UnitTree}
-use Rattle.pst_scope.specs.declared.declaration.Declaration.{Declaration}
-use Rattle.pst_scope.specs.Declarations.{action_declared}
-use Rattle.pst_scope.specs.Lookups.{look_up, declared_at, base_of, member_of, item_at as an_item_at, value_named, type_of, traversed, stands_for}
-use Rattle.pst_constants.specs.Enums.{item_at}
-use Rattle.pst_constants.specs.Constants.{IsItemValue, Given, Next}
-use Rattle.pst_constants.specs.Domains.{span, Single, Between}
+use Rattle.pst_ast.specs.declared.scope_declaration.Declaration.{Declaration}
+use Rattle.pst_ast.specs.Declarations.{action_declared}
+use Rattle.pst_ast.specs.Lookups.{look_up, declared_at, base_of, member_of, item_at as an_item_at, value_named, type_of, traversed, stands_for}
+use Rattle.pst_type_rules.specs.Enums.{item_at}
+use Rattle.pst_type_rules.specs.Constants.{IsItemValue, Given, Next}
+use Rattle.pst_type_rules.specs.Domains.{span, Single, Between}
 use Rattle.pst_type_rules.specs.Sites.{DeclaredAction, action_at, function_at}
 use Rattle.pst_type_rules.specs.Members.{WithoutBase, WithBase, activities_of, IsCompound, Own, Inherited}
 use Rattle.pst_type_rules.specs.Handles.{traversals, IsSteadyIn, ByOwner}

@@ -3,9 +3,9 @@ use Rattle.std.proofs.Common.{◌≡◌, arith, refl, subst}
 use Rattle.std.specs.Prelude.{ℕ, ℤ, pos, List, [], Option, Some, None}
 use Rattle.pst_base.specs.declared.position.Place.{Place}
 use Rattle.pst_ast.specs.DeclarationTree.{UnitTree}
-use Rattle.pst_scope.specs.declared.environment.Environment.{Environment}
-use Rattle.pst_constants.specs.Constants.{value_by, IsConstant}
-use Rattle.pst_constants.specs.Domains.{span, ByCount, Between}
+use Rattle.pst_ast.specs.declared.environment.Environment.{Environment}
+use Rattle.pst_type_rules.specs.Constants.{value_by, IsConstant}
+use Rattle.pst_type_rules.specs.Domains.{span, ByCount, Between}
 use Rattle.pst_type_rules.specs.TypeRules.{WidthOutside, ReversedInDomain, ValueOutside, OfUse}
 use Rattle.pst_type_rules.specs.Tried.{on, number, names, wide, reversed, long, joined, Breaks}
 

@@ -9,15 +9,15 @@ use Rattle.pst_ast.specs.ExpressionTree.{MakePart, NoIndex}
 use Rattle.pst_ast.specs.SharedTree.{TypePlain}
 use Rattle.pst_ast.specs.ActivityTree.{StatementTree}
 use Rattle.pst_ast.specs.DeclarationTree.{UnitTree, MakeAction, ActionPartField, MakeField}
-use Rattle.pst_scope.specs.declared.declaration.Declaration.{Declaration}
-use Rattle.pst_scope.specs.declared.declaration.Scope.TheVariants.{Part}
-use Rattle.pst_scope.specs.declared.environment.Environment.{Environment}
-use Rattle.pst_scope.specs.declared.referent.Owner.TheVariants.{OfAction}
-use Rattle.pst_scope.specs.Breaches.{IsNoLater, IsLeast}
-use Rattle.pst_scope.specs.Declarations.{declarations, action_declared}
-use Rattle.pst_scope.specs.Sorts.{same_place, same_scope, is_item, is_field, is_reference, is_claim}
-use Rattle.pst_scope.specs.Lookups.{look_up, base_of}
-use Rattle.pst_scope.specs.Uses.{Use, HasType, HasPlain, Judges, Width, environment, uses}
+use Rattle.pst_ast.specs.declared.scope_declaration.Declaration.{Declaration}
+use Rattle.pst_ast.specs.declared.scope_declaration.Scope.TheVariants.{Part}
+use Rattle.pst_ast.specs.declared.environment.Environment.{Environment}
+use Rattle.pst_ast.specs.declared.referent.Owner.TheVariants.{OfAction}
+use Rattle.pst_ast.specs.Breaches.{IsNoLater, IsLeast}
+use Rattle.pst_ast.specs.Declarations.{declarations, action_declared}
+use Rattle.pst_ast.specs.Sorts.{same_place, same_scope, is_item, is_field, is_reference, is_claim}
+use Rattle.pst_ast.specs.Lookups.{look_up, base_of}
+use Rattle.pst_ast.specs.Uses.{Use, HasType, HasPlain, Judges, Width, environment, uses}
 use Rattle.pst_type_rules.specs.Sites.{DeclaredAction, DeclaredField, action_of, action_at, field_at}
 use Rattle.pst_type_rules.specs.Members.{own_members, AreMembers, WithoutBase, WithBase, activities_of, bodies_of, IsCompound, Own, Inherited, IsTwofold, TwoActivities, TwoBodies, ActivityAndBody, TwofoldBase}
 use Rattle.pst_type_rules.specs.Limits.{is_parameter, is_local_of, IsLimited, Items, Parameters, Locals, References, Claims, AddsFields, One, Array, WrongArray, AddTogether, Nothing, More}

@@ -6,14 +6,14 @@ use Rattle.pst_ast.specs.declared.leaf.Name.{Name}
 use Rattle.pst_ast.specs.ExpressionTree.{ExprTree}
 use Rattle.pst_ast.specs.ActivityTree.{StatementTree, StatementEmpty, StatementLabeled, StatementPlain, CoreTree, CoreDo, CoreHandle, CoreSequence, CoreTogether, CoreSelect, CoreRepeat, CoreIf, CoreIfElse, CoreMatch, CoreBind, BranchTree, MakeBranch, ArmTree, MakeArm, StatementRow, NoStatementRow, MoreStatementRow, BranchRow, NoBranchRow, MoreBranchRow, ArmRow, NoArmRow, MoreArmRow}
 use Rattle.pst_ast.specs.DeclarationTree.{UnitTree}
-use Rattle.pst_scope.specs.declared.declaration.Declaration.{Declaration}
-use Rattle.pst_scope.specs.declared.environment.Environment.{Environment}
-use Rattle.pst_scope.specs.declared.referent.Owner.TheVariants.{OfAction}
-use Rattle.pst_scope.specs.declared.referent.Traversal.{Traversal}
-use Rattle.pst_scope.specs.Declarations.{declarations}
-use Rattle.pst_scope.specs.Sorts.{same_name}
-use Rattle.pst_scope.specs.Lookups.{member_of, traversed, traversed_member}
-use Rattle.pst_scope.specs.Uses.{Use, Judges, Reads, Repeats, Ends, Assigns, Constrains, InBody, expr_uses}
+use Rattle.pst_ast.specs.declared.scope_declaration.Declaration.{Declaration}
+use Rattle.pst_ast.specs.declared.environment.Environment.{Environment}
+use Rattle.pst_ast.specs.declared.referent.Owner.TheVariants.{OfAction}
+use Rattle.pst_ast.specs.declared.referent.Traversal.{Traversal}
+use Rattle.pst_ast.specs.Declarations.{declarations}
+use Rattle.pst_ast.specs.Sorts.{same_name}
+use Rattle.pst_ast.specs.Lookups.{member_of, traversed, traversed_member}
+use Rattle.pst_ast.specs.Uses.{Use, Judges, Reads, Repeats, Ends, Assigns, Constrains, InBody, expr_uses}
 use Rattle.pst_type_rules.specs.Members.{IsOrDerives, IsCompound}
 
 -- ---- traversals of a handle

@@ -12,3 +12,9 @@ pub mod TriedRules
 pub mod TriedMore
 pub mod TriedRight
 pub mod TriedParts
+pub mod Enums
+pub mod Values
+pub mod Constants
+pub mod Domains
+pub mod ConstantsLaws
+pub mod ConstantsTried

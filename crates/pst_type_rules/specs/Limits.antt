@@ -7,13 +7,13 @@ use Rattle.pst_ast.specs.SharedTree.{PlainTree, PlainInt}
 use Rattle.pst_ast.specs.DeclarationTree.{UnitTree}
 use Rattle.pst_expr.specs.declared.ranges.Span.{Span}
 use Rattle.pst_model.specs.Limits.{most_elements, most_references, most_claims, most_locals, most_parameters, most_weight, most_size}
-use Rattle.pst_scope.specs.declared.declaration.Declaration.{Declaration}
-use Rattle.pst_scope.specs.declared.declaration.Sort.{Sort}
-use Rattle.pst_scope.specs.declared.declaration.Sort.TheVariants as sort
-use Rattle.pst_scope.specs.Sorts.{same_place, is_item, is_reference, is_claim}
-use Rattle.pst_scope.specs.Uses.{Role, EnumValue, PoolSize, ArraySize, Weight, JoinCount}
-use Rattle.pst_constants.specs.Constants.{IsConstant}
-use Rattle.pst_constants.specs.Domains.{span}
+use Rattle.pst_ast.specs.declared.scope_declaration.Declaration.{Declaration}
+use Rattle.pst_ast.specs.declared.scope_declaration.Sort.{Sort}
+use Rattle.pst_ast.specs.declared.scope_declaration.Sort.TheVariants as sort
+use Rattle.pst_ast.specs.Sorts.{same_place, is_item, is_reference, is_claim}
+use Rattle.pst_ast.specs.Uses.{Role, EnumValue, PoolSize, ArraySize, Weight, JoinCount}
+use Rattle.pst_type_rules.specs.Constants.{IsConstant}
+use Rattle.pst_type_rules.specs.Domains.{span}
 use Rattle.pst_type_rules.specs.Sites.{DeclaredField, field_at}
 use Rattle.pst_type_rules.specs.Members.{those_that, own_members, AreMembers}
 

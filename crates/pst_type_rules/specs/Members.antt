@@ -4,12 +4,12 @@ use Rattle.std.specs.List.{filter, flat_map}
 use Rattle.pst_ast.specs.ActivityTree.{StatementTree, MakeActivity}
 use Rattle.pst_ast.specs.BodyTree.{BodyTree}
 use Rattle.pst_ast.specs.DeclarationTree.{UnitTree, ActionPartTree, ActionPartActivity, ActionPartBody}
-use Rattle.pst_scope.specs.declared.declaration.Declaration.{Declaration}
-use Rattle.pst_scope.specs.declared.declaration.Scope.TheVariants.{Part}
-use Rattle.pst_scope.specs.declared.declaration.Sort.{Sort}
-use Rattle.pst_scope.specs.Declarations.{declarations}
-use Rattle.pst_scope.specs.Sorts.{same_scope}
-use Rattle.pst_scope.specs.Lookups.{base_of}
+use Rattle.pst_ast.specs.declared.scope_declaration.Declaration.{Declaration}
+use Rattle.pst_ast.specs.declared.scope_declaration.Scope.TheVariants.{Part}
+use Rattle.pst_ast.specs.declared.scope_declaration.Sort.{Sort}
+use Rattle.pst_ast.specs.Declarations.{declarations}
+use Rattle.pst_ast.specs.Sorts.{same_scope}
+use Rattle.pst_ast.specs.Lookups.{base_of}
 use Rattle.pst_type_rules.specs.Sites.{DeclaredAction, action_at}
 
 -- ---- members

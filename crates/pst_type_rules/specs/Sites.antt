@@ -6,12 +6,12 @@ use Rattle.pst_ast.specs.declared.leaf.Name.{Name}
 use Rattle.pst_ast.specs.ExpressionTree.{ExprTree, PartTree, MakePart, MaybeIndex, NoIndex, SomeIndex, MakeIndex}
 use Rattle.pst_ast.specs.SharedTree.{TypeTree}
 use Rattle.pst_ast.specs.DeclarationTree.{UnitTree, MakeUnit, ItemTree, ItemComponent, ItemObject, ItemFunction, MakeComponent, ComponentPartTree, ComponentPartAction, ComponentPartObject, ComponentPartFunction, ObjectTree, MakeObject, ObjectPartTree, ObjectPartField, FunctionTree, MakeFunction, AnswerTree, ParameterTree, ActionTree, MakeAction, ActionPartTree, ActionPartField, FieldTree, MakeField}
-use Rattle.pst_scope.specs.declared.declaration.Sort.TheVariants as sort
-use Rattle.pst_scope.specs.declared.environment.Environment.{Environment}
-use Rattle.pst_scope.specs.declared.referent.Owner.TheVariants.{OfAction, OfObject}
-use Rattle.pst_scope.specs.Declarations.{type_declared, action_declared, field_parts, parameters_of}
-use Rattle.pst_scope.specs.Sorts.{same_place}
-use Rattle.pst_scope.specs.Uses.{environment}
+use Rattle.pst_ast.specs.declared.scope_declaration.Sort.TheVariants as sort
+use Rattle.pst_ast.specs.declared.environment.Environment.{Environment}
+use Rattle.pst_ast.specs.declared.referent.Owner.TheVariants.{OfAction, OfObject}
+use Rattle.pst_ast.specs.Declarations.{type_declared, action_declared, field_parts, parameters_of}
+use Rattle.pst_ast.specs.Sorts.{same_place}
+use Rattle.pst_ast.specs.Uses.{environment}
 
 pub record DeclaredAction : Type 0 where
   pub is_abstract : Bool

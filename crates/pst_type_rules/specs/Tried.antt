@@ -9,7 +9,7 @@ use Rattle.pst_ast.specs.ExpressionTree.{ExprTree, ExprUnary, UnaryPrimary, Prim
 use Rattle.pst_ast.specs.SharedTree.{PlainTree, PlainBit, MakeWidth, MakeDomain, TypeTree, TypePlain}
 use Rattle.pst_ast.specs.ActivityTree.{StatementLabeled, StatementPlain, CoreTree, CoreDo, CoreTogether, WithNothing, JoinSelect, NoStatementRow, MoreStatementRow, MakeActivity}
 use Rattle.pst_ast.specs.DeclarationTree.{UnitTree, MakeUnit, ItemComponent, MakeComponent, ComponentPartTree, ComponentPartAction, MakeAction, ActionPartField, ActionPartActivity, MakeField}
-use Rattle.pst_scope.specs.Breaches.{IsLeast}
+use Rattle.pst_ast.specs.Breaches.{IsLeast}
 use Rattle.pst_type_rules.specs.TypeRules.{TypeBreach}
 
 abbrev pub on : ℕ → ℕ → Place

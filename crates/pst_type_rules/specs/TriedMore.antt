@@ -18,8 +18,8 @@ use Rattle.pst_ast.specs.SharedTree.{MakeNames, PlainBit, MakeWidth, MakeLow, Ma
 use Rattle.pst_ast.specs.ConstraintTree.{ConstraintOne, ConstraintItemExpr, ConstraintContentSet, MakeConstraintDeclaration}
 use Rattle.pst_ast.specs.ActivityTree.{StatementTree, StatementPlain, CoreBind, MakeBind, OtherEndsOne, MakeActivity}
 use Rattle.pst_ast.specs.DeclarationTree.{UnitTree, ComponentPartTree, ComponentPartAction, ComponentPartObject, MakeObject, MakeAction, ActionPartTree, ActionPartField, ActionPartReference, ActionPartMembers, ActionPartConstraint, ActionPartActivity, MakeField, MakeReference, MakeMembers}
-use Rattle.pst_scope.specs.declared.declaration.Declaration.{Declaration}
-use Rattle.pst_scope.specs.Declarations.{action_declared}
+use Rattle.pst_ast.specs.declared.scope_declaration.Declaration.{Declaration}
+use Rattle.pst_ast.specs.Declarations.{action_declared}
 use Rattle.pst_type_rules.specs.Handles.{IsSteadyIn}
 use Rattle.pst_type_rules.specs.TypeRules.{TypeBreach}
 use Rattle.pst_type_rules.specs.Tried.{on, name, number, component_with}

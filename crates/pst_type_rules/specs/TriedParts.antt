@@ -8,8 +8,8 @@
 use Rattle.std.specs.Prelude.{ℕ, List, [], ◌∷◌, Some, None, codes}
 use Rattle.pst_ast.specs.BodyTree.{BodyTree, BodyStatementTree, BodyStatementAssign, SourceExpr, MakeBody}
 use Rattle.pst_ast.specs.DeclarationTree.{UnitTree, ComponentPartTree, ComponentPartAction, MakeAction, ActionPartTree, ActionPartBody}
-use Rattle.pst_scope.specs.declared.declaration.Declaration.{Declaration}
-use Rattle.pst_scope.specs.Declarations.{action_declared}
+use Rattle.pst_ast.specs.declared.scope_declaration.Declaration.{Declaration}
+use Rattle.pst_ast.specs.Declarations.{action_declared}
 use Rattle.pst_type_rules.specs.Members.{IsTwofold}
 use Rattle.pst_type_rules.specs.TypeRules.{TypeBreach}
 use Rattle.pst_type_rules.specs.Tried.{on, name, number, component_with}

@@ -15,11 +15,11 @@ use Rattle.pst_ast.specs.ExpressionTree.{RangeTree, RangeSingle, RangeBetween, N
 use Rattle.pst_ast.specs.SharedTree.{PlainTree, PlainBit, MakeWidth, MakeDomain, TypeTree, TypePlain}
 use Rattle.pst_ast.specs.ActivityTree.{StatementPlain, CoreMatch, CoreBind, MakeBind, OtherEndsOne, NoArmRow, MoreArmRow, ArmLabelTree}
 use Rattle.pst_ast.specs.DeclarationTree.{UnitTree, ComponentPartTree, ComponentPartObject, ComponentPartPool, MakeObject, MakePool, MakeSize, ActionPartField, ActionPartReference, MakeReference}
-use Rattle.pst_scope.specs.declared.declaration.Declaration.{Declaration}
-use Rattle.pst_scope.specs.declared.environment.Environment.{Environment}
-use Rattle.pst_scope.specs.declared.referent.Owner.TheVariants.{Nobody, OfAction}
-use Rattle.pst_scope.specs.Declarations.{action_declared}
-use Rattle.pst_scope.specs.Uses.{Use, Judges, HasPlain, HasType, Arms, Ties, PoolSize, environment}
+use Rattle.pst_ast.specs.declared.scope_declaration.Declaration.{Declaration}
+use Rattle.pst_ast.specs.declared.environment.Environment.{Environment}
+use Rattle.pst_ast.specs.declared.referent.Owner.TheVariants.{Nobody, OfAction}
+use Rattle.pst_ast.specs.Declarations.{action_declared}
+use Rattle.pst_ast.specs.Uses.{Use, Judges, HasPlain, HasType, Arms, Ties, PoolSize, environment}
 use Rattle.pst_type_rules.specs.TypeRules.{UseBreaks}
 use Rattle.pst_type_rules.specs.Tried.{on, name, number, component_with}
 use Rattle.pst_type_rules.specs.TriedRules.{mark, type, alone, path, field, bit, action, traverse, arm, one_range, range_label, default_label}

@@ -13,24 +13,24 @@ use Rattle.pst_ast.specs.DeclarationTree.{UnitTree, AnswerVoid}
 use Rattle.pst_expr.specs.declared.ranges.Span.{Span}
 use Rattle.pst_expr.specs.Spans.{IsInSpan}
 use Rattle.pst_model.specs.Limits.{most_fields, most_branches}
-use Rattle.pst_scope.specs.declared.declaration.Declaration.{Declaration}
-use Rattle.pst_scope.specs.declared.declaration.Sort.{Sort}
-use Rattle.pst_scope.specs.declared.declaration.Sort.TheVariants as sort
-use Rattle.pst_scope.specs.declared.environment.Environment.{Environment}
-use Rattle.pst_scope.specs.declared.referent.Traversal.{Traversal}
-use Rattle.pst_scope.specs.declared.referent.Referent.{Referent}
-use Rattle.pst_scope.specs.declared.referent.Referent.TheVariants.{Declared}
-use Rattle.pst_scope.specs.declared.referent.PathPart.{PathPart}
-use Rattle.pst_scope.specs.declared.referent.Target.{Target}
-use Rattle.pst_scope.specs.declared.referent.Checked.TheVariants.{Is}
-use Rattle.pst_scope.specs.Declarations.{declarations}
-use Rattle.pst_scope.specs.Sorts.{is_pool, is_field, is_resource, is_reference, is_claim, is_handle, is_need}
-use Rattle.pst_scope.specs.Lookups.{type_here, type_named, type_in, type_of, traversed, stands_for}
-use Rattle.pst_scope.specs.Uses.{Use, Judges, HasPlain, HasType, Uniques, Branches, Arms, Performs, Ties, Passes, Reads, Assigns, Targets, Role, Condition, Constrains, InBody, PoolSize, expr_uses, uses}
-use Rattle.pst_scope.specs.NameRules.{named_in, target_of}
-use Rattle.pst_constants.specs.Enums.{DeclaredItem, DeclaredEnum, enums}
-use Rattle.pst_constants.specs.Constants.{IsItemValue, IsConstant}
-use Rattle.pst_constants.specs.Domains.{HasWidth, IsSpanOf, IsInType, IsKnown, ranges_of, ranges_in}
+use Rattle.pst_ast.specs.declared.scope_declaration.Declaration.{Declaration}
+use Rattle.pst_ast.specs.declared.scope_declaration.Sort.{Sort}
+use Rattle.pst_ast.specs.declared.scope_declaration.Sort.TheVariants as sort
+use Rattle.pst_ast.specs.declared.environment.Environment.{Environment}
+use Rattle.pst_ast.specs.declared.referent.Traversal.{Traversal}
+use Rattle.pst_ast.specs.declared.referent.Referent.{Referent}
+use Rattle.pst_ast.specs.declared.referent.Referent.TheVariants.{Declared}
+use Rattle.pst_ast.specs.declared.referent.PathPart.{PathPart}
+use Rattle.pst_ast.specs.declared.referent.Target.{Target}
+use Rattle.pst_ast.specs.declared.referent.Checked.TheVariants.{Is}
+use Rattle.pst_ast.specs.Declarations.{declarations}
+use Rattle.pst_ast.specs.Sorts.{is_pool, is_field, is_resource, is_reference, is_claim, is_handle, is_need}
+use Rattle.pst_ast.specs.Lookups.{type_here, type_named, type_in, type_of, traversed, stands_for}
+use Rattle.pst_ast.specs.Uses.{Use, Judges, HasPlain, HasType, Uniques, Branches, Arms, Performs, Ties, Passes, Reads, Assigns, Targets, Role, Condition, Constrains, InBody, PoolSize, expr_uses, uses}
+use Rattle.pst_ast.specs.NameRules.{named_in, target_of}
+use Rattle.pst_type_rules.specs.Enums.{DeclaredItem, DeclaredEnum, enums}
+use Rattle.pst_type_rules.specs.Constants.{IsItemValue, IsConstant}
+use Rattle.pst_type_rules.specs.Domains.{HasWidth, IsSpanOf, IsInType, IsKnown, ranges_of, ranges_in}
 use Rattle.pst_type_rules.specs.Places.{expr_place, range_place, plain_place, type_place, ins}
 use Rattle.pst_type_rules.specs.Sites.{DeclaredAction, DeclaredFunction, action_at, function_at}
 use Rattle.pst_type_rules.specs.Members.{AreMembers, those_that, IsCompound, IsTwofold}

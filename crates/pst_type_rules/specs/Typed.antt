@@ -4,9 +4,9 @@ use Rattle.std.specs.List.{Contains}
 use Rattle.pst_base.specs.Places.{IsBefore}
 use Rattle.pst_ast.specs.ExpressionTree.{ExprTree}
 use Rattle.pst_ast.specs.DeclarationTree.{UnitTree}
-use Rattle.pst_scope.specs.declared.environment.Environment.{Environment}
-use Rattle.pst_scope.specs.Uses.{Judges, Role, uses}
-use Rattle.pst_constants.specs.Constants.{IsConstant}
+use Rattle.pst_ast.specs.declared.environment.Environment.{Environment}
+use Rattle.pst_ast.specs.Uses.{Judges, Role, uses}
+use Rattle.pst_type_rules.specs.Constants.{IsConstant}
 use Rattle.pst_type_rules.specs.declared.typed.ConstantValue.{ConstantValue}
 use Rattle.pst_type_rules.specs.Places.{expr_place}
 use Rattle.pst_type_rules.specs.TypeRules.{is_constant}

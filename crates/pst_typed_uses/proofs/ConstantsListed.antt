@@ -6,10 +6,10 @@ use Rattle.std.proofs.lemmas.List.Elements.{Contains-append_left, Contains-appen
 use Rattle.pst_base.specs.declared.position.Place.{Place}
 use Rattle.pst_ast.specs.ExpressionTree.{ExprTree}
 use Rattle.pst_ast.specs.DeclarationTree.{UnitTree}
-use Rattle.pst_scope.specs.declared.environment.Environment.{Environment}
-use Rattle.pst_scope.specs.Declarations.{declarations}
-use Rattle.pst_scope.specs.Uses.{Use, Judges, Role, uses}
-use Rattle.pst_constants.specs.Constants.{IsConstant}
+use Rattle.pst_ast.specs.declared.environment.Environment.{Environment}
+use Rattle.pst_ast.specs.Declarations.{declarations}
+use Rattle.pst_ast.specs.Uses.{Use, Judges, Role, uses}
+use Rattle.pst_type_rules.specs.Constants.{IsConstant}
 use Rattle.pst_type_rules.specs.declared.typed.ConstantValue.{ConstantValue}
 use Rattle.pst_type_rules.specs.Places.{expr_place}
 use Rattle.pst_type_rules.specs.TypeRules.{is_constant}

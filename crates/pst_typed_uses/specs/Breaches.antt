@@ -2,8 +2,8 @@
 use Rattle.std.specs.Prelude.{ℕ, List}
 use Rattle.std.specs.List.{Contains}
 use Rattle.pst_ast.specs.DeclarationTree.{UnitTree}
-use Rattle.pst_scope.specs.declared.referent.Finding.{Finding}
-use Rattle.pst_scope.specs.Uses.{Use, uses}
+use Rattle.pst_ast.specs.declared.referent.Finding.{Finding}
+use Rattle.pst_ast.specs.Uses.{Use, uses}
 use Rattle.pst_type_rules.specs.TypeRules.{UseBreaks}
 
 -- some use breaks it

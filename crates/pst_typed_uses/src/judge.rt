@@ -6,13 +6,12 @@ ghost use Rattle.pst_evaluate.specs.Kept.{constant_by, known_in};
 ghost use Rattle.pst_walk_parts.specs.Shown.{view_role};
 ghost use Rattle.pst_typed_uses.specs.Judged.{constant_if, with_constant, with_found};
 
-use pst_ast::ExprNode;
+use pst_ast::{Environment, ExprNode, Finding};
 use pst_base::{NoMemory, Place};
 use pst_enum_values::EnumTable;
 use pst_evaluate::constant_value;
 use pst_name_rules::earlier;
 use pst_range_rules::RangeFacts;
-use pst_scope::{Environment, Finding};
 use pst_type_rules::ConstantValue;
 use pst_use_rules::Facts;
 use pst_walk_parts::Role;

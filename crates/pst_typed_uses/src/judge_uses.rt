@@ -3,13 +3,13 @@ ghost use Rattle.pst_typed_uses.specs.Judged.{judged};
 
 use crate::judge::{Judge, is_constant};
 use pst_ast::{
-    ArgumentsNode, ArmNode, DotName, EndNode, ExprNode, Name, NamesNode, NextExpr, NextPart,
-    OtherEnds, PartNode, PlainNode, StatementNode, TargetNode, TypeName, TypeNode,
+    ArgumentsNode, ArmNode, Declaration, DotName, EndNode, Environment, ExprNode, Name, NamesNode,
+    NextExpr, NextPart, OtherEnds, PartNode, PlainNode, StatementNode, TargetNode, Traversal,
+    TypeName, TypeNode,
 };
 use pst_base::{NoMemory, Place};
 use pst_names::read_target;
 use pst_range_rules::{arms_finding, plain_finding, type_finding};
-use pst_scope::{Declaration, Environment, Traversal};
 use pst_use_rules::{
     assigned_finding, branches_finding, call_finding, count_finding, count_of_branches, expr_place,
     expression_finding, performed_finding, target_finding, ties_finding, unique_finding,

@@ -2,22 +2,22 @@
 ghost use Rattle.std.specs.Prelude.{◌≡◌, IfOk, None, map};
 ghost use Rattle.std.specs.List.{flat_map};
 ghost use Rattle.pst_ast.specs.DeclarationView.{view_unit};
-ghost use Rattle.pst_constants.specs.Enums.{enums as the_enums};
+ghost use Rattle.pst_type_rules.specs.Enums.{enums as the_enums};
 ghost use Rattle.pst_enum_values.specs.Gathered.{enum_places};
 ghost use Rattle.pst_evaluate.specs.Kept.{known_in};
 ghost use Rattle.pst_evaluate.specs.Settled.{AreItemValues};
 ghost use Rattle.pst_name_rules.specs.Leasts.{IsLeastOf, least_at};
-ghost use Rattle.pst_scope.specs.Declarations.{declarations};
-ghost use Rattle.pst_scope.specs.Uses.{uses};
+ghost use Rattle.pst_ast.specs.Declarations.{declarations};
+ghost use Rattle.pst_ast.specs.Uses.{uses};
 ghost use Rattle.pst_type_rules.specs.Typed.{AreConstants};
 ghost use Rattle.pst_typed_uses.specs.Breaches.{IsUseBreach};
 ghost use Rattle.pst_typed_uses.specs.Found.{constants_in, use_found};
 
 use crate::in_order::in_order;
 use crate::judge::Judge;
+use pst_ast::Finding;
 use pst_base::NoMemory;
 use pst_enum_values::EnumTable;
-use pst_scope::Finding;
 use pst_type_rules::ConstantValue;
 use pst_use_rules::Facts;
 use pst_walk::walk;

@@ -4,9 +4,9 @@ use Rattle.std.specs.Prelude.{Some, None, map}
 use Rattle.pst_base.specs.declared.position.Place.{Place}
 use Rattle.pst_base.specs.Laws.{BeforeGoesOn}
 use Rattle.pst_ast.specs.DeclarationTree.{UnitTree}
-use Rattle.pst_scope.specs.Breaches.{IsLeast, IsNone}
-use Rattle.pst_scope.specs.declared.referent.Finding.{Finding}
-use Rattle.pst_constants.specs.Enums.{DeclaredEnum}
+use Rattle.pst_ast.specs.Breaches.{IsLeast, IsNone}
+use Rattle.pst_ast.specs.declared.referent.Finding.{Finding}
+use Rattle.pst_type_rules.specs.Enums.{DeclaredEnum}
 use Rattle.pst_type_rules.specs.TypeRules.{TypeBreach, OfUse, OfEnum, OfDeclaration, Unsteady, BoundTwice}
 use Rattle.pst_name_rules.specs.Earlier.{earlier}
 use Rattle.pst_name_rules.specs.Leasts.{IsLeastOf}

@@ -1,10 +1,10 @@
 -- What judging the types of sources says of them.
 use Rattle.std.specs.Prelude.{◌⊎◌, ℕ, List}
 use Rattle.pst_ast.specs.DeclarationTree.{UnitTree}
-use Rattle.pst_scope.specs.declared.referent.Checked.{Checked}
-use Rattle.pst_scope.specs.declared.referent.Checked.TheVariants.{Is, Breaks}
-use Rattle.pst_scope.specs.declared.referent.Finding.{Finding}
-use Rattle.pst_scope.specs.Breaches.{IsLeast, IsNone}
+use Rattle.pst_ast.specs.declared.referent.Checked.{Checked}
+use Rattle.pst_ast.specs.declared.referent.Checked.TheVariants.{Is, Breaks}
+use Rattle.pst_ast.specs.declared.referent.Finding.{Finding}
+use Rattle.pst_ast.specs.Breaches.{IsLeast, IsNone}
 use Rattle.pst_names.specs.declared.end.RuleEnd.{RuleEnd}
 use Rattle.pst_names.specs.declared.end.RuleEnd.TheVariants as rule_end
 use Rattle.pst_type_rules.specs.declared.typed.ConstantValue.{ConstantValue}

@@ -8,19 +8,19 @@ use Rattle.pst_base.specs.Laws.{BeforeGoesOn}
 use Rattle.pst_ast.specs.declared.leaf.Name.{Name}
 use Rattle.pst_ast.specs.declared.activity.EndNode.{EndNode}
 use Rattle.pst_ast.specs.DeclarationTree.{UnitTree}
-use Rattle.pst_scope.specs.declared.declaration.Declaration.{Declaration}
-use Rattle.pst_scope.specs.declared.environment.Environment.{Environment}
-use Rattle.pst_scope.specs.declared.referent.Checked.{Checked}
-use Rattle.pst_scope.specs.declared.referent.Checked.TheVariants.{Is, Breaks}
-use Rattle.pst_scope.specs.declared.referent.Finding.{Finding}
-use Rattle.pst_scope.specs.declared.referent.Target.{Target}
-use Rattle.pst_scope.specs.contracts.declaration.DeclarationPartialEq.TheImpl as declaration
-use Rattle.pst_scope.specs.contracts.declaration.DeclarationEq.TheImpl.Laws.{laws-law}
-use Rattle.pst_scope.specs.Declarations.{declarations}
-use Rattle.pst_scope.specs.Lookups.{type_of}
-use Rattle.pst_scope.specs.NameRules.{unless, named_in, target_of}
-use Rattle.pst_scope.specs.Sorts.{same_name, is_pool}
-use Rattle.pst_scope.specs.Uses.{Ties, Targets}
+use Rattle.pst_ast.specs.declared.scope_declaration.Declaration.{Declaration}
+use Rattle.pst_ast.specs.declared.environment.Environment.{Environment}
+use Rattle.pst_ast.specs.declared.referent.Checked.{Checked}
+use Rattle.pst_ast.specs.declared.referent.Checked.TheVariants.{Is, Breaks}
+use Rattle.pst_ast.specs.declared.referent.Finding.{Finding}
+use Rattle.pst_ast.specs.declared.referent.Target.{Target}
+use Rattle.pst_ast.specs.contracts.declaration.DeclarationPartialEq.TheImpl as declaration
+use Rattle.pst_ast.specs.contracts.declaration.DeclarationEq.TheImpl.Laws.{laws-law}
+use Rattle.pst_ast.specs.Declarations.{declarations}
+use Rattle.pst_ast.specs.Lookups.{type_of}
+use Rattle.pst_ast.specs.NameRules.{unless, named_in, target_of}
+use Rattle.pst_ast.specs.Sorts.{same_name, is_pool}
+use Rattle.pst_ast.specs.Uses.{Ties, Targets}
 use Rattle.pst_loops.proofs.Same.{same_declaration}
 use Rattle.pst_type_rules.specs.Binds.{reference_at, is_output, is_input, AreEnds}
 use Rattle.pst_type_rules.specs.TypeRules.{UseBreaks, UnfitEnds, OneHandle, OtherObject, first_name}

@@ -6,8 +6,8 @@ use Rattle.pst_base.specs.declared.position.Place.{Place}
 use Rattle.pst_ast.specs.ExpressionTree.{ExprTree}
 use Rattle.pst_ast.specs.DeclarationTree.{UnitTree}
 use Rattle.pst_model.specs.Limits.{most_branches}
-use Rattle.pst_scope.specs.declared.referent.Finding.{Finding}
-use Rattle.pst_scope.specs.Uses.{Uniques, Branches}
+use Rattle.pst_ast.specs.declared.referent.Finding.{Finding}
+use Rattle.pst_ast.specs.Uses.{Uniques, Branches}
 use Rattle.pst_type_rules.specs.Limits.{most_unique}
 use Rattle.pst_type_rules.specs.Places.{expr_place}
 use Rattle.pst_type_rules.specs.TypeRules.{UseBreaks, ManyItems, ManyBranches}

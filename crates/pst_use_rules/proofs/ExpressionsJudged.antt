@@ -8,17 +8,17 @@ use Rattle.pst_ast.specs.ExpressionTree.{ExprTree}
 use Rattle.pst_ast.specs.DeclarationTree.{UnitTree}
 use Rattle.pst_expr.specs.declared.ranges.Span.{Span}
 use Rattle.pst_expr.specs.Spans.{IsInSpan}
-use Rattle.pst_scope.specs.declared.declaration.Declaration.{Declaration}
-use Rattle.pst_scope.specs.declared.environment.Environment.{Environment}
-use Rattle.pst_scope.specs.declared.referent.Finding.{Finding}
-use Rattle.pst_scope.specs.declared.referent.PathPart.{PathPart}
-use Rattle.pst_scope.specs.declared.referent.Referent.{Referent}
-use Rattle.pst_scope.specs.Declarations.{declarations}
-use Rattle.pst_scope.specs.Lookups.{type_named, stands_for}
-use Rattle.pst_scope.specs.NameRules.{unless}
-use Rattle.pst_scope.specs.Sorts.{is_resource}
-use Rattle.pst_scope.specs.Uses.{Use, Judges, Reads, Role, Width, LowestBit, RangeEnd, EnumValue, PoolSize, ArraySize, Weight, JoinCount, Condition, Constrains, InBody, expr_uses}
-use Rattle.pst_constants.specs.Constants.{IsConstant}
+use Rattle.pst_ast.specs.declared.scope_declaration.Declaration.{Declaration}
+use Rattle.pst_ast.specs.declared.environment.Environment.{Environment}
+use Rattle.pst_ast.specs.declared.referent.Finding.{Finding}
+use Rattle.pst_ast.specs.declared.referent.PathPart.{PathPart}
+use Rattle.pst_ast.specs.declared.referent.Referent.{Referent}
+use Rattle.pst_ast.specs.Declarations.{declarations}
+use Rattle.pst_ast.specs.Lookups.{type_named, stands_for}
+use Rattle.pst_ast.specs.NameRules.{unless}
+use Rattle.pst_ast.specs.Sorts.{is_resource}
+use Rattle.pst_ast.specs.Uses.{Use, Judges, Reads, Role, Width, LowestBit, RangeEnd, EnumValue, PoolSize, ArraySize, Weight, JoinCount, Condition, Constrains, InBody, expr_uses}
+use Rattle.pst_type_rules.specs.Constants.{IsConstant}
 use Rattle.pst_evaluate.specs.Kept.{constant_by}
 use Rattle.pst_evaluate.specs.Laws.{ConstantsAreFound}
 use Rattle.pst_evaluate.specs.Settled.{AreItemValues}

@@ -6,8 +6,8 @@ use Rattle.std.specs.Option.{option_map}
 use Rattle.pst_ast.specs.ExpressionTree.{ExprTree}
 use Rattle.pst_ast.specs.SharedView.{view_next_expr}
 use Rattle.pst_ast.specs.declared.shared.NextExpr.{NextExpr}
-use Rattle.pst_scope.specs.declared.referent.Finding.{Finding}
-use Rattle.pst_scope.specs.Uses.{next_expr}
+use Rattle.pst_ast.specs.declared.referent.Finding.{Finding}
+use Rattle.pst_ast.specs.Uses.{next_expr}
 use Rattle.pst_type_rules.specs.Places.{expr_place}
 use Rattle.pst_use_rules.specs.Found.{too_many, unique_found}
 

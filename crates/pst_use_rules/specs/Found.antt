@@ -8,19 +8,19 @@ use Rattle.pst_ast.specs.ExpressionTree.{ExprTree}
 use Rattle.pst_ast.specs.DeclarationTree.{UnitTree, AnswerTree, AnswerVoid, AnswerPlain}
 use Rattle.pst_expr.specs.declared.ranges.Span.{Span}
 use Rattle.pst_model.specs.Limits.{most_branches}
-use Rattle.pst_scope.specs.declared.declaration.Declaration.{Declaration}
-use Rattle.pst_scope.specs.declared.environment.Environment.{Environment}
-use Rattle.pst_scope.specs.declared.referent.Checked.{Checked}
-use Rattle.pst_scope.specs.declared.referent.Checked.TheVariants.{Is, Breaks}
-use Rattle.pst_scope.specs.declared.referent.Finding.{Finding}
-use Rattle.pst_scope.specs.declared.referent.Referent.{Referent}
-use Rattle.pst_scope.specs.declared.referent.Target.{Target}
-use Rattle.pst_scope.specs.declared.referent.Traversal.{Traversal}
-use Rattle.pst_scope.specs.contracts.declaration.DeclarationPartialEq.TheImpl as declaration
-use Rattle.pst_scope.specs.Sorts.{same_name, is_pool, is_resource}
-use Rattle.pst_scope.specs.Lookups.{type_here, type_named, type_of, stands_for, traversed}
-use Rattle.pst_scope.specs.NameRules.{finding, unless, named_in, target_of}
-use Rattle.pst_scope.specs.Uses.{Use, Reads, Role, PoolSize, Condition, expr_uses}
+use Rattle.pst_ast.specs.declared.scope_declaration.Declaration.{Declaration}
+use Rattle.pst_ast.specs.declared.environment.Environment.{Environment}
+use Rattle.pst_ast.specs.declared.referent.Checked.{Checked}
+use Rattle.pst_ast.specs.declared.referent.Checked.TheVariants.{Is, Breaks}
+use Rattle.pst_ast.specs.declared.referent.Finding.{Finding}
+use Rattle.pst_ast.specs.declared.referent.Referent.{Referent}
+use Rattle.pst_ast.specs.declared.referent.Target.{Target}
+use Rattle.pst_ast.specs.declared.referent.Traversal.{Traversal}
+use Rattle.pst_ast.specs.contracts.declaration.DeclarationPartialEq.TheImpl as declaration
+use Rattle.pst_ast.specs.Sorts.{same_name, is_pool, is_resource}
+use Rattle.pst_ast.specs.Lookups.{type_here, type_named, type_of, stands_for, traversed}
+use Rattle.pst_ast.specs.NameRules.{finding, unless, named_in, target_of}
+use Rattle.pst_ast.specs.Uses.{Use, Reads, Role, PoolSize, Condition, expr_uses}
 use Rattle.pst_type_rules.specs.Places.{expr_place, ins}
 use Rattle.pst_type_rules.specs.Sites.{DeclaredAction, DeclaredFunction, action_at, function_at}
 use Rattle.pst_type_rules.specs.Limits.{most_unique, limits_of, is_local}

@@ -5,11 +5,11 @@ use Rattle.pst_ast.specs.declared.leaf.Name.{Name}
 use Rattle.pst_ast.specs.declared.activity.EndNode.{EndNode}
 use Rattle.pst_ast.specs.ExpressionTree.{ExprTree}
 use Rattle.pst_ast.specs.DeclarationTree.{UnitTree}
-use Rattle.pst_scope.specs.declared.environment.Environment.{Environment}
-use Rattle.pst_scope.specs.declared.referent.Finding.{Finding}
-use Rattle.pst_scope.specs.declared.referent.Traversal.{Traversal}
-use Rattle.pst_scope.specs.Declarations.{declarations}
-use Rattle.pst_scope.specs.Uses.{Use, Judges, Uniques, Branches, Ties, Targets, Assigns, Performs, Passes, Role}
+use Rattle.pst_ast.specs.declared.environment.Environment.{Environment}
+use Rattle.pst_ast.specs.declared.referent.Finding.{Finding}
+use Rattle.pst_ast.specs.declared.referent.Traversal.{Traversal}
+use Rattle.pst_ast.specs.Declarations.{declarations}
+use Rattle.pst_ast.specs.Uses.{Use, Judges, Uniques, Branches, Ties, Targets, Assigns, Performs, Passes, Role}
 use Rattle.pst_evaluate.specs.Kept.{constant_by}
 use Rattle.pst_evaluate.specs.Settled.{AreItemValues}
 use Rattle.pst_type_rules.specs.TypeRules.{UseBreaks}

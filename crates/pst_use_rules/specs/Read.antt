@@ -1,8 +1,8 @@
 -- What has been found of the paths in a condition.
 use Rattle.std.specs.Prelude.{ℕ, List, Option}
-use Rattle.pst_scope.specs.declared.declaration.Declaration.{Declaration}
-use Rattle.pst_scope.specs.declared.referent.Finding.{Finding}
-use Rattle.pst_scope.specs.Uses.{Use}
+use Rattle.pst_ast.specs.declared.scope_declaration.Declaration.{Declaration}
+use Rattle.pst_ast.specs.declared.referent.Finding.{Finding}
+use Rattle.pst_ast.specs.Uses.{Use}
 use Rattle.pst_name_rules.specs.Earlier.{earlier}
 use Rattle.pst_use_rules.specs.Found.{read_found}
 

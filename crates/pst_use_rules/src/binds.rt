@@ -1,20 +1,21 @@
 //! What binds and assignments break.
 ghost use Rattle.std.specs.Prelude.{◌≡◌, None, map};
 ghost use Rattle.pst_ast.specs.ActivityView.{view_other_ends};
-ghost use Rattle.pst_scope.specs.Lookups;
-ghost use Rattle.pst_scope.specs.Uses.{other_ends};
+ghost use Rattle.pst_ast.specs.Lookups;
+ghost use Rattle.pst_ast.specs.Uses.{other_ends};
 ghost use Rattle.pst_name_rules.specs.Leasts.{least_at};
 ghost use Rattle.pst_type_rules.specs.Binds;
 ghost use Rattle.pst_type_rules.specs.TypeRules;
 ghost use Rattle.pst_use_rules.specs.Found;
 
 use crate::facts::Facts;
-use pst_ast::{EndNode, Name, NextEnd, OtherEnds};
+use pst_ast::{
+    Checked, Declaration, EndNode, Environment, Finding, Name, NextEnd, OtherEnds, Referent, Sort,
+    Target,
+};
 use pst_base::Place;
-use pst_index::Index;
-use pst_meaning::stands_for;
+use pst_index::{Index, stands_for};
 use pst_name_rules::{earlier, end_named, pool_in, target_of, unless};
-use pst_scope::{Checked, Declaration, Environment, Finding, Referent, Sort, Target};
 
 // The reference that an end names.
 fn reference_at(facts: &Facts<'_>, at: &Environment, end: &EndNode) -> Option<Declaration>

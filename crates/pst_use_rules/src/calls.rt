@@ -3,15 +3,14 @@ ghost use Rattle.std.specs.Prelude.{◌≡◌, length, map};
 ghost use Rattle.std.specs.Option.{option_map};
 ghost use Rattle.pst_ast.specs.BodyView.{view_arguments};
 ghost use Rattle.pst_ast.specs.DeclarationView.{view_answer, view_function, view_unit};
-ghost use Rattle.pst_scope.specs.Uses.{arguments_of};
+ghost use Rattle.pst_ast.specs.Uses.{arguments_of};
 ghost use Rattle.pst_type_rules.specs.Sites.{function_of};
 ghost use Rattle.pst_use_rules.specs.Found;
 
 use crate::facts::Facts;
-use pst_ast::{AnswerNode, ArgumentsNode, FunctionNode, Name, ParametersNode};
+use pst_ast::{AnswerNode, ArgumentsNode, Finding, FunctionNode, Name, ParametersNode};
 use pst_base::Place;
 use pst_name_rules::unless;
-use pst_scope::Finding;
 
 // How many arguments there are.
 fn count_of_arguments(arguments: &Option<ArgumentsNode>) -> u64

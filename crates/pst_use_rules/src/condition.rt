@@ -1,18 +1,16 @@
 //! The names in the conditions of activities.
 ghost use Rattle.std.specs.Prelude.{◌≡◌, IfOk, None};
 ghost use Rattle.pst_ast.specs.ExpressionView.{view_expr};
-ghost use Rattle.pst_scope.specs.Uses.{expr_uses};
+ghost use Rattle.pst_ast.specs.Uses.{expr_uses};
 ghost use Rattle.pst_name_rules.specs.Leasts.{least_at};
 ghost use Rattle.pst_use_rules.specs.Found.{may_be_named as may_it, read_found};
 ghost use Rattle.pst_use_rules.specs.Read.{read};
 
 use crate::facts::Facts;
-use pst_ast::{ExprNode, Name};
+use pst_ast::{Environment, ExprNode, Finding, Name, PathPart, Referent, Sort};
 use pst_base::{Names, NoMemory};
-use pst_index::Index;
-use pst_meaning::stands_for;
+use pst_index::{Index, stands_for};
 use pst_name_rules::{earlier, unless};
-use pst_scope::{Environment, Finding, PathPart, Referent, Sort};
 use pst_walk_paths::{PathVisitor, show_paths};
 use std::marker::Model;
 

@@ -3,14 +3,13 @@ ghost use Rattle.std.specs.Prelude.{◌≡◌, ◌∷◌, map};
 ghost use Rattle.pst_ast.specs.ActivityView.{view_statement};
 ghost use Rattle.pst_ast.specs.ExpressionView.{view_expr};
 ghost use Rattle.pst_ast.specs.SharedView.{view_next_expr};
-ghost use Rattle.pst_scope.specs.Uses.{branch_places, branches_in, is_branch as is_one, next_expr, statement_place as the_place};
+ghost use Rattle.pst_ast.specs.Uses.{branch_places, branches_in, is_branch as is_one, next_expr, statement_place as the_place};
 ghost use Rattle.pst_walk_parts.specs.Shown.{view_statements};
 ghost use Rattle.pst_use_rules.specs.Found;
 
 use crate::expression::expr_place;
-use pst_ast::{CoreNode, ExprNode, NextExpr, StatementNode};
+use pst_ast::{CoreNode, ExprNode, Finding, NextExpr, StatementNode};
 use pst_base::Place;
-use pst_scope::Finding;
 use pst_walk_act::show_traversal::core_place;
 
 // The first place of too many.

@@ -1,9 +1,9 @@
 //! What outermost expressions break.
 ghost use Rattle.std.specs.Prelude.{◌≡◌, IfOk, None, is_some};
 ghost use Rattle.pst_ast.specs.ExpressionView.{view_expr, view_path, view_primary, view_unary};
-ghost use Rattle.pst_scope.specs.Lookups.{type_named};
-ghost use Rattle.pst_scope.specs.Sorts;
-ghost use Rattle.pst_scope.specs.Uses.{JoinCount};
+ghost use Rattle.pst_ast.specs.Lookups.{type_named};
+ghost use Rattle.pst_ast.specs.Sorts;
+ghost use Rattle.pst_ast.specs.Uses.{JoinCount};
 ghost use Rattle.pst_type_rules.specs.Limits;
 ghost use Rattle.pst_type_rules.specs.Places;
 ghost use Rattle.pst_type_rules.specs.TypeRules;
@@ -13,12 +13,13 @@ ghost use Rattle.pst_use_rules.specs.Found;
 use crate::condition::condition_least;
 use crate::facts::Facts;
 use crate::inner::inner_of_expr;
-use pst_ast::{ExprNode, ObjectWord, PathNode, PrimaryNode, TypeName, UnaryNode};
+use pst_ast::{
+    Environment, ExprNode, Finding, ObjectWord, PathNode, PrimaryNode, Sort, TypeName, UnaryNode,
+};
 use pst_base::{NoMemory, Place};
 use pst_expr::Span;
 use pst_index::Index;
 use pst_name_rules::{earlier, unless};
-use pst_scope::{Environment, Finding, Sort};
 use pst_walk_parts::Role;
 
 // The place of the first token of an expression without operators between parts.

@@ -7,12 +7,11 @@ ghost use Rattle.pst_name_rules.specs.Leasts.{least_at};
 ghost use Rattle.pst_use_rules.specs.Found.{inner_in};
 
 use pst_ast::{
-    ExprNode, NextPart, NextRange, PartNode, PathNode, PrimaryNode, RangeNode, RangesNode,
+    ExprNode, Finding, NextPart, NextRange, PartNode, PathNode, PrimaryNode, RangeNode, RangesNode,
     UnaryNode,
 };
 use pst_base::Place;
 use pst_name_rules::earlier;
-use pst_scope::Finding;
 
 // The finding of an `in`, and one before it.
 fn with_inner(before: Option<Finding>, within: bool, place: Place) -> Option<Finding>

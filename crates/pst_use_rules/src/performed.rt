@@ -6,11 +6,10 @@ ghost use Rattle.pst_type_rules.specs.Sites.{action_of};
 ghost use Rattle.pst_use_rules.specs.Found;
 
 use crate::facts::Facts;
-use pst_ast::ActionNode;
+use pst_ast::{ActionNode, Environment, Finding, Traversal};
 use pst_base::Place;
-use pst_meaning::traversed;
+use pst_index::traversed;
 use pst_name_rules::unless;
-use pst_scope::{Environment, Finding, Traversal};
 
 // Rule 17 at the traversal of an action, where there is one.
 fn abstract_finding(place: Place, action: Option<&ActionNode>) -> Option<Finding>

@@ -3,13 +3,12 @@ ghost use Rattle.std.specs.Prelude.{◌≡◌, ◌∷◌, [], OnOk, map};
 ghost use Rattle.std.specs.List.{flat_map, fold};
 ghost use Rattle.std.specs.Option.{option_map};
 ghost use Rattle.pst_ast.specs.DeclarationView.{view_action, view_action_part};
-ghost use Rattle.pst_scope.specs.Declarations.{action_declared, base_name};
-ghost use Rattle.pst_scope.specs.Uses.{NamesBase, action_part_uses, action_uses, option_uses};
+ghost use Rattle.pst_ast.specs.Declarations.{action_declared, base_name};
+ghost use Rattle.pst_ast.specs.Uses.{NamesBase, action_part_uses, action_uses, option_uses};
 
 use crate::show_type::{declaration_of, environment};
-use pst_ast::{ActionNode, ActionPart, BaseNode, TypeName};
+use pst_ast::{ActionNode, ActionPart, BaseNode, Declaration, Environment, Owner, Sort, TypeName};
 use pst_base::{NoMemory, Place};
-use pst_scope::{Declaration, Environment, Owner, Sort};
 use pst_walk_act::show_activity::show_activity;
 use pst_walk_body::show_body::show_body;
 use pst_walk_parts::show_constraint::show_constraint;

@@ -3,13 +3,14 @@ ghost use Rattle.std.specs.Prelude.{◌≡◌, OnOk, Some, map};
 ghost use Rattle.std.specs.List.{flat_map, fold};
 ghost use Rattle.std.specs.Option.{option_map};
 ghost use Rattle.pst_ast.specs.DeclarationView.{view_component, view_component_part, view_next_target, view_size, view_targets};
-ghost use Rattle.pst_scope.specs.Uses.{component_part_uses, component_uses, next_target, option_uses, size_uses, target_use, targets_of};
+ghost use Rattle.pst_ast.specs.Uses.{component_part_uses, component_uses, next_target, option_uses, size_uses, target_use, targets_of};
 
 use crate::show_action::show_action;
 use crate::show_type::{environment, show_enum, show_function, show_object};
-use pst_ast::{ComponentNode, ComponentPart, Name, NextTarget, SizeNode, TargetsNode, TypeName};
+use pst_ast::{
+    ComponentNode, ComponentPart, Name, NextTarget, Owner, SizeNode, TargetsNode, TypeName,
+};
 use pst_base::{NoMemory, Place};
-use pst_scope::Owner;
 use pst_walk_parts::show_shared::show_whole;
 use pst_walk_parts::{Role, Visitor, Wanted};
 use std::alloc::Global;

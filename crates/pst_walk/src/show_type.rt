@@ -3,17 +3,17 @@ ghost use Rattle.std.specs.Prelude.{◌≡◌, OnOk, map};
 ghost use Rattle.std.specs.List.{flat_map, fold};
 ghost use Rattle.std.specs.Option.{option_map};
 ghost use Rattle.pst_ast.specs.DeclarationView.{view_answer, view_enum, view_enum_item, view_function, view_next_enum_item, view_next_parameter, view_object, view_object_part, view_parameter, view_parameters};
-ghost use Rattle.pst_scope.specs.Declarations;
-ghost use Rattle.pst_scope.specs.Declarations.{next_item, next_parameter, parameters_of, type_declared};
-ghost use Rattle.pst_scope.specs.Uses;
-ghost use Rattle.pst_scope.specs.Uses.{answer_uses, enum_uses, enum_value_uses, function_uses, object_part_uses, object_uses, parameter_uses};
+ghost use Rattle.pst_ast.specs.Declarations;
+ghost use Rattle.pst_ast.specs.Declarations.{next_item, next_parameter, parameters_of, type_declared};
+ghost use Rattle.pst_ast.specs.Uses;
+ghost use Rattle.pst_ast.specs.Uses.{answer_uses, enum_uses, enum_value_uses, function_uses, object_part_uses, object_uses, parameter_uses};
 
 use pst_ast::{
-    AnswerNode, EnumItem, EnumNode, FunctionNode, Name, NextEnumItem, NextParameter, ObjectNode,
-    ObjectPart, ParameterNode, ParametersNode,
+    AnswerNode, Declaration, EnumItem, EnumNode, Environment, FunctionNode, Inner, Name,
+    NextEnumItem, NextParameter, ObjectNode, ObjectPart, Owner, ParameterNode, ParametersNode,
+    Scope, Sort,
 };
 use pst_base::{NoMemory, Place};
-use pst_scope::{Declaration, Environment, Inner, Owner, Scope, Sort};
 use pst_walk_parts::show_constraint::show_constraint;
 use pst_walk_parts::show_shared::{show_field, show_plain, show_whole};
 use pst_walk_parts::{Role, Visitor};

@@ -2,7 +2,7 @@
 ghost use Rattle.std.specs.Prelude.{◌≡◌, OnOk, map};
 ghost use Rattle.std.specs.List.{flat_map, fold};
 ghost use Rattle.pst_ast.specs.DeclarationView.{view_item, view_unit};
-ghost use Rattle.pst_scope.specs.Uses.{unit_item_uses, unit_uses, uses};
+ghost use Rattle.pst_ast.specs.Uses.{unit_item_uses, unit_uses, uses};
 
 use crate::show_component::show_component;
 use crate::show_type::{show_enum, show_function, show_object};

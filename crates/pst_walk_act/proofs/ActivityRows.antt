@@ -17,8 +17,8 @@ use Rattle.pst_ast.specs.declared.expression.ExprNode.{ExprNode}
 use Rattle.pst_ast.specs.ActivityTree.{StatementTree, StatementRow, MoreStatementRow, ArmLabelTree}
 use Rattle.pst_ast.specs.ActivityView.{view_arm, view_arm_row, view_branch, view_branch_row, view_core, view_join, view_statement, view_statement_row}
 use Rattle.pst_ast.specs.ExpressionView.{view_expr}
-use Rattle.pst_scope.specs.declared.environment.Environment.{Environment}
-use Rattle.pst_scope.specs.Uses.{Use, Arms, Branches, Condition, arm_label, arm_labels, arm_row_uses, arm_uses, branch_places, branch_row_uses, branch_uses, branches_in, core_uses, join_uses, labels_in, option_uses, statement_row_uses, statement_uses, whole_uses}
+use Rattle.pst_ast.specs.declared.environment.Environment.{Environment}
+use Rattle.pst_ast.specs.Uses.{Use, Arms, Branches, Condition, arm_label, arm_labels, arm_row_uses, arm_uses, branch_places, branch_row_uses, branch_uses, branches_in, core_uses, join_uses, labels_in, option_uses, statement_row_uses, statement_uses, whole_uses}
 use Rattle.pst_walk_parts.specs.Shown.{row_of, view_statements}
 
 -- ---- statements

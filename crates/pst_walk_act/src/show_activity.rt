@@ -2,7 +2,7 @@
 ghost use Rattle.std.specs.Prelude.{◌≡◌, OnOk, map};
 ghost use Rattle.std.specs.List.{flat_map, fold};
 ghost use Rattle.pst_ast.specs.ActivityView.{view_activity, view_arm, view_branch, view_core, view_statement};
-ghost use Rattle.pst_scope.specs.Uses.{activity_uses, arm_uses, branch_uses, core_uses, statement_uses, with_index};
+ghost use Rattle.pst_ast.specs.Uses.{activity_uses, arm_uses, branch_uses, core_uses, statement_uses, with_index};
 
 use crate::show_bind::show_bind;
 use crate::show_join::show_optional_join;
@@ -10,9 +10,10 @@ use crate::show_traversal::{
     by_handle, core_place, show_arm_label, show_matched, show_optional_guard, show_performed,
     show_with,
 };
-use pst_ast::{ActivityNode, ArmNode, BranchNode, CoreNode, LabelNode, StatementNode};
+use pst_ast::{
+    ActivityNode, ArmNode, BranchNode, CoreNode, Environment, LabelNode, StatementNode, Traversal,
+};
 use pst_base::NoMemory;
-use pst_scope::{Environment, Traversal};
 use pst_walk_parts::show_shared::show_whole;
 use pst_walk_parts::{Role, Visitor, Wanted};
 

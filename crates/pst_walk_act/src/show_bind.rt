@@ -2,11 +2,10 @@
 ghost use Rattle.std.specs.Prelude.{◌≡◌, OnOk, map};
 ghost use Rattle.std.specs.List.{fold};
 ghost use Rattle.pst_ast.specs.ActivityView.{view_bind, view_other_ends};
-ghost use Rattle.pst_scope.specs.Uses.{bind_uses, end_use, other_ends};
+ghost use Rattle.pst_ast.specs.Uses.{bind_uses, end_use, other_ends};
 
-use pst_ast::{BindNode, EndNode, NextEnd, OtherEnds};
+use pst_ast::{BindNode, EndNode, Environment, NextEnd, OtherEnds};
 use pst_base::NoMemory;
-use pst_scope::Environment;
 use pst_walk_parts::Visitor;
 
 // Shows a bind and its ends.

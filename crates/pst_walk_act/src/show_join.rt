@@ -3,12 +3,11 @@ ghost use Rattle.std.specs.Prelude.{◌≡◌, ◌∷◌, OnOk};
 ghost use Rattle.std.specs.List.{fold};
 ghost use Rattle.std.specs.Option.{option_map};
 ghost use Rattle.pst_ast.specs.ActivityView.{view_join};
-ghost use Rattle.pst_scope.specs.Uses.{Branches, branch_places, branches_in, join_uses, labels_in, option_uses};
+ghost use Rattle.pst_ast.specs.Uses.{Branches, branch_places, branches_in, join_uses, labels_in, option_uses};
 ghost use Rattle.pst_walk_parts.specs.Shown.{view_statements};
 
-use pst_ast::{JoinNode, StatementNode};
+use pst_ast::{Environment, JoinNode, StatementNode};
 use pst_base::NoMemory;
-use pst_scope::Environment;
 use pst_walk_parts::Visitor;
 use pst_walk_parts::show_expression::show_expr;
 

@@ -4,12 +4,14 @@ ghost use Rattle.std.specs.List.{fold};
 ghost use Rattle.std.specs.Option.{option_map};
 ghost use Rattle.pst_ast.specs.ActivityView.{view_arm, view_arm_label, view_core, view_guard, view_weight, view_with};
 ghost use Rattle.pst_ast.specs.ExpressionView.{view_expr};
-ghost use Rattle.pst_scope.specs.Uses;
-ghost use Rattle.pst_scope.specs.Uses.{Arms, Condition, arm_label, arm_label_uses, guard_uses, option_uses, performed, weight_uses, whole_uses, with_uses};
+ghost use Rattle.pst_ast.specs.Uses;
+ghost use Rattle.pst_ast.specs.Uses.{Arms, Condition, arm_label, arm_label_uses, guard_uses, option_uses, performed, weight_uses, whole_uses, with_uses};
 
-use pst_ast::{ArmLabel, ArmNode, CoreNode, ExprNode, GuardNode, Name, WeightNode, WithNode};
+use pst_ast::{
+    ArmLabel, ArmNode, CoreNode, Environment, ExprNode, GuardNode, Name, Traversal, WeightNode,
+    WithNode,
+};
 use pst_base::{NoMemory, Place};
-use pst_scope::{Environment, Traversal};
 use pst_walk_parts::show_constraint::show_set;
 use pst_walk_parts::show_shared::{show_ends, show_whole};
 use pst_walk_parts::{Role, Visitor};

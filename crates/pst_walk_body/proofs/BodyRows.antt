@@ -8,8 +8,8 @@ use Rattle.pst_ast.specs.declared.body.BodyStatement.{Row_of-BodyStatement, end_
 use Rattle.pst_ast.specs.declared.body.BodyStatement.TheBlock.{hidden-the_row-BodyStatement-0}
 use Rattle.pst_ast.specs.declared.body.BodyStatement.TheVariants as the_body_statement
 use Rattle.pst_ast.specs.BodyView.{view_body_statement, view_body_statement_row}
-use Rattle.pst_scope.specs.declared.environment.Environment.{Environment}
-use Rattle.pst_scope.specs.Uses.{Use, behind_statement, body_list_uses, body_row_uses, body_statement_uses}
+use Rattle.pst_ast.specs.declared.environment.Environment.{Environment}
+use Rattle.pst_ast.specs.Uses.{Use, behind_statement, body_list_uses, body_row_uses, body_statement_uses}
 
 body_row : (at : Environment) {n : _} (k : Row_of-BodyStatement n) → body_row_uses at (view_body_statement_row k) ≡ body_list_uses at (map view_body_statement (items-the_row-BodyStatement n k))
 body_row at end_of-BodyStatement = refl

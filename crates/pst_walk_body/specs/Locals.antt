@@ -1,6 +1,6 @@
 -- Scopes of locals that end.
 use Rattle.std.specs.Prelude.{ℕ, drop}
-use Rattle.pst_scope.specs.declared.environment.Environment.{Environment}
+use Rattle.pst_ast.specs.declared.environment.Environment.{Environment}
 
 -- without so many of the innermost
 abbrev pub without_inner : ℕ → Environment → Environment

@@ -4,14 +4,14 @@ ghost use Rattle.std.specs.List.{flat_map, fold};
 ghost use Rattle.std.specs.Option.{option_map};
 ghost use Rattle.pst_ast.specs.BodyView.{view_arguments, view_body, view_body_statement, view_boxed_value, view_call, view_source};
 ghost use Rattle.pst_ast.specs.SharedView.{view_next_expr};
-ghost use Rattle.pst_scope.specs.Uses.{InBody, arguments_of, behind_statement, body_list_uses, body_statement_uses, body_uses, call_uses, next_expr, option_uses, source_uses, value_uses, whole_uses, with_index};
+ghost use Rattle.pst_ast.specs.Uses.{InBody, arguments_of, behind_statement, body_list_uses, body_statement_uses, body_uses, call_uses, next_expr, option_uses, source_uses, value_uses, whole_uses, with_index};
 ghost use Rattle.pst_walk_body.specs.Locals.{without_inner};
 
 use pst_ast::{
-    ArgumentsNode, BodyNode, BodyStatement, CallNode, LabelNode, NextExpr, SourceNode, ValueNode,
+    ArgumentsNode, BodyNode, BodyStatement, CallNode, Environment, LabelNode, NextExpr, SourceNode,
+    ValueNode,
 };
 use pst_base::NoMemory;
-use pst_scope::Environment;
 use pst_walk_parts::show_shared::{show_plain, show_whole};
 use pst_walk_parts::{Role, Visitor};
 

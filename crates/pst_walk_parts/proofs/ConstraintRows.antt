@@ -9,8 +9,8 @@ use Rattle.pst_ast.specs.declared.constraint.ConstraintNode.TheVariants as the_c
 use Rattle.pst_ast.specs.declared.constraint.ConstraintItem.TheBlock.{hidden-the_row-ConstraintItem-0}
 use Rattle.pst_ast.specs.declared.constraint.ConstraintItem.{ConstraintItem}
 use Rattle.pst_ast.specs.ConstraintView.{view_constraint, view_constraint_item, view_constraint_item_row}
-use Rattle.pst_scope.specs.declared.environment.Environment.{Environment}
-use Rattle.pst_scope.specs.Uses.{Use, item_row_uses, item_uses, set_uses}
+use Rattle.pst_ast.specs.declared.environment.Environment.{Environment}
+use Rattle.pst_ast.specs.Uses.{Use, item_row_uses, item_uses, set_uses}
 
 item_row : (at : Environment) {n : _} (k : Row_of-ConstraintItem n) → item_row_uses at (view_constraint_item_row k) ≡ flat_map (item_uses at) (map view_constraint_item (items-the_row-ConstraintItem n k))
 item_row at end_of-ConstraintItem = refl

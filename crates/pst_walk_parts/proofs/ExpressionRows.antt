@@ -11,9 +11,9 @@ use Rattle.pst_ast.specs.declared.expression.ExprNode.TheBlock.{hidden-the_row-N
 use Rattle.pst_ast.specs.declared.expression.RangesNode.{RangesNode, RangesNode', out-RangesNode, Row_of-NextRange, end_of-NextRange, more_of-NextRange}
 use Rattle.pst_ast.specs.declared.expression.NextRange.{NextRange}
 use Rattle.pst_ast.specs.ExpressionView.{view_path, view_part, view_next_part, view_next_part_row, view_range, view_ranges, view_next_range, view_next_range_row}
-use Rattle.pst_scope.specs.declared.environment.Environment.{Environment}
-use Rattle.pst_scope.specs.declared.referent.PathPart.{PathPart}
-use Rattle.pst_scope.specs.Uses.{Use, Reads, part_of, parts_of, path_uses, part_uses, next_part_uses, dotted_uses, ranges_uses, range_uses, next_range_uses, comma_range_uses, end_uses, ends_uses, next_ends}
+use Rattle.pst_ast.specs.declared.environment.Environment.{Environment}
+use Rattle.pst_ast.specs.declared.referent.PathPart.{PathPart}
+use Rattle.pst_ast.specs.Uses.{Use, Reads, part_of, parts_of, path_uses, part_uses, next_part_uses, dotted_uses, ranges_uses, range_uses, next_range_uses, comma_range_uses, end_uses, ends_uses, next_ends}
 use Rattle.pst_walk_parts.specs.Shown.{dotted_part}
 
 abbrev in_part : Environment → NextPart → List Use

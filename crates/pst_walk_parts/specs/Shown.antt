@@ -4,9 +4,9 @@ use Rattle.pst_ast.specs.ActivityView.{view_statement}
 use Rattle.pst_ast.specs.ActivityTree.{StatementTree, StatementRow, NoStatementRow, MoreStatementRow}
 use Rattle.pst_ast.specs.ExpressionTree.{NextPartTree, MakeNextPart}
 use Rattle.pst_ast.specs.declared.activity.StatementNode.{StatementNode}
-use Rattle.pst_scope.specs.declared.referent.PathPart.{PathPart}
-use Rattle.pst_scope.specs.Uses
-use Rattle.pst_scope.specs.Uses.{part_of}
+use Rattle.pst_ast.specs.declared.referent.PathPart.{PathPart}
+use Rattle.pst_ast.specs.Uses
+use Rattle.pst_ast.specs.Uses.{part_of}
 use Rattle.pst_walk_parts.specs.declared.visitor.Role.{Role}
 use Rattle.pst_walk_parts.specs.declared.visitor.Role.TheVariants as role
 use Rattle.pst_walk_parts.specs.declared.visitor.Wanted.{Wanted}

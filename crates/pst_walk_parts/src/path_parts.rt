@@ -1,12 +1,11 @@
 //! The names of paths as parts.
 ghost use Rattle.std.specs.Prelude.{◌≡◌, IfOk, map};
 ghost use Rattle.pst_ast.specs.ExpressionView.{view_next_part, view_part};
-ghost use Rattle.pst_scope.specs.Uses.{part_of, plain_part};
+ghost use Rattle.pst_ast.specs.Uses.{part_of, plain_part};
 ghost use Rattle.pst_walk_parts.specs.Shown.{dotted_part};
 
-use pst_ast::{DotName, NextPart, PartNode};
+use pst_ast::{DotName, NextPart, PartNode, PathPart};
 use pst_base::NoMemory;
-use pst_scope::PathPart;
 use std::alloc::Global;
 
 /// A name of a path with its index.

@@ -2,13 +2,14 @@
 ghost use Rattle.std.specs.Prelude.{◌≡◌, OnOk, map};
 ghost use Rattle.std.specs.List.{flat_map, fold};
 ghost use Rattle.pst_ast.specs.ConstraintView.{view_constraint, view_constraint_declaration, view_constraint_item};
-ghost use Rattle.pst_scope.specs.Uses.{constraint_uses, item_uses, set_uses};
+ghost use Rattle.pst_ast.specs.Uses.{constraint_uses, item_uses, set_uses};
 
 use crate::show_shared::{show_next_exprs, show_whole};
 use crate::{Role, Visitor};
-use pst_ast::{ConstraintContent, ConstraintDeclaration, ConstraintItem, ConstraintNode};
+use pst_ast::{
+    ConstraintContent, ConstraintDeclaration, ConstraintItem, ConstraintNode, Environment,
+};
 use pst_base::NoMemory;
-use pst_scope::Environment;
 
 // Shows the uses in a set of constraints.
 #[cycle(constraint_uses)]

@@ -2,15 +2,14 @@
 ghost use Rattle.std.specs.Prelude.{◌≡◌, OnOk, drop};
 ghost use Rattle.std.specs.List.{flat_map, fold};
 ghost use Rattle.pst_ast.specs.ExpressionView.{view_expr, view_unary, view_primary, view_path, view_part, view_next_part, view_ranges, view_range, view_next_range};
-ghost use Rattle.pst_scope.specs.Uses.{expr_uses, unary_uses, primary_uses, path_uses, part_uses, dotted_uses, ranges_uses, range_uses, comma_range_uses};
+ghost use Rattle.pst_ast.specs.Uses.{expr_uses, unary_uses, primary_uses, path_uses, part_uses, dotted_uses, ranges_uses, range_uses, comma_range_uses};
 
 use crate::Visitor;
 use pst_ast::{
-    ExprNode, NextPart, NextRange, PartNode, PathNode, PrimaryNode, RangeNode, RangesNode,
-    UnaryNode,
+    Environment, ExprNode, NextPart, NextRange, PartNode, PathNode, PrimaryNode, RangeNode,
+    RangesNode, UnaryNode,
 };
 use pst_base::NoMemory;
-use pst_scope::Environment;
 
 // Shows the uses in an expression.
 #[cycle(expression_uses)]

@@ -5,18 +5,17 @@ ghost use Rattle.std.specs.Option.{option_map};
 ghost use Rattle.pst_ast.specs.DeclarationView.{view_field, view_next_field};
 ghost use Rattle.pst_ast.specs.ExpressionView.{view_expr, view_part, view_range, view_ranges};
 ghost use Rattle.pst_ast.specs.SharedView.{view_domain, view_low, view_next_expr, view_plain, view_type, view_width};
-ghost use Rattle.pst_scope.specs.Declarations.{next_field_part};
-ghost use Rattle.pst_scope.specs.Uses.{domain_uses, end_uses, ends_uses, field_uses, low_uses, next_expr_uses, option_uses, plain_uses, size_of_part, type_uses, whole_uses, width_uses};
+ghost use Rattle.pst_ast.specs.Declarations.{next_field_part};
+ghost use Rattle.pst_ast.specs.Uses.{domain_uses, end_uses, ends_uses, field_uses, low_uses, next_expr_uses, option_uses, plain_uses, size_of_part, type_uses, whole_uses, width_uses};
 ghost use Rattle.pst_walk_parts.specs.Shown.{view_role};
 
 use crate::show_expression::show_expr;
 use crate::{Role, Visitor, Wanted};
 use pst_ast::{
-    DomainNode, ExprNode, FieldNode, LowNode, NextExpr, NextField, NextRange, PartNode, PlainNode,
-    RangeNode, RangesNode, TypeNode, WidthNode,
+    DomainNode, Environment, ExprNode, FieldNode, LowNode, NextExpr, NextField, NextRange,
+    PartNode, PlainNode, RangeNode, RangesNode, TypeNode, WidthNode,
 };
 use pst_base::NoMemory;
-use pst_scope::Environment;
 
 // Shows an outermost expression, and the uses in it.
 #[tactic(auto, using(crate::proofs::Folds::fold_append))]

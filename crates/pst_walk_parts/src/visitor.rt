@@ -7,16 +7,16 @@ ghost use Rattle.pst_ast.specs.BodyView.{view_arguments};
 ghost use Rattle.pst_ast.specs.DeclarationView.{view_target};
 ghost use Rattle.pst_ast.specs.ExpressionView.{view_expr, view_next_part, view_part};
 ghost use Rattle.pst_ast.specs.SharedView.{view_names, view_next_expr, view_plain, view_type};
-ghost use Rattle.pst_scope.specs.Declarations.{names_of};
-ghost use Rattle.pst_scope.specs.Uses.{Use, Judges, JoinCount, HasPlain, HasType, Uniques, Branches, Arms, Performs, Ties, Passes, Reads, Repeats, TakesItem, NamesType, NamesBase, Calls, Assigns, Traverses, Ends, Joins, Binds, arguments_of, arm_label, branch_places, branches_in, labels_in, next_expr, other_ends, part_of, plain_part, target_use};
+ghost use Rattle.pst_ast.specs.Declarations.{names_of};
+ghost use Rattle.pst_ast.specs.Uses.{Use, Judges, JoinCount, HasPlain, HasType, Uniques, Branches, Arms, Performs, Ties, Passes, Reads, Repeats, TakesItem, NamesType, NamesBase, Calls, Assigns, Traverses, Ends, Joins, Binds, arguments_of, arm_label, branch_places, branches_in, labels_in, next_expr, other_ends, part_of, plain_part, target_use};
 ghost use Rattle.pst_walk_parts.specs.Shown.{dotted_part, view_role, view_statements, view_wanted};
 
 use pst_ast::{
-    ArgumentsNode, ArmNode, DotName, EndNode, ExprNode, Name, NamesNode, NextExpr, NextPart,
-    OtherEnds, PartNode, PlainNode, StatementNode, TargetNode, TypeName, TypeNode,
+    ArgumentsNode, ArmNode, Declaration, DotName, EndNode, Environment, ExprNode, Name, NamesNode,
+    NextExpr, NextPart, OtherEnds, PartNode, PlainNode, StatementNode, TargetNode, Traversal,
+    TypeName, TypeNode,
 };
 use pst_base::{NoMemory, Place};
-use pst_scope::{Declaration, Environment, Traversal};
 
 /// The sorts of types that a type name may ask for.
 #[derive(Clone, Copy, PartialEq, Eq)]

@@ -8,8 +8,8 @@ use Rattle.pst_ast.specs.declared.leaf.Name.{Name}
 use Rattle.pst_ast.specs.declared.shared.DotName.{DotName}
 use Rattle.pst_ast.specs.SharedTree.{NamesTree}
 use Rattle.pst_ast.specs.DeclarationTree.{TargetTree, MakeTarget}
-use Rattle.pst_scope.specs.Declarations.{names_of}
-use Rattle.pst_scope.specs.Uses.{Use, Joins, Targets, target_by, target_use}
+use Rattle.pst_ast.specs.Declarations.{names_of}
+use Rattle.pst_ast.specs.Uses.{Use, Joins, Targets, target_by, target_use}
 
 module _ {S : Type 0} (step : S → Use → S) where
   joins_each : (labels : List NameId) → ((s : S) (name : Name) → step s (Joins labels name) ≡ s) → (s : S) (joined : List Name) → fold step s (map (Joins labels) joined) ≡ s

@@ -2,7 +2,7 @@
 use Rattle.std.proofs.Common.{◌≡◌, Bool, true, false, List, [], ◌∷◌, refl, sym, ap, ◌∙◌}
 use Rattle.std.specs.Prelude.{if◌then◌else◌}
 use Rattle.std.specs.List.{fold}
-use Rattle.pst_scope.specs.Uses.{Use}
+use Rattle.pst_ast.specs.Uses.{Use}
 use Rattle.pst_walk_paths.specs.Shown.{is_path, by_paths}
 
 module _ {V : Type 0} (step : V → Use → V) (others : (v : V) (u : Use) → is_path u ≡ false → step v u ≡ v) where

@@ -1,6 +1,6 @@
 -- What a walk over the paths in an expression shows.
 use Rattle.std.specs.Prelude.{Bool, true, false, if◌then◌else◌}
-use Rattle.pst_scope.specs.Uses.{Use, Reads, TakesItem}
+use Rattle.pst_ast.specs.Uses.{Use, Reads, TakesItem}
 
 abbrev pub is_path : Use → Bool
 is_path (Reads at first rest) = true

@@ -2,16 +2,16 @@
 ghost use Rattle.std.specs.Prelude.{◌≡◌, IfOk};
 ghost use Rattle.std.specs.List.{fold};
 ghost use Rattle.pst_ast.specs.ExpressionView.{view_expr};
-ghost use Rattle.pst_scope.specs.Uses.{expr_uses};
+ghost use Rattle.pst_ast.specs.Uses.{expr_uses};
 ghost use Rattle.pst_walk_paths.specs.Shown.{by_paths};
 
 use crate::visitor::PathVisitor;
 use pst_ast::{
-    ArgumentsNode, ArmNode, DotName, EndNode, ExprNode, Name, NamesNode, NextExpr, NextPart,
-    OtherEnds, PartNode, PlainNode, StatementNode, TargetNode, TypeName, TypeNode,
+    ArgumentsNode, ArmNode, Declaration, DotName, EndNode, Environment, ExprNode, Name, NamesNode,
+    NextExpr, NextPart, OtherEnds, PartNode, PlainNode, StatementNode, TargetNode, Traversal,
+    TypeName, TypeNode,
 };
 use pst_base::{NoMemory, Place};
-use pst_scope::{Declaration, Environment, Traversal};
 use pst_walk_parts::path_parts::{part_of, parts_of};
 use pst_walk_parts::show_expression::show_expr;
 use pst_walk_parts::{Role, Visitor, Wanted};

@@ -1,10 +1,9 @@
 //! What a walk over an expression shows of it.
 ghost use Rattle.std.specs.Prelude.{◌≡◌, OnOk};
-ghost use Rattle.pst_scope.specs.Uses.{Reads, TakesItem, Use};
+ghost use Rattle.pst_ast.specs.Uses.{Reads, TakesItem, Use};
 
-use pst_ast::Name;
+use pst_ast::{Environment, Name, PathPart};
 use pst_base::NoMemory;
-use pst_scope::{Environment, PathPart};
 
 /// Sees the paths in an expression one after another.
 pub trait PathVisitor {

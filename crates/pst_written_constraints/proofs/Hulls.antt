@@ -28,9 +28,9 @@ use Rattle.pst_legal.specs.Slots.{first_values, claim_values, pool_span, maybe_a
 use Rattle.pst_legal.specs.Standing.{bound_of, value_or, open_value, hull, field_span}
 use Rattle.pst_legal.specs.ValueReading.{empty_first, with_firsts}
 use Rattle.pst_built.proofs.SoundActs.{all_get}
-use Rattle.pst_more_known.specs.Known.{Allows}
-use Rattle.pst_read_fits.proofs.Went.{value_of}
-use Rattle.pst_refusals_stay.proofs.Hulls.{in_hull}
+use Rattle.pst_built.specs.Known.{Allows}
+use Rattle.pst_built.proofs.Went.{value_of}
+use Rattle.pst_read_domains.proofs.Hulls.{in_hull}
 use Rattle.pst_few_places.specs.Fillings.{all_blanks}
 use Rattle.pst_blank_values.specs.Values.{value_of_option, blank_values, IsBareAct, AreBare}
 use Rattle.pst_constraint_sites.specs.Sites.{maybe_output_slot, maybe_resource_slot}

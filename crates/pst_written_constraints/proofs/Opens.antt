@@ -26,7 +26,7 @@ use Rattle.pst_legal.specs.Standing.{Standing, bound_of, value_or, open_value, h
 use Rattle.pst_legal.specs.ValueReading.{with_firsts}
 use Rattle.pst_legal.specs.Constraints.{is_refused_at}
 use Rattle.pst_few_places.specs.Fillings.{all_blanks, filled}
-use Rattle.pst_more_known.specs.Onward.{Both}
+use Rattle.pst_built.specs.Onward.{Both}
 use Rattle.pst_refusals.specs.Answers.{StandEarlier}
 use Rattle.pst_blank_values.specs.Values.{blank_values, AreBare, IsSameReference, IsSameAct, IsSameButValues}
 use Rattle.pst_blank_values.specs.Laws.{FilledBlanksStand}

@@ -22,7 +22,7 @@ use Rattle.pst_legal.specs.Pieces.{is_true}
 use Rattle.pst_legal.specs.Standing.{Standing, Known, value_of, bound_of, value_or, open_value, hull}
 use Rattle.pst_legal.specs.ValueReading.{with_firsts}
 use Rattle.pst_few_places.specs.Fillings.{all_blanks, filled}
-use Rattle.pst_reached.proofs.Lists.{get_below}
+use Rattle.pst_built.proofs.Lists.{get_below}
 use Rattle.pst_blank_values.specs.Rows.{stands_in}
 use Rattle.pst_blank_values.specs.Values.{blank_values, AreBare, IsSameButValues}
 use Rattle.pst_blank_values.specs.Laws.{FilledBlanksStand}

@@ -1,6 +1,6 @@
 use Rattle.std.proofs.Common.{◌≡◌, ◌++◌, List, ap, ◌∙◌}
-use Rattle.pst_inherited.specs.Needed.{needs_within}
-use Rattle.pst_inherited.proofs.Needing.{all_more}
+use Rattle.pst_tree.specs.Needed.{needs_within}
+use Rattle.pst_tree.proofs.Needing.{all_more}
 use Rattle.pst_action_needs.specs.Inheriting.{is_need_of}
 use Rattle.pst_action_needs.proofs.rows.add_all.Goals as goal
 

@@ -1,6 +1,6 @@
 use Rattle.std.proofs.Common.{◌≡◌, ◌++◌, List, sym, subst, ap, ◌∙◌}
 use Rattle.std.specs.Prelude.{OnOk}
-use Rattle.pst_scope.specs.declared.declaration.Declaration.{Declaration}
+use Rattle.pst_ast.specs.declared.scope_declaration.Declaration.{Declaration}
 use Rattle.pst_type_rules.specs.Members.{those_that}
 use Rattle.pst_action_needs.specs.Inheriting.{is_need_of}
 use Rattle.pst_action_needs.proofs.Rowed.{own_in}

@@ -1,8 +1,8 @@
 use Rattle.std.proofs.Common.{◌++◌, List, refl, ap, ◌∙◌}
 use Rattle.std.specs.List.{flat_map}
-use Rattle.pst_scope.specs.declared.declaration.Declaration.{Declaration}
-use Rattle.pst_scope.specs.Sorts.{is_claim, is_reference}
-use Rattle.pst_inherited.specs.Needed.{needs_within}
+use Rattle.pst_ast.specs.declared.scope_declaration.Declaration.{Declaration}
+use Rattle.pst_ast.specs.Sorts.{is_claim, is_reference}
+use Rattle.pst_tree.specs.Needed.{needs_within}
 use Rattle.pst_action_needs.proofs.Chains.{is_walked}
 use Rattle.pst_action_needs.proofs.rows.walked.Goals as goal
 

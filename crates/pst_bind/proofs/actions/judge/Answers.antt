@@ -1,8 +1,8 @@
 use Rattle.std.proofs.Common.{◌≤◌, ◌++◌, ◌+◌, List, drop, length, subst, ap, ◌∙◌}
 use Rattle.std.specs.List.{enumerate_from, filter_map}
 use Rattle.std.proofs.lemmas.List.{drop_all}
-use Rattle.pst_scope.specs.declared.declaration.Declaration.{Declaration}
-use Rattle.pst_scope.specs.Sorts.{is_action}
+use Rattle.pst_ast.specs.declared.scope_declaration.Declaration.{Declaration}
+use Rattle.pst_ast.specs.Sorts.{is_action}
 use Rattle.pst_type_rules.specs.Members.{those_that}
 use Rattle.pst_bind.specs.declared.pool_map.Served.{Served}
 use Rattle.pst_bind.specs.Judging.{choice_for, served_with}

@@ -1,6 +1,6 @@
 use Rattle.std.proofs.Common.{drop}
 use Rattle.std.specs.List.{enumerate_from}
-use Rattle.pst_scope.specs.Sorts.{is_action}
+use Rattle.pst_ast.specs.Sorts.{is_action}
 use Rattle.pst_type_rules.specs.Members.{those_that}
 use Rattle.pst_action_needs.specs.Inheriting.{AreInherited}
 use Rattle.pst_bind.specs.Choices.{AreTypeChoices}

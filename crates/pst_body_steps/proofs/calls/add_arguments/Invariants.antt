@@ -2,7 +2,7 @@ use Rattle.std.proofs.Common.{◌≡◌, ◌++◌, drop, map}
 use Rattle.pst_ast.specs.SharedView.{view_next_expr}
 use Rattle.pst_model.specs.ConstraintTree.{view_constraint}
 use Rattle.pst_path_readings.specs.Set.{view_setting}
-use Rattle.pst_scope.specs.Uses.{next_expr}
+use Rattle.pst_ast.specs.Uses.{next_expr}
 use Rattle.pst_sources.specs.Shown.{sources_of}
 use Rattle.pst_terms.specs.Readings.{expression_of}
 use Rattle.pst_body_steps.proofs.calls.add_arguments.Given as goal

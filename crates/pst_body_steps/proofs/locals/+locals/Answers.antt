@@ -2,8 +2,8 @@ use Rattle.std.proofs.Common.{arith, ◌≡◌, ◌++◌, OnOk, List, ap, sym, s
 use Rattle.std.proofs.lemmas.Grind.{common_steps}
 use Rattle.pst_ast.specs.declared.body.BodyStatement.{BodyStatement}
 use Rattle.pst_ast.specs.BodyView.{view_body_statement}
-use Rattle.pst_scope.specs.declared.declaration.Declaration.{Declaration}
-use Rattle.pst_scope.specs.Declarations.{in_body_statement}
+use Rattle.pst_ast.specs.declared.scope_declaration.Declaration.{Declaration}
+use Rattle.pst_ast.specs.Declarations.{in_body_statement}
 use Rattle.pst_type_rules.specs.Limits.{is_local}
 use Rattle.pst_type_rules.specs.Members.{those_that}
 use Rattle.pst_body_steps.proofs.Declared.{block_declares}

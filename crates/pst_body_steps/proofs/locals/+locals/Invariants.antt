@@ -1,7 +1,7 @@
 use Rattle.std.proofs.Common.{◌≡◌, ◌++◌, drop, map}
 use Rattle.std.specs.List.{flat_map}
 use Rattle.pst_ast.specs.BodyView.{view_body_statement}
-use Rattle.pst_scope.specs.Declarations.{in_body_statement}
+use Rattle.pst_ast.specs.Declarations.{in_body_statement}
 use Rattle.pst_type_rules.specs.Limits.{is_local}
 use Rattle.pst_type_rules.specs.Members.{those_that}
 use Rattle.pst_body_steps.proofs.locals.+locals.Given as goal

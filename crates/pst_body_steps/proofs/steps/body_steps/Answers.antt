@@ -5,7 +5,7 @@ use Rattle.pst_elab_rules.specs.Bodies.{locals_in, statement_list}
 use Rattle.pst_elab_rules.specs.Types.{setting_of}
 use Rattle.pst_model.specs.ModelView.{view_body_step}
 use Rattle.pst_path_readings.specs.Set.{view_setting}
-use Rattle.pst_scope.specs.declared.referent.Owner.TheVariants.{OfAction}
+use Rattle.pst_ast.specs.declared.referent.Owner.TheVariants.{OfAction}
 use Rattle.pst_sources.specs.Shown.{sources_of}
 use Rattle.pst_terms.specs.Readings.{Setting}
 use Rattle.pst_body_steps.specs.Listed.{list_steps, with_locals}

@@ -1,8 +1,8 @@
 use Rattle.std.proofs.Common.{List, sym, ap, ◌∙◌}
 use Rattle.std.specs.Prelude.{ℕ, nat_eq, ◌&&◌, position}
 use Rattle.std.specs.Option.{option_and_then}
-use Rattle.pst_scope.specs.declared.declaration.Declaration.{Declaration}
-use Rattle.pst_scope.specs.Sorts.{same_place}
+use Rattle.pst_ast.specs.declared.scope_declaration.Declaration.{Declaration}
+use Rattle.pst_ast.specs.Sorts.{same_place}
 use Rattle.pst_bound_pools.specs.Pools.{pool_number}
 use Rattle.pst_bound_pools.proofs.bound.pool_bound.Goals as goal
 

@@ -1,5 +1,5 @@
 use Rattle.std.proofs.Common.{◌≡◌, ◌++◌, drop, map}
-use Rattle.pst_scope.specs.declared.declaration.Declaration.{Declaration}
+use Rattle.pst_ast.specs.declared.scope_declaration.Declaration.{Declaration}
 use Rattle.pst_bound_pools.specs.ListedPools.{view_pools}
 use Rattle.pst_bound_pools.proofs.pool_table.add_pools.Given as goal
 

@@ -2,8 +2,8 @@ use Rattle.std.proofs.Common.{arith, ◌≡◌, ◌++◌, OnOk, List, ap, sym, s
 use Rattle.std.proofs.lemmas.Grind.{common_steps}
 use Rattle.pst_ast.specs.declared.activity.CoreNode.{CoreNode}
 use Rattle.pst_ast.specs.ActivityView.{view_core}
-use Rattle.pst_scope.specs.declared.declaration.Declaration.{Declaration}
-use Rattle.pst_scope.specs.Declarations.{in_core}
+use Rattle.pst_ast.specs.declared.scope_declaration.Declaration.{Declaration}
+use Rattle.pst_ast.specs.Declarations.{in_core}
 use Rattle.pst_collect.proofs.ActivityRows.{sequence_declares, together_declares, select_declares, match_declares}
 use Rattle.pst_collect.proofs.collect_activity.+activity.Goals as goal
 

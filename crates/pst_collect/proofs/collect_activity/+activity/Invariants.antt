@@ -1,7 +1,7 @@
 use Rattle.std.proofs.Common.{◌≡◌, ◌++◌, drop, map}
 use Rattle.std.specs.List.{flat_map}
 use Rattle.pst_ast.specs.ActivityView.{view_statement, view_branch, view_arm}
-use Rattle.pst_scope.specs.Declarations.{in_statement, in_branch, in_arm}
+use Rattle.pst_ast.specs.Declarations.{in_statement, in_branch, in_arm}
 use Rattle.pst_collect.proofs.collect_activity.+activity.Given as goal
 
 abbrev pub invariant-add_statements-loop-statement : goal.invariant-add_statements-loop-statement

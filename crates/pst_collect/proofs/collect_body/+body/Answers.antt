@@ -2,8 +2,8 @@ use Rattle.std.proofs.Common.{arith, ◌≡◌, ◌++◌, OnOk, List, ap, sym, s
 use Rattle.std.proofs.lemmas.Grind.{common_steps}
 use Rattle.pst_ast.specs.declared.body.BodyStatement.{BodyStatement}
 use Rattle.pst_ast.specs.BodyView.{view_body_statement}
-use Rattle.pst_scope.specs.declared.declaration.Declaration.{Declaration}
-use Rattle.pst_scope.specs.Declarations.{in_body_statement}
+use Rattle.pst_ast.specs.declared.scope_declaration.Declaration.{Declaration}
+use Rattle.pst_ast.specs.Declarations.{in_body_statement}
 use Rattle.pst_collect.proofs.BodyRows.{block_declares}
 use Rattle.pst_collect.proofs.collect_body.+body.Goals as goal
 

@@ -1,7 +1,7 @@
 use Rattle.std.proofs.Common.{◌≡◌, ◌++◌, drop, map}
 use Rattle.std.specs.List.{flat_map}
 use Rattle.pst_ast.specs.BodyView.{view_body_statement}
-use Rattle.pst_scope.specs.Declarations.{in_body_statement}
+use Rattle.pst_ast.specs.Declarations.{in_body_statement}
 use Rattle.pst_collect.proofs.collect_body.+body.Given as goal
 
 abbrev pub invariant-add_body_statements-loop-statement : goal.invariant-add_body_statements-loop-statement

@@ -2,8 +2,8 @@ use Rattle.std.proofs.Common.{arith, ◌≡◌, ◌++◌, OnOk, List, ap, sym, s
 use Rattle.std.proofs.lemmas.Grind.{common_steps}
 use Rattle.pst_ast.specs.declared.constraint.ConstraintNode.{ConstraintNode}
 use Rattle.pst_ast.specs.ConstraintView.{view_constraint}
-use Rattle.pst_scope.specs.declared.declaration.Declaration.{Declaration}
-use Rattle.pst_scope.specs.Declarations.{in_set}
+use Rattle.pst_ast.specs.declared.scope_declaration.Declaration.{Declaration}
+use Rattle.pst_ast.specs.Declarations.{in_set}
 use Rattle.pst_collect.proofs.ConstraintRows.{block_declares}
 use Rattle.pst_collect.proofs.collect_constraint.+constraint.Goals as goal
 

@@ -1,6 +1,6 @@
 use Rattle.std.proofs.Common.{◌≡◌, ◌++◌, drop, map}
 use Rattle.pst_ast.specs.DeclarationView.{view_next_field}
-use Rattle.pst_scope.specs.Declarations.{field_part, next_field_part}
+use Rattle.pst_ast.specs.Declarations.{field_part, next_field_part}
 use Rattle.pst_collect.proofs.collect_member.add_next_field_parts.Given as goal
 
 abbrev pub invariant-loop-next : goal.invariant-loop-next

@@ -1,5 +1,5 @@
 use Rattle.std.proofs.Common.{◌≡◌, ◌++◌, drop, map}
-use Rattle.pst_scope.specs.Declarations.{member}
+use Rattle.pst_ast.specs.Declarations.{member}
 use Rattle.pst_collect.proofs.collect_member.add_next_names.Given as goal
 
 abbrev pub invariant-loop-next : goal.invariant-loop-next

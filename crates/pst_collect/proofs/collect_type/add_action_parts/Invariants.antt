@@ -1,7 +1,7 @@
 use Rattle.std.proofs.Common.{◌≡◌, ◌++◌, drop, map}
 use Rattle.std.specs.List.{flat_map}
 use Rattle.pst_ast.specs.DeclarationView.{view_action_part}
-use Rattle.pst_scope.specs.Declarations.{in_action_part}
+use Rattle.pst_ast.specs.Declarations.{in_action_part}
 use Rattle.pst_collect.proofs.collect_type.add_action_parts.Given as goal
 
 abbrev pub invariant-loop-part : goal.invariant-loop-part

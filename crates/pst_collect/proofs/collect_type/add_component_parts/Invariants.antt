@@ -1,7 +1,7 @@
 use Rattle.std.proofs.Common.{◌≡◌, ◌++◌, drop, map}
 use Rattle.std.specs.List.{flat_map}
 use Rattle.pst_ast.specs.DeclarationView.{view_component_part}
-use Rattle.pst_scope.specs.Declarations.{in_component_part}
+use Rattle.pst_ast.specs.Declarations.{in_component_part}
 use Rattle.pst_collect.proofs.collect_type.add_component_parts.Given as goal
 
 abbrev pub invariant-loop-part : goal.invariant-loop-part

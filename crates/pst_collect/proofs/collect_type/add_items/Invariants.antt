@@ -1,7 +1,7 @@
 use Rattle.std.proofs.Common.{◌≡◌, ◌++◌, drop, map}
 use Rattle.std.specs.List.{flat_map}
 use Rattle.pst_ast.specs.DeclarationView.{view_item}
-use Rattle.pst_scope.specs.Declarations.{in_item_of_unit}
+use Rattle.pst_ast.specs.Declarations.{in_item_of_unit}
 use Rattle.pst_collect.proofs.collect_type.add_items.Given as goal
 
 abbrev pub invariant-loop-item : goal.invariant-loop-item

@@ -1,6 +1,6 @@
 use Rattle.std.proofs.Common.{◌≡◌, ◌++◌, drop, map}
 use Rattle.pst_ast.specs.DeclarationView.{view_next_enum_item}
-use Rattle.pst_scope.specs.Declarations.{member, item_name, next_item}
+use Rattle.pst_ast.specs.Declarations.{member, item_name, next_item}
 use Rattle.pst_collect.proofs.collect_type.add_next_enum_items.Given as goal
 
 abbrev pub invariant-loop-next : goal.invariant-loop-next

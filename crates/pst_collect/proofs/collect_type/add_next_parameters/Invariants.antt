@@ -1,7 +1,7 @@
 use Rattle.std.proofs.Common.{◌≡◌, ◌++◌, drop, map}
 use Rattle.pst_ast.specs.DeclarationView.{view_next_parameter}
-use Rattle.pst_scope.specs.declared.declaration.Sort.TheVariants as sort
-use Rattle.pst_scope.specs.Declarations.{member, parameter_name, next_parameter}
+use Rattle.pst_ast.specs.declared.scope_declaration.Sort.TheVariants as sort
+use Rattle.pst_ast.specs.Declarations.{member, parameter_name, next_parameter}
 use Rattle.pst_collect.proofs.collect_type.add_next_parameters.Given as goal
 
 abbrev pub invariant-loop-next : goal.invariant-loop-next

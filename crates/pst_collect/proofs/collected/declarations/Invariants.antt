@@ -1,7 +1,7 @@
 use Rattle.std.proofs.Common.{◌≡◌, ◌++◌, drop, map}
 use Rattle.std.specs.List.{flat_map}
 use Rattle.pst_ast.specs.DeclarationView.{view_unit}
-use Rattle.pst_scope.specs.Declarations.{in_unit}
+use Rattle.pst_ast.specs.Declarations.{in_unit}
 use Rattle.pst_collect.proofs.collected.declarations.Given as goal
 
 abbrev pub invariant-loop-unit : goal.invariant-loop-unit

@@ -1,7 +1,7 @@
 use Rattle.std.proofs.Common.{◌≡◌, drop, map}
 use Rattle.std.specs.List.{filter_map}
 use Rattle.pst_ast.specs.DeclarationView.{view_action_part}
-use Rattle.pst_inherited.specs.Contents.{body_in, first_of}
+use Rattle.pst_tree.specs.Contents.{body_in, first_of}
 use Rattle.pst_contents.proofs.found.body_in.Given as goal
 
 abbrev pub invariant-loop-part : goal.invariant-loop-part

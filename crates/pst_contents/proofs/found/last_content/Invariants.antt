@@ -1,7 +1,7 @@
 use Rattle.std.proofs.Common.{◌≡◌, drop, map}
 use Rattle.std.specs.Option.{option_map, option_or}
 use Rattle.pst_ast.specs.DeclarationView.{view_unit}
-use Rattle.pst_inherited.specs.Contents.{last_content}
+use Rattle.pst_tree.specs.Contents.{last_content}
 use Rattle.pst_contents.specs.Found.{view_found}
 use Rattle.pst_contents.proofs.found.last_content.Given as goal
 

@@ -1,6 +1,6 @@
 use Rattle.std.proofs.Common.{◌≡◌, arith, take, subst, List}
 use Rattle.std.proofs.lemmas.Grind.{common_steps}
-use Rattle.pst_scope.specs.declared.declaration.Declaration.{Declaration}
+use Rattle.pst_ast.specs.declared.scope_declaration.Declaration.{Declaration}
 use Rattle.pst_declaration_rules.specs.Judged.{IsJudged}
 use Rattle.pst_declaration_rules.proofs.Judging.{judged_none, judged_next}
 use Rattle.pst_declaration_rules.proofs.findings.least_of_all.Goals as goal

@@ -5,7 +5,7 @@ use Rattle.pst_ast.specs.declared.declaration.Unit.{Unit}
 use Rattle.pst_bind.specs.PoolRules.{IsPoolMap}
 use Rattle.pst_elab_rules.specs.Model.{IsModel}
 use Rattle.pst_model.specs.ModelView.{view_model}
-use Rattle.pst_scope.specs.Declarations.{declarations}
+use Rattle.pst_ast.specs.Declarations.{declarations}
 use Rattle.pst_tree.specs.Instances.{AreInstances}
 use Rattle.pst_type_rules.specs.Typed.{AreConstants}
 use Rattle.pst_elab.proofs.model.model_of.Goals as goal

@@ -6,7 +6,7 @@ use Rattle.std.proofs.lemmas.Result.{IfOk-weaker}
 use Rattle.std.specs.Prelude.{ℤ}
 use Rattle.pst_ast.specs.DeclarationView.{view_enum_item, view_next_enum_item}
 use Rattle.pst_ast.specs.declared.declaration.NextEnumItem.{NextEnumItem}
-use Rattle.pst_scope.specs.Declarations.{next_item}
+use Rattle.pst_ast.specs.Declarations.{next_item}
 use Rattle.pst_evaluate.specs.Kept.{known_in}
 use Rattle.pst_enum_rules.specs.Enums.{least_of_items}
 use Rattle.pst_enum_rules.proofs.SameSeen.{one_item, same_seen}

@@ -2,7 +2,7 @@ use Rattle.std.proofs.Common.{◌≡◌, drop, map}
 use Rattle.std.specs.HashSet.{contains}
 use Rattle.std.specs.Ordering.{int_eq}
 use Rattle.pst_ast.specs.DeclarationView.{view_next_enum_item}
-use Rattle.pst_scope.specs.Declarations.{next_item}
+use Rattle.pst_ast.specs.Declarations.{next_item}
 use Rattle.pst_evaluate.specs.Kept.{known_in}
 use Rattle.pst_enum_rules.specs.Enums.{least_of_items}
 use Rattle.pst_enum_rules.proofs.enums.see_next_items.Given as goal

@@ -1,6 +1,6 @@
 use Rattle.std.proofs.Common.{◌≡◌, ◌++◌, ◌&&◌, drop, map}
 use Rattle.pst_ast.specs.DeclarationView.{view_next_enum_item}
-use Rattle.pst_scope.specs.Declarations.{next_item}
+use Rattle.pst_ast.specs.Declarations.{next_item}
 use Rattle.pst_evaluate.specs.Kept.{known_in}
 use Rattle.pst_enum_values.specs.Gathered.{are_known, place_of_item, values_of}
 use Rattle.pst_enum_values.proofs.gather.add_rest.Given as goal

@@ -2,7 +2,7 @@ use Rattle.std.proofs.Common.{◌≡◌, List, Option, ap, ◌∙◌}
 use Rattle.std.specs.Prelude.{ℤ}
 use Rattle.pst_base.specs.declared.position.Place.{Place}
 use Rattle.pst_ast.specs.ExpressionView.{view_expr}
-use Rattle.pst_constants.specs.Constants.{value_by}
+use Rattle.pst_type_rules.specs.Constants.{value_by}
 use Rattle.pst_evaluate.specs.Known.{known_by}
 use Rattle.pst_evaluate.proofs.constant.value_by_items.Goals as goal
 

@@ -1,7 +1,7 @@
 use Rattle.std.proofs.Common.{◌≡◌, ◌++◌, drop, map}
 use Rattle.std.specs.List.{flat_map}
 use Rattle.pst_ast.specs.DeclarationView.{view_item}
-use Rattle.pst_constants.specs.Enums.{enums_in_item}
+use Rattle.pst_type_rules.specs.Enums.{enums_in_item}
 use Rattle.pst_evaluate.specs.Listed.{items_of, view_each}
 use Rattle.pst_evaluate.proofs.listing.add_in_items.Given as goal
 

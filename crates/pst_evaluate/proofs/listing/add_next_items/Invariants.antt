@@ -1,7 +1,7 @@
 use Rattle.std.proofs.Common.{◌≡◌, ◌++◌, drop, map, Some}
 use Rattle.pst_ast.specs.DeclarationView.{view_next_enum_item}
-use Rattle.pst_scope.specs.Declarations.{next_item}
-use Rattle.pst_constants.specs.Enums.{items_behind}
+use Rattle.pst_ast.specs.Declarations.{next_item}
+use Rattle.pst_type_rules.specs.Enums.{items_behind}
 use Rattle.pst_evaluate.specs.Listed.{view_each}
 use Rattle.pst_evaluate.proofs.listing.add_next_items.Given as goal
 

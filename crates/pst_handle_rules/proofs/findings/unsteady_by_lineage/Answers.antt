@@ -1,6 +1,6 @@
 use Rattle.std.proofs.Common.{◌≡◌, List, length, map, subst, ◌∙◌}
 use Rattle.pst_ast.specs.DeclarationView.{view_action}
-use Rattle.pst_scope.specs.declared.declaration.Declaration.{Declaration}
+use Rattle.pst_ast.specs.declared.scope_declaration.Declaration.{Declaration}
 use Rattle.pst_type_rules.specs.Sites.{action_of}
 use Rattle.pst_steady.specs.Ranged.{AreRanged}
 use Rattle.pst_handle_rules.proofs.findings.unsteady_by_lineage.Goals as goal

@@ -3,7 +3,7 @@ use Rattle.std.specs.List.{flat_map}
 use Rattle.std.proofs.lemmas.Result.{IfOk-weaker}
 use Rattle.pst_ast.specs.DeclarationView.{view_unit}
 use Rattle.pst_ast.specs.declared.declaration.Unit.{Unit}
-use Rattle.pst_scope.specs.Uses.{uses}
+use Rattle.pst_ast.specs.Uses.{uses}
 use Rattle.pst_handle_uses.specs.Handled.{judgings_of}
 use Rattle.pst_handle_rules.proofs.Named.{unsteady}
 use Rattle.pst_handle_rules.proofs.findings.unsteady_finding.Goals as goal

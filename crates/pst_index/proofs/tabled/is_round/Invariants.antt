@@ -1,7 +1,7 @@
 use Rattle.std.proofs.Common.{◌≡◌, ℕ, suc, ◌<◌}
 use Rattle.std.specs.Prelude.{Some, slice_get}
-use Rattle.pst_scope.specs.declared.declaration.Declaration.{Declaration}
-use Rattle.pst_scope.specs.Lookups.{base_of}
+use Rattle.pst_ast.specs.declared.scope_declaration.Declaration.{Declaration}
+use Rattle.pst_ast.specs.Lookups.{base_of}
 use Rattle.pst_index.proofs.tabled.is_round.Given as goal
 
 abbrev pub invariant-loop-at : goal.invariant-loop-at

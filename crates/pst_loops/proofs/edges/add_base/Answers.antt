@@ -1,8 +1,8 @@
 use Rattle.std.proofs.Common.{rules, ◌≡◌, subst, get_or, List, Some}
 use Rattle.std.proofs.lemmas.Result.{on_ok_weaker}
 use Rattle.std.proofs.lemmas.Option.{slice_get-get_or}
-use Rattle.pst_scope.specs.declared.declaration.Declaration.{Declaration}
-use Rattle.pst_scope.specs.Lookups.{base_of}
+use Rattle.pst_ast.specs.declared.scope_declaration.Declaration.{Declaration}
+use Rattle.pst_ast.specs.Lookups.{base_of}
 use Rattle.pst_loops.specs.Numbers.{IsNumber}
 use Rattle.pst_loops.proofs.Adding.{adds_base}
 use Rattle.pst_loops.proofs.OneMore.{blank}

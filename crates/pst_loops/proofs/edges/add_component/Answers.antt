@@ -1,8 +1,8 @@
 use Rattle.std.proofs.Common.{rules, ◌≡◌, subst, get_or, List, Some, OnOk}
 use Rattle.std.proofs.lemmas.Result.{on_ok_weaker}
 use Rattle.std.proofs.lemmas.Option.{slice_get-get_or}
-use Rattle.pst_scope.specs.declared.declaration.Declaration.{Declaration}
-use Rattle.pst_scope.specs.Lookups.{type_of}
+use Rattle.pst_ast.specs.declared.scope_declaration.Declaration.{Declaration}
+use Rattle.pst_ast.specs.Lookups.{type_of}
 use Rattle.pst_loops.specs.Edges.{IsAdded, IsEdgeFrom, scope_of_instance}
 use Rattle.pst_loops.specs.Numbers.{IsNumber}
 use Rattle.pst_loops.proofs.Adding.{adds_component}

@@ -1,5 +1,5 @@
 use Rattle.pst_members.specs.Rounds.{IsCut, before}
-use Rattle.pst_versions.specs.Found.{Keeps}
+use Rattle.pst_members.specs.Found.{Keeps}
 use Rattle.pst_members.proofs.tables.put_round.Given as goal
 
 abbrev pub invariant-loop-at : goal.invariant-loop-at

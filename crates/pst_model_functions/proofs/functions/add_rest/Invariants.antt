@@ -1,7 +1,7 @@
 use Rattle.std.proofs.Common.{◌≡◌, ◌++◌, drop, map}
 use Rattle.pst_ast.specs.DeclarationView.{view_next_parameter}
 use Rattle.pst_elab_rules.specs.Types.{parameter_span}
-use Rattle.pst_scope.specs.Declarations.{next_parameter}
+use Rattle.pst_ast.specs.Declarations.{next_parameter}
 use Rattle.pst_sources.specs.Shown.{sources_of}
 use Rattle.pst_model_functions.proofs.functions.add_rest.Given as goal
 

@@ -1,7 +1,7 @@
 use Rattle.std.proofs.Common.{◌≡◌, ◌++◌, List, ap, sym, ◌∙◌}
 use Rattle.pst_bind.specs.Pools.{component_of}
 use Rattle.pst_model.specs.declared.model.Pool.{Pool}
-use Rattle.pst_scope.specs.declared.declaration.Declaration.{Declaration}
+use Rattle.pst_ast.specs.declared.scope_declaration.Declaration.{Declaration}
 use Rattle.pst_sources.specs.Shown.{Shown, sources_of}
 use Rattle.pst_terms.specs.Sources.{declared_in}
 use Rattle.pst_type_rules.specs.Members.{own_members}

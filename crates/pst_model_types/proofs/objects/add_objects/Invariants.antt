@@ -1,7 +1,7 @@
 use Rattle.std.proofs.Common.{◌≡◌, ◌++◌, drop, map}
 use Rattle.pst_elab_rules.specs.Types.{model_object}
 use Rattle.pst_model.specs.ModelView.{view_object}
-use Rattle.pst_scope.specs.Sorts.{is_object}
+use Rattle.pst_ast.specs.Sorts.{is_object}
 use Rattle.pst_sources.specs.Shown.{sources_of}
 use Rattle.pst_type_rules.specs.Members.{those_that}
 use Rattle.pst_model_types.proofs.objects.add_objects.Given as goal

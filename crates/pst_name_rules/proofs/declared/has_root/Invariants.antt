@@ -1,6 +1,6 @@
 use Rattle.std.proofs.Common.{◌≡◌, drop}
 use Rattle.std.specs.List.{list_any}
-use Rattle.pst_scope.specs.NameRules
+use Rattle.pst_ast.specs.NameRules
 use Rattle.pst_name_rules.proofs.declared.has_root.Given as goal
 
 abbrev pub invariant-loop-declaration : goal.invariant-loop-declaration

@@ -1,5 +1,5 @@
 use Rattle.std.proofs.Common.{◌≡◌, drop}
-use Rattle.pst_scope.specs.NameRules
+use Rattle.pst_ast.specs.NameRules
 use Rattle.pst_name_rules.proofs.targets.along.Given as goal
 
 abbrev pub invariant-loop-name : goal.invariant-loop-name

@@ -2,8 +2,8 @@ use Rattle.std.proofs.Common.{arith, rules, ◌≡◌, Option, IfOk, sym, ap, su
 use Rattle.std.proofs.lemmas.Grind.{common_steps}
 use Rattle.pst_ast.specs.declared.expression.PathNode.{PathNode}
 use Rattle.pst_ast.specs.ExpressionView.{view_path}
-use Rattle.pst_scope.specs.declared.declaration.Declaration.{Declaration}
-use Rattle.pst_constants.specs.Constants.{item_of_path}
+use Rattle.pst_ast.specs.declared.scope_declaration.Declaration.{Declaration}
+use Rattle.pst_type_rules.specs.Constants.{item_of_path}
 use Rattle.pst_named_items.proofs.Names.{dotted_names}
 use Rattle.pst_named_items.proofs.named.item_of_path.Goals as goal
 

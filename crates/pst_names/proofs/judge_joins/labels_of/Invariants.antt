@@ -2,8 +2,8 @@ use Rattle.std.proofs.Common.{◌≡◌, ◌||◌, nat_eq, drop}
 use Rattle.std.specs.HashSet.{contains}
 use Rattle.std.specs.List.{list_any}
 use Rattle.pst_base.specs.declared.table.NameId.{NameId}
-use Rattle.pst_scope.specs.Sorts.{same_name}
-use Rattle.pst_scope.specs.Uses.{labels_in}
+use Rattle.pst_ast.specs.Sorts.{same_name}
+use Rattle.pst_ast.specs.Uses.{labels_in}
 use Rattle.pst_walk_parts.specs.Shown.{view_statements}
 use Rattle.pst_names.proofs.judge_joins.labels_of.Given as goal
 

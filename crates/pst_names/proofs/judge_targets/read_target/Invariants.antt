@@ -1,7 +1,7 @@
 use Rattle.std.proofs.Common.{◌≡◌, [], drop}
 use Rattle.pst_base.specs.declared.position.Place.{Place}
 use Rattle.pst_ast.specs.declared.leaf.Name.{Name}
-use Rattle.pst_scope.specs.Uses.{target_by}
+use Rattle.pst_ast.specs.Uses.{target_by}
 use Rattle.pst_names.proofs.judge_targets.read_target.Given as goal
 
 abbrev pub invariant-loop-next : goal.invariant-loop-next

@@ -5,7 +5,7 @@ use Rattle.std.proofs.lemmas.Option.{slice_get_read}
 use Rattle.pst_scen.specs.declared.tree.Node.{Node}
 use Rattle.pst_model.specs.ModelView.{view_model}
 use Rattle.pst_known.specs.Known.{seen}
-use Rattle.pst_statements.specs.Listed.{of_fill}
+use Rattle.pst_slots.specs.Listed.{of_fill}
 use Rattle.pst_refusals.specs.Failing.{fails}
 use Rattle.pst_new_refusals.proofs.Nodes.{free_none, free_more, free_all}
 use Rattle.pst_new_refusals.proofs.newly.some_node_refused.Goals as goal

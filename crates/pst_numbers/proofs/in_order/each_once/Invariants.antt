@@ -1,5 +1,5 @@
 use Rattle.std.proofs.Common.{take}
-use Rattle.pst_scope.specs.Scopes.{AreInOrder}
+use Rattle.pst_ast.specs.Scopes.{AreInOrder}
 use Rattle.pst_numbers.specs.Meanings.{HaveSame}
 use Rattle.pst_numbers.proofs.in_order.each_once.Given as goal
 

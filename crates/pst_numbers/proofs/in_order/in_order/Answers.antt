@@ -1,6 +1,6 @@
 use Rattle.std.proofs.Common.{List, subst}
 use Rattle.std.proofs.lemmas.Result.{IfOk-weaker}
-use Rattle.pst_scope.specs.declared.entry.NameMeaning.{NameMeaning}
+use Rattle.pst_ast.specs.declared.entry.NameMeaning.{NameMeaning}
 use Rattle.pst_numbers.specs.Meanings.{HaveSame}
 use Rattle.pst_numbers.proofs.InOrder.{same_by_sort}
 use Rattle.pst_numbers.proofs.in_order.in_order.Goals as goal

@@ -1,6 +1,6 @@
 use Rattle.std.proofs.Common.{◌≡◌, ◌++◌, drop}
 use Rattle.std.specs.List.{filter_map}
-use Rattle.pst_scope.specs.Scopes
+use Rattle.pst_ast.specs.Scopes
 use Rattle.pst_numbers.proofs.listed.entries.Given as goal
 
 abbrev pub invariant-loop-declaration : goal.invariant-loop-declaration

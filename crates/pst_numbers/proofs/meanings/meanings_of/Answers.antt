@@ -1,6 +1,6 @@
 use Rattle.std.proofs.Common.{Some, None, Vec, Global, sym, ap, ◌∙◌}
 use Rattle.std.proofs.lemmas.List.{append-nil}
-use Rattle.pst_scope.specs.declared.entry.NameMeaning.{NameMeaning}
+use Rattle.pst_ast.specs.declared.entry.NameMeaning.{NameMeaning}
 use Rattle.pst_numbers.specs.Meanings.{meaning_of}
 use Rattle.pst_numbers.proofs.Meant.{taken_on}
 use Rattle.pst_numbers.proofs.meanings.meanings_of.Goals as goal

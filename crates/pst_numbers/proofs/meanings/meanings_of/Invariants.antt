@@ -1,5 +1,5 @@
 use Rattle.std.proofs.Common.{◌≡◌, ◌++◌, List, drop}
-use Rattle.pst_scope.specs.declared.declaration.Declaration.{Declaration}
+use Rattle.pst_ast.specs.declared.scope_declaration.Declaration.{Declaration}
 use Rattle.pst_numbers.specs.Meanings.{meanings_of}
 use Rattle.pst_numbers.specs.Numbered.{AreNumbers}
 use Rattle.pst_numbers.proofs.meanings.meanings_of.Given as goal

@@ -1,6 +1,6 @@
 use Rattle.std.proofs.Common.{List, sym, subst}
-use Rattle.pst_scope.specs.declared.declaration.Declaration.{Declaration}
-use Rattle.pst_scope.specs.declared.entry.NameMeaning.{NameMeaning}
+use Rattle.pst_ast.specs.declared.scope_declaration.Declaration.{Declaration}
+use Rattle.pst_ast.specs.declared.entry.NameMeaning.{NameMeaning}
 use Rattle.pst_numbers.specs.Meanings.{AreMeanings}
 use Rattle.pst_numbers.specs.Numbered.{AreNumbers}
 use Rattle.pst_numbers.proofs.Meant.{are_meanings}

@@ -2,7 +2,7 @@ use Rattle.std.proofs.Common.{◌≡◌, take}
 use Rattle.std.specs.Prelude.{position}
 use Rattle.std.specs.HashMap.{get}
 use Rattle.pst_base.specs.declared.position.Place.{Place}
-use Rattle.pst_scope.specs.Sorts.{same_place}
+use Rattle.pst_ast.specs.Sorts.{same_place}
 use Rattle.pst_numbers.specs.NumberKeys.{place_key, same_place_key}
 use Rattle.pst_numbers.proofs.numbering.type_numbers.Given as goal
 

@@ -1,7 +1,7 @@
 use Rattle.std.proofs.Common.{List, take, sym, subst}
 use Rattle.std.specs.HashMap.{get}
 use Rattle.std.proofs.lemmas.List.{take_more}
-use Rattle.pst_scope.specs.declared.declaration.Declaration.{Declaration}
+use Rattle.pst_ast.specs.declared.scope_declaration.Declaration.{Declaration}
 use Rattle.pst_numbers.specs.NumberKeys.{same_member_key, same_place_key}
 use Rattle.pst_numbers.specs.Ranked.{IsRanked}
 use Rattle.pst_numbers.proofs.ranking.ranks.Goals as goal

@@ -3,9 +3,9 @@ use Rattle.std.proofs.lemmas.Grind.{common_steps}
 use Rattle.std.specs.Prelude.{Option, Some}
 use Rattle.pst_model.specs.ConstraintTree.{SlotTree}
 use Rattle.pst_numbering.specs.Kept.{view_reading}
-use Rattle.pst_scope.specs.declared.declaration.Declaration.{Declaration}
-use Rattle.pst_scope.specs.Sorts.{is_handle}
-use Rattle.pst_scope.specs.Lookups.{type_of}
+use Rattle.pst_ast.specs.declared.scope_declaration.Declaration.{Declaration}
+use Rattle.pst_ast.specs.Sorts.{is_handle}
+use Rattle.pst_ast.specs.Lookups.{type_of}
 use Rattle.pst_sources.specs.Shown.{sources_of}
 use Rattle.pst_terms.specs.Readings.{map_reading, handle_reading}
 use Rattle.pst_terms.specs.Sources.{declared_in}

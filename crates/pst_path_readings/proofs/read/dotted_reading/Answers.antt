@@ -1,10 +1,10 @@
 use Rattle.std.proofs.Common.{arith, ◌≡◌, ℕ, List, IfOk, subst, ◌∙◌}
 use Rattle.std.proofs.lemmas.Grind.{common_steps}
 use Rattle.pst_numbering.specs.Kept.{view_reading}
-use Rattle.pst_scope.specs.declared.declaration.Declaration.{Declaration}
-use Rattle.pst_scope.specs.declared.referent.Checked.{Checked}
-use Rattle.pst_scope.specs.declared.referent.PathReferent.{PathReferent}
-use Rattle.pst_scope.specs.Paths.{is_value, read_path}
+use Rattle.pst_ast.specs.declared.scope_declaration.Declaration.{Declaration}
+use Rattle.pst_ast.specs.declared.referent.Checked.{Checked}
+use Rattle.pst_ast.specs.declared.referent.PathReferent.{PathReferent}
+use Rattle.pst_ast.specs.Paths.{is_value, read_path}
 use Rattle.pst_sources.specs.Shown.{sources_of}
 use Rattle.pst_terms.specs.Readings as tree
 use Rattle.pst_terms.specs.Sources.{declared_in}

@@ -1,5 +1,5 @@
 use Rattle.std.proofs.Common.{◌≡◌, [], drop}
-use Rattle.pst_scope.specs.Uses.{target_by}
+use Rattle.pst_ast.specs.Uses.{target_by}
 use Rattle.pst_pool_binds.proofs.bind_targets.bind_of.Given as goal
 
 abbrev pub invariant-loop-next : goal.invariant-loop-next

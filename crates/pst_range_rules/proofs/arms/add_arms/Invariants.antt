@@ -1,6 +1,6 @@
 use Rattle.std.proofs.Common.{◌≡◌, ◌++◌, drop, map}
 use Rattle.pst_ast.specs.ActivityView.{view_arm}
-use Rattle.pst_scope.specs.Uses.{arm_label}
+use Rattle.pst_ast.specs.Uses.{arm_label}
 use Rattle.pst_type_rules.specs.TypeRules.{ranges_of_arms}
 use Rattle.pst_range_rules.specs.Facts.{constant_at}
 use Rattle.pst_range_rules.specs.Spans.{spans_of}

@@ -1,6 +1,6 @@
 use Rattle.std.proofs.Common.{◌≡◌, ◌∷◌, drop, map}
 use Rattle.pst_ast.specs.ActivityView.{view_arm}
-use Rattle.pst_scope.specs.Uses.{arm_label}
+use Rattle.pst_ast.specs.Uses.{arm_label}
 use Rattle.pst_range_rules.specs.Meetings.{defaults_from, defaults_in}
 use Rattle.pst_range_rules.proofs.arms.defaults_in.Given as goal
 

@@ -1,6 +1,6 @@
 use Rattle.std.proofs.Common.{◌≡◌, sym, ◌∙◌}
 use Rattle.std.specs.Prelude.{Some}
-use Rattle.pst_scope.specs.declared.referent.Finding.{Finding}
+use Rattle.pst_ast.specs.declared.referent.Finding.{Finding}
 use Rattle.pst_range_rules.specs.Meetings.{meeting_in}
 use Rattle.pst_range_rules.proofs.Apart.{each_some, meeting_there}
 use Rattle.pst_range_rules.proofs.meeting.meeting_at.Goals as goal

@@ -2,7 +2,7 @@ use Rattle.std.proofs.Common.{◌≡◌, ◌<◌, ◌-◌, length, true, false, 
 use Rattle.std.specs.List.{list_any}
 use Rattle.pst_model.specs.ModelView.{view_model}
 use Rattle.pst_known.specs.Known.{seen}
-use Rattle.pst_statements.specs.Listed.{of_first_object}
+use Rattle.pst_slots.specs.Listed.{of_first_object}
 use Rattle.pst_refusals.specs.Failing.{fails, is_used_state}
 use Rattle.pst_refusals.proofs.Walks.{passed, found}
 use Rattle.pst_refusals.proofs.acts.of_firsts.Goals as goal

@@ -3,7 +3,7 @@ use Rattle.std.specs.Prelude.{flat_map}
 use Rattle.std.specs.List.{filter, list_any, range_with_len}
 use Rattle.pst_model.specs.ModelView.{view_model}
 use Rattle.pst_known.specs.Known.{seen}
-use Rattle.pst_statements.specs.Listed.{of_first_object}
+use Rattle.pst_slots.specs.Listed.{of_first_object}
 use Rattle.pst_refusals.specs.Failing.{fails, is_used_state}
 use Rattle.pst_refusals.proofs.acts.of_firsts.Given as goal
 

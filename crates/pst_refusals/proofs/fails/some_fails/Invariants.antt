@@ -1,7 +1,7 @@
 use Rattle.std.proofs.Common.{◌≡◌, map, drop}
 use Rattle.std.specs.List.{list_any}
 use Rattle.pst_model.specs.ConstraintTree.{view_constraint}
-use Rattle.pst_statements.specs.Listed.{stating}
+use Rattle.pst_slots.specs.Listed.{stating}
 use Rattle.pst_refusals.specs.Failing.{fails}
 use Rattle.pst_refusals.proofs.fails.some_fails.Given as goal
 

@@ -3,7 +3,7 @@ use Rattle.std.specs.Prelude.{flat_map}
 use Rattle.std.specs.List.{enumerate_from, list_any}
 use Rattle.pst_model.specs.ModelView.{view_model}
 use Rattle.pst_known.specs.Known.{seen}
-use Rattle.pst_statements.specs.Listed.{of_node}
+use Rattle.pst_slots.specs.Listed.{of_node}
 use Rattle.pst_refusals.specs.Failing.{fails}
 use Rattle.pst_refusals.proofs.listed.of_nodes.Given as goal
 

@@ -1,7 +1,7 @@
 use Rattle.std.proofs.Common.{◌≡◌, ◌≤◌, ◌+◌, ℕ, drop}
 use Rattle.std.specs.Option.{option_map}
-use Rattle.pst_statements.specs.Stated.{position_of, place_in}
-use Rattle.pst_statements.proofs.Children.{kids}
+use Rattle.pst_slots.specs.Stated.{position_of, place_in}
+use Rattle.pst_slots.proofs.Children.{kids}
 use Rattle.pst_refusals.proofs.places.place_in.Given as goal
 
 abbrev pub invariant-loop-node : goal.invariant-loop-node

@@ -2,7 +2,7 @@ use Rattle.std.proofs.Common.{◌≡◌, ◌<◌, Some, sym, ◌∙◌, refl, su
 use Rattle.std.specs.Prelude.{IfOk, slice_get}
 use Rattle.std.specs.Option.{option_map}
 use Rattle.pst_model.specs.ModelView.{view_model}
-use Rattle.pst_statements.specs.Stated.{parent_of}
+use Rattle.pst_slots.specs.Stated.{parent_of}
 use Rattle.pst_refusals.specs.Founds.{stated_of}
 use Rattle.pst_refusals.proofs.Steps.{got}
 use Rattle.pst_refusals.proofs.Within.{within_turn, within_part, within_repeat}

@@ -1,5 +1,5 @@
 use Rattle.std.proofs.Common.{subst, sym}
-use Rattle.pst_order_stays.specs.SoFar.{HasRead}
+use Rattle.pst_built.specs.SoFar.{HasRead}
 use Rattle.pst_list_walk.specs.Walks.{answer}
 use Rattle.pst_search.proofs.Ties.{has_read}
 use Rattle.pst_search.proofs.behind.copy_read.Goals as goal

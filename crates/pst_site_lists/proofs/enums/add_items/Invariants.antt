@@ -1,7 +1,7 @@
 use Rattle.std.proofs.Common.{◌≡◌, ◌++◌, drop, map}
 use Rattle.std.specs.List.{flat_map}
 use Rattle.pst_ast.specs.DeclarationView.{view_item}
-use Rattle.pst_constants.specs.Enums.{enums_in_item}
+use Rattle.pst_type_rules.specs.Enums.{enums_in_item}
 use Rattle.pst_site_lists.specs.Sited.{view_enum_site}
 use Rattle.pst_site_lists.proofs.enums.add_items.Given as goal
 

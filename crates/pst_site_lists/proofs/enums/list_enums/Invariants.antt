@@ -1,6 +1,6 @@
 use Rattle.std.proofs.Common.{◌≡◌, ◌++◌, drop, map}
 use Rattle.pst_ast.specs.DeclarationView.{view_unit}
-use Rattle.pst_constants.specs.Enums.{enums}
+use Rattle.pst_type_rules.specs.Enums.{enums}
 use Rattle.pst_site_lists.specs.Sited.{view_enum_site}
 use Rattle.pst_site_lists.proofs.enums.list_enums.Given as goal
 

@@ -1,7 +1,7 @@
 use Rattle.std.proofs.Common.{◌≡◌, ◌++◌, drop, map}
 use Rattle.std.specs.List.{flat_map}
 use Rattle.pst_ast.specs.DeclarationView.{view_action_part}
-use Rattle.pst_scope.specs.Uses.{environment}
+use Rattle.pst_ast.specs.Uses.{environment}
 use Rattle.pst_type_rules.specs.Sites.{fields_in_action_part}
 use Rattle.pst_site_lists.specs.Sited.{view_field_site}
 use Rattle.pst_site_lists.proofs.fields.add_action_parts.Given as goal

@@ -1,8 +1,8 @@
 use Rattle.std.proofs.Common.{◌≡◌, ◌++◌, drop, map}
 use Rattle.pst_ast.specs.DeclarationView.{view_next_field}
 use Rattle.pst_ast.specs.SharedView.{view_type}
-use Rattle.pst_scope.specs.Declarations.{next_field_part}
-use Rattle.pst_scope.specs.Uses.{environment}
+use Rattle.pst_ast.specs.Declarations.{next_field_part}
+use Rattle.pst_ast.specs.Uses.{environment}
 use Rattle.pst_type_rules.specs.Sites.{field_of_part}
 use Rattle.pst_site_lists.specs.Sited.{view_field_site}
 use Rattle.pst_site_lists.proofs.fields.add_next_field_parts.Given as goal

@@ -1,5 +1,5 @@
 use Rattle.std.proofs.Common.{◌≡◌, ◌++◌, drop}
-use Rattle.pst_scope.specs.Sorts.{is_action}
+use Rattle.pst_ast.specs.Sorts.{is_action}
 use Rattle.pst_type_rules.specs.Members.{those_that}
 use Rattle.pst_source_rules.proofs.root.actions_in.Given as goal
 

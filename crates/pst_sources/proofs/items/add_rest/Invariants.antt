@@ -1,6 +1,6 @@
 use Rattle.std.proofs.Common.{◌≡◌, ◌++◌, drop, map}
 use Rattle.pst_ast.specs.DeclarationView.{view_next_enum_item}
-use Rattle.pst_scope.specs.Declarations.{next_item}
+use Rattle.pst_ast.specs.Declarations.{next_item}
 use Rattle.pst_sources.specs.Listed.{values_from}
 use Rattle.pst_sources.specs.Shown.{sources_of}
 use Rattle.pst_sources.proofs.items.add_rest.Given as goal

@@ -2,7 +2,7 @@ use Rattle.std.proofs.Common.{◌≡◌, ◌++◌, List, ap, ◌∙◌}
 use Rattle.std.specs.Prelude.{ℤ, pos, Option, Some}
 use Rattle.std.specs.List.{flat_map}
 use Rattle.pst_base.specs.declared.position.Place.{Place}
-use Rattle.pst_constants.specs.Enums.{enums}
+use Rattle.pst_type_rules.specs.Enums.{enums}
 use Rattle.pst_site_lists.specs.Sited.{view_enum_site}
 use Rattle.pst_terms.specs.Sources.{item_values}
 use Rattle.pst_sources.specs.Shown.{sources_of}

@@ -2,7 +2,7 @@ use Rattle.std.proofs.Common.{◌≡◌, ◌<◌, false, map, length, ap, sym, �
 use Rattle.std.specs.Prelude.{IsSome}
 use Rattle.std.proofs.lemmas.Grind.{common_steps}
 use Rattle.pst_ast.specs.DeclarationView.{view_unit}
-use Rattle.pst_scope.specs.Declarations.{declarations}
+use Rattle.pst_ast.specs.Declarations.{declarations}
 use Rattle.pst_steady.specs.Reached.{value_at}
 use Rattle.pst_steady.proofs.Lists.{there_is}
 use Rattle.pst_steady.proofs.Lined.{some_of}

@@ -1,8 +1,8 @@
 use Rattle.std.proofs.Common.{◌≡◌, ℕ, List, map, subst, ◌∙◌, length, Option}
 use Rattle.std.specs.Prelude.{IsTrue}
 use Rattle.pst_ast.specs.DeclarationView.{view_unit}
-use Rattle.pst_scope.specs.declared.declaration.Declaration.{Declaration}
-use Rattle.pst_scope.specs.Declarations.{declarations}
+use Rattle.pst_ast.specs.declared.scope_declaration.Declaration.{Declaration}
+use Rattle.pst_ast.specs.Declarations.{declarations}
 use Rattle.pst_steady.specs.declared.reach.Seed.{Seed}
 use Rattle.pst_steady.specs.Lined.{AreMarks, IsUnsteadyAmong}
 use Rattle.pst_steady.specs.Reached.{AreReached}

@@ -6,8 +6,8 @@ use Rattle.pst_ast.specs.ActivityView.{view_statement}
 use Rattle.pst_ast.specs.DeclarationView.{view_action, view_unit}
 use Rattle.pst_ast.specs.declared.activity.StatementNode.{StatementNode}
 use Rattle.pst_ast.specs.declared.declaration.ActionNode.{ActionNode}
-use Rattle.pst_scope.specs.declared.declaration.Declaration.{Declaration}
-use Rattle.pst_scope.specs.Lookups.{base_of}
+use Rattle.pst_ast.specs.declared.scope_declaration.Declaration.{Declaration}
+use Rattle.pst_ast.specs.Lookups.{base_of}
 use Rattle.pst_type_rules.specs.Sites.{DeclaredAction, action_of}
 use Rattle.pst_steady.proofs.Apart.{by_own, by_base}
 use Rattle.pst_steady.proofs.lineage.is_steady_apart.Goals as goal

@@ -1,7 +1,7 @@
 use Rattle.std.proofs.Common.{◌≡◌, List, map, subst, ◌∙◌, Some}
 use Rattle.std.specs.Prelude.{slice_get}
 use Rattle.pst_ast.specs.DeclarationView.{view_unit}
-use Rattle.pst_scope.specs.declared.declaration.Declaration.{Declaration}
+use Rattle.pst_ast.specs.declared.scope_declaration.Declaration.{Declaration}
 use Rattle.pst_steady.specs.Numbered.{IsNumber}
 use Rattle.pst_steady.proofs.Apart.{not_missing}
 use Rattle.pst_steady.proofs.lineage.is_steady_base.Goals as goal

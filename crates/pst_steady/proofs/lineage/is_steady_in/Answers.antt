@@ -1,6 +1,6 @@
 use Rattle.std.proofs.Common.{◌≡◌, List, subst, ◌∙◌, Some}
 use Rattle.std.specs.Prelude.{slice_get}
-use Rattle.pst_scope.specs.declared.declaration.Declaration.{Declaration}
+use Rattle.pst_ast.specs.declared.scope_declaration.Declaration.{Declaration}
 use Rattle.pst_steady.specs.Numbered.{IsNumber}
 use Rattle.pst_steady.proofs.lineage.is_steady_in.Goals as goal
 

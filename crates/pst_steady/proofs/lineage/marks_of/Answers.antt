@@ -1,6 +1,6 @@
 use Rattle.std.proofs.Common.{◌≡◌, ◌+◌, List, sym, subst}
 use Rattle.std.proofs.lemmas.Option.{get_or_from_slice_get}
-use Rattle.pst_scope.specs.declared.declaration.Declaration.{Declaration}
+use Rattle.pst_ast.specs.declared.scope_declaration.Declaration.{Declaration}
 use Rattle.pst_steady.specs.declared.reach.Seed.{Seed}
 use Rattle.pst_steady.specs.Lined.{AreMarks, IsMark}
 use Rattle.pst_steady.proofs.Lists.{there_is}

@@ -1,5 +1,5 @@
 use Rattle.std.proofs.Common.{◌≡◌, List, sym, subst, ◌∙◌}
-use Rattle.pst_scope.specs.declared.declaration.Declaration.{Declaration}
+use Rattle.pst_ast.specs.declared.scope_declaration.Declaration.{Declaration}
 use Rattle.pst_steady.specs.Numbered.{IsNumber}
 use Rattle.pst_steady.proofs.Numbering.{base_numbered}
 use Rattle.pst_steady.proofs.number.base_number.Goals as goal

@@ -1,6 +1,6 @@
 use Rattle.std.proofs.Common.{◌≡◌, ℕ, ◌<◌, Some}
 use Rattle.std.specs.Prelude.{IsTrue, slice_get}
-use Rattle.pst_scope.specs.Sorts.{is_action}
+use Rattle.pst_ast.specs.Sorts.{is_action}
 use Rattle.pst_steady.proofs.number.number_among.Given as goal
 
 abbrev pub invariant-loop-at : goal.invariant-loop-at

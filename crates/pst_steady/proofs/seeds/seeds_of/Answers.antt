@@ -2,7 +2,7 @@ use Rattle.std.proofs.Common.{◌≡◌, ◌+◌, List, map, sym, subst, Bor}
 use Rattle.std.proofs.lemmas.Option.{get_or_from_slice_get}
 use Rattle.pst_ast.specs.DeclarationView.{view_action, view_unit}
 use Rattle.pst_ast.specs.declared.declaration.ActionNode.{ActionNode}
-use Rattle.pst_scope.specs.declared.declaration.Declaration.{Declaration}
+use Rattle.pst_ast.specs.declared.scope_declaration.Declaration.{Declaration}
 use Rattle.pst_type_rules.specs.Sites.{DeclaredAction, action_at, action_of}
 use Rattle.pst_steady.specs.declared.reach.Seed.{Seed}
 use Rattle.pst_steady.specs.Seeded.{AreSeeds, IsSeed}

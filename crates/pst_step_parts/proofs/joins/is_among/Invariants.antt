@@ -1,6 +1,6 @@
 use Rattle.std.proofs.Common.{◌≡◌, drop}
 use Rattle.std.specs.List.{list_any}
-use Rattle.pst_scope.specs.Sorts.{same_name}
+use Rattle.pst_ast.specs.Sorts.{same_name}
 use Rattle.pst_step_parts.proofs.joins.is_among.Given as goal
 
 abbrev pub invariant-loop-name : goal.invariant-loop-name

@@ -1,8 +1,8 @@
 use Rattle.std.proofs.Common.{◌≡◌, ℕ, ◌<◌, IsTrue}
 use Rattle.std.specs.Prelude.{Some, slice_get, is_some}
-use Rattle.pst_scope.specs.declared.declaration.Declaration.{Declaration}
-use Rattle.pst_scope.specs.Sorts.{is_instance}
-use Rattle.pst_scope.specs.Lookups.{type_of}
+use Rattle.pst_ast.specs.declared.scope_declaration.Declaration.{Declaration}
+use Rattle.pst_ast.specs.Sorts.{is_instance}
+use Rattle.pst_ast.specs.Lookups.{type_of}
 use Rattle.pst_tree.proofs.sources.are_typed.Given as goal
 
 abbrev pub invariant-loop-declaration : goal.invariant-loop-declaration

@@ -1,8 +1,8 @@
 use Rattle.std.proofs.Common.{subst, sym, List, map, ◌∙◌}
 use Rattle.std.specs.List.{Contains}
 use Rattle.pst_ast.specs.DeclarationView.{view_unit}
-use Rattle.pst_scope.specs.declared.declaration.Declaration.{Declaration}
-use Rattle.pst_scope.specs.NameRules.{Reaches}
+use Rattle.pst_ast.specs.declared.scope_declaration.Declaration.{Declaration}
+use Rattle.pst_ast.specs.NameRules.{Reaches}
 use Rattle.pst_tree.proofs.Typed.{never_loops}
 use Rattle.pst_tree.proofs.sources.instances_of.Goals as goal
 

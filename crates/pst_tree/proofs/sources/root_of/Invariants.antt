@@ -1,6 +1,6 @@
 use Rattle.std.proofs.Common.{◌≡◌, drop}
 use Rattle.std.specs.List.{find}
-use Rattle.pst_scope.specs.NameRules.{is_root_component}
+use Rattle.pst_ast.specs.NameRules.{is_root_component}
 use Rattle.pst_tree.proofs.sources.root_of.Given as goal
 
 abbrev pub invariant-loop-declaration : goal.invariant-loop-declaration

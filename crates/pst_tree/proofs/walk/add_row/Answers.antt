@@ -2,7 +2,7 @@ use Rattle.std.proofs.Common.{◌≡◌, ◌++◌, List, reverse, sym, ap, ◌�
 use Rattle.std.specs.Prelude.{Some, None}
 use Rattle.std.specs.List.{filter_map}
 use Rattle.std.specs.Option.{option_map}
-use Rattle.pst_scope.specs.declared.declaration.Declaration.{Declaration}
+use Rattle.pst_ast.specs.declared.scope_declaration.Declaration.{Declaration}
 use Rattle.pst_tree.specs.declared.walk.Pending.{Pending}
 use Rattle.pst_tree.specs.Members.{place_key}
 use Rattle.pst_tree.specs.Walked.{pending_in, pending_of}

@@ -1,5 +1,5 @@
 use Rattle.std.proofs.Common.{◌≡◌, ◌++◌, drop, map}
-use Rattle.pst_scope.specs.Sorts.{is_handle}
+use Rattle.pst_ast.specs.Sorts.{is_handle}
 use Rattle.pst_type_rules.specs.Members.{those_that}
 use Rattle.pst_type_members.proofs.handles.handle_places.Given as goal
 

@@ -1,7 +1,7 @@
 use Rattle.std.proofs.Common.{List, Option, sym, subst}
 use Rattle.std.specs.Prelude.{map}
 use Rattle.pst_ast.specs.DeclarationView.{view_unit}
-use Rattle.pst_scope.specs.declared.referent.Finding.{Finding}
+use Rattle.pst_ast.specs.declared.referent.Finding.{Finding}
 use Rattle.pst_evaluate.specs.Kept.{known_in}
 use Rattle.pst_name_rules.specs.Leasts.{IsLeastOf}
 use Rattle.pst_typed_uses.specs.Breaches.{IsUseBreach}

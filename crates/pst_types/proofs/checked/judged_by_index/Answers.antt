@@ -2,9 +2,9 @@ use Rattle.std.proofs.Common.{◌≡◌, List, sym, subst}
 use Rattle.std.specs.Prelude.{IfOk, map}
 use Rattle.pst_ast.specs.DeclarationView.{view_unit}
 use Rattle.pst_ast.specs.declared.declaration.Unit.{Unit}
-use Rattle.pst_scope.specs.Breaches.{IsNone}
-use Rattle.pst_scope.specs.Declarations.{declarations}
-use Rattle.pst_scope.specs.NameRules.{NameBreach}
+use Rattle.pst_ast.specs.Breaches.{IsNone}
+use Rattle.pst_ast.specs.Declarations.{declarations}
+use Rattle.pst_ast.specs.NameRules.{NameBreach}
 use Rattle.pst_types.specs.Checked.{IsChecked}
 use Rattle.pst_types.proofs.checked.judged_by_index.Goals as goal
 

@@ -2,7 +2,7 @@ use Rattle.std.proofs.Common.{◌≡◌, List, sym, subst}
 use Rattle.std.specs.Prelude.{map}
 use Rattle.pst_ast.specs.DeclarationView.{view_unit}
 use Rattle.pst_ast.specs.declared.declaration.Unit.{Unit}
-use Rattle.pst_scope.specs.Declarations.{declarations}
+use Rattle.pst_ast.specs.Declarations.{declarations}
 use Rattle.pst_evaluate.specs.Kept.{known_in}
 use Rattle.pst_evaluate.specs.Settled.{AreItemValues}
 use Rattle.pst_type_rules.specs.declared.typed.ConstantValue.{ConstantValue}

@@ -1,7 +1,7 @@
 use Rattle.std.proofs.Common.{◌≡◌, ◌≤◌, drop}
 use Rattle.std.specs.Prelude.{slice_get}
 use Rattle.pst_model.specs.Limits.{most_branches}
-use Rattle.pst_scope.specs.Uses.{branch_places}
+use Rattle.pst_ast.specs.Uses.{branch_places}
 use Rattle.pst_walk_parts.specs.Shown.{view_statements}
 use Rattle.pst_use_rules.proofs.counts.branches_finding.Given as goal
 

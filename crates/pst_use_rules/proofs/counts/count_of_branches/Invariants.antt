@@ -1,5 +1,5 @@
 use Rattle.std.proofs.Common.{◌≡◌, ◌+◌, ◌≤◌, drop}
-use Rattle.pst_scope.specs.Uses.{branches_in}
+use Rattle.pst_ast.specs.Uses.{branches_in}
 use Rattle.pst_walk_parts.specs.Shown.{view_statements}
 use Rattle.pst_use_rules.proofs.counts.count_of_branches.Given as goal
 

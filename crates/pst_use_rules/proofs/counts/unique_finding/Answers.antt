@@ -5,7 +5,7 @@ use Rattle.std.specs.Prelude.{Some}
 use Rattle.std.specs.Option.{option_map}
 use Rattle.pst_ast.specs.ExpressionView.{view_expr}
 use Rattle.pst_ast.specs.SharedView.{view_next_expr}
-use Rattle.pst_scope.specs.Uses.{next_expr}
+use Rattle.pst_ast.specs.Uses.{next_expr}
 use Rattle.pst_type_rules.specs.Places.{expr_place}
 use Rattle.pst_use_rules.specs.Found.{too_many}
 use Rattle.pst_use_rules.proofs.Uniques.{unique_by}

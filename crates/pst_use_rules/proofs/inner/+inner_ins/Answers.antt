@@ -4,7 +4,7 @@ use Rattle.pst_base.specs.declared.position.Place.{Place}
 use Rattle.pst_ast.specs.declared.expression.PathNode.{PathNode}
 use Rattle.std.specs.List.{flat_map}
 use Rattle.pst_ast.specs.ExpressionView.{view_path, view_next_part, view_next_range}
-use Rattle.pst_scope.specs.declared.referent.Finding.{Finding}
+use Rattle.pst_ast.specs.declared.referent.Finding.{Finding}
 use Rattle.pst_type_rules.specs.Places.{path_ins, dotted_ins, comma_range_ins}
 use Rattle.pst_name_rules.specs.Leasts.{least_at}
 use Rattle.pst_use_rules.specs.Found.{inner_in}

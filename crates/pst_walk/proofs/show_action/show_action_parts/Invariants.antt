@@ -1,7 +1,7 @@
 use Rattle.std.proofs.Common.{◌≡◌, drop, map}
 use Rattle.std.specs.List.{flat_map, fold}
 use Rattle.pst_ast.specs.DeclarationView.{view_action_part}
-use Rattle.pst_scope.specs.Uses.{action_part_uses}
+use Rattle.pst_ast.specs.Uses.{action_part_uses}
 use Rattle.pst_walk.proofs.show_action.show_action_parts.Given as goal
 
 abbrev pub invariant-loop-part : goal.invariant-loop-part

@@ -1,7 +1,7 @@
 use Rattle.std.proofs.Common.{◌≡◌, drop, map}
 use Rattle.std.specs.List.{flat_map, fold}
 use Rattle.pst_ast.specs.DeclarationView.{view_component_part}
-use Rattle.pst_scope.specs.Uses.{component_part_uses}
+use Rattle.pst_ast.specs.Uses.{component_part_uses}
 use Rattle.pst_walk.proofs.show_component.show_component_parts.Given as goal
 
 abbrev pub invariant-loop-part : goal.invariant-loop-part

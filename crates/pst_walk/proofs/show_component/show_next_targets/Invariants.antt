@@ -1,7 +1,7 @@
 use Rattle.std.proofs.Common.{◌≡◌, drop, map}
 use Rattle.std.specs.List.{flat_map, fold}
 use Rattle.pst_ast.specs.DeclarationView.{view_next_target}
-use Rattle.pst_scope.specs.Uses.{next_target, target_use}
+use Rattle.pst_ast.specs.Uses.{next_target, target_use}
 use Rattle.pst_walk.proofs.show_component.show_next_targets.Given as goal
 
 abbrev pub invariant-loop-next : goal.invariant-loop-next

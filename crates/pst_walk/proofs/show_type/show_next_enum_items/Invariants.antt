@@ -1,8 +1,8 @@
 use Rattle.std.proofs.Common.{◌≡◌, drop, map}
 use Rattle.std.specs.List.{flat_map, fold}
 use Rattle.pst_ast.specs.DeclarationView.{view_next_enum_item}
-use Rattle.pst_scope.specs.Declarations.{next_item}
-use Rattle.pst_scope.specs.Uses.{enum_value_uses}
+use Rattle.pst_ast.specs.Declarations.{next_item}
+use Rattle.pst_ast.specs.Uses.{enum_value_uses}
 use Rattle.pst_walk.proofs.show_type.show_next_enum_items.Given as goal
 
 abbrev pub invariant-loop-next : goal.invariant-loop-next

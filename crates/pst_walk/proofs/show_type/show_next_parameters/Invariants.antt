@@ -1,8 +1,8 @@
 use Rattle.std.proofs.Common.{◌≡◌, drop, map}
 use Rattle.std.specs.List.{flat_map, fold}
 use Rattle.pst_ast.specs.DeclarationView.{view_next_parameter}
-use Rattle.pst_scope.specs.Declarations.{next_parameter}
-use Rattle.pst_scope.specs.Uses.{parameter_uses}
+use Rattle.pst_ast.specs.Declarations.{next_parameter}
+use Rattle.pst_ast.specs.Uses.{parameter_uses}
 use Rattle.pst_walk.proofs.show_type.show_next_parameters.Given as goal
 
 abbrev pub invariant-loop-next : goal.invariant-loop-next

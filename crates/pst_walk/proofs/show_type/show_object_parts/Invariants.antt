@@ -1,7 +1,7 @@
 use Rattle.std.proofs.Common.{◌≡◌, drop, map}
 use Rattle.std.specs.List.{flat_map, fold}
 use Rattle.pst_ast.specs.DeclarationView.{view_object_part}
-use Rattle.pst_scope.specs.Uses.{object_part_uses}
+use Rattle.pst_ast.specs.Uses.{object_part_uses}
 use Rattle.pst_walk.proofs.show_type.show_object_parts.Given as goal
 
 abbrev pub invariant-loop-part : goal.invariant-loop-part

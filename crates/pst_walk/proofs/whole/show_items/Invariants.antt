@@ -1,7 +1,7 @@
 use Rattle.std.proofs.Common.{◌≡◌, drop, map}
 use Rattle.std.specs.List.{flat_map, fold}
 use Rattle.pst_ast.specs.DeclarationView.{view_item}
-use Rattle.pst_scope.specs.Uses.{unit_item_uses}
+use Rattle.pst_ast.specs.Uses.{unit_item_uses}
 use Rattle.pst_walk.proofs.whole.show_items.Given as goal
 
 abbrev pub invariant-loop-item : goal.invariant-loop-item

@@ -1,7 +1,7 @@
 use Rattle.std.proofs.Common.{◌≡◌, drop, map}
 use Rattle.std.specs.List.{flat_map, fold}
 use Rattle.pst_ast.specs.DeclarationView.{view_unit}
-use Rattle.pst_scope.specs.Uses.{unit_uses}
+use Rattle.pst_ast.specs.Uses.{unit_uses}
 use Rattle.pst_walk.proofs.whole.walk.Given as goal
 
 abbrev pub invariant-loop-unit : goal.invariant-loop-unit

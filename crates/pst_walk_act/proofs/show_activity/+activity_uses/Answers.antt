@@ -3,7 +3,7 @@ use Rattle.std.proofs.lemmas.Grind.{common_steps}
 use Rattle.std.specs.List.{fold}
 use Rattle.pst_ast.specs.declared.activity.CoreNode.{CoreNode}
 use Rattle.pst_ast.specs.ActivityView.{view_core}
-use Rattle.pst_scope.specs.Uses.{Use, core_uses}
+use Rattle.pst_ast.specs.Uses.{Use, core_uses}
 use Rattle.pst_walk_act.proofs.ActivityRows.{sequence_uses_are, together_uses_are, select_uses_are, match_uses_are}
 use Rattle.pst_walk_act.proofs.Folds.{fold_append}
 use Rattle.pst_walk_act.proofs.show_activity.+activity_uses.Goals as goal

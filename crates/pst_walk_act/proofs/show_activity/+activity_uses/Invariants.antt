@@ -1,7 +1,7 @@
 use Rattle.std.proofs.Common.{◌≡◌, drop, map}
 use Rattle.std.specs.List.{flat_map, fold}
 use Rattle.pst_ast.specs.ActivityView.{view_statement, view_branch, view_arm}
-use Rattle.pst_scope.specs.Uses.{statement_uses, branch_uses, arm_uses}
+use Rattle.pst_ast.specs.Uses.{statement_uses, branch_uses, arm_uses}
 use Rattle.pst_walk_act.proofs.show_activity.+activity_uses.Given as goal
 
 abbrev pub invariant-show_statements-loop-statement : goal.invariant-show_statements-loop-statement

@@ -1,6 +1,6 @@
 use Rattle.std.proofs.Common.{◌≡◌, drop, map}
 use Rattle.std.specs.List.{fold}
-use Rattle.pst_scope.specs.Uses.{end_use}
+use Rattle.pst_ast.specs.Uses.{end_use}
 use Rattle.pst_walk_act.proofs.show_bind.show_next_ends.Given as goal
 
 abbrev pub invariant-loop-next : goal.invariant-loop-next

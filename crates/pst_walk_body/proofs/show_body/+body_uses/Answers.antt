@@ -3,7 +3,7 @@ use Rattle.std.proofs.lemmas.Grind.{common_steps}
 use Rattle.std.specs.List.{fold}
 use Rattle.pst_ast.specs.declared.body.BodyStatement.{BodyStatement}
 use Rattle.pst_ast.specs.BodyView.{view_body_statement}
-use Rattle.pst_scope.specs.Uses.{Use, body_statement_uses}
+use Rattle.pst_ast.specs.Uses.{Use, body_statement_uses}
 use Rattle.pst_walk_body.proofs.BodyRows.{block_uses_are}
 use Rattle.pst_walk_body.proofs.show_body.+body_uses.Goals as goal
 

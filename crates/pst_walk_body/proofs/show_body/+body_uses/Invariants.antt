@@ -1,7 +1,7 @@
 use Rattle.std.proofs.Common.{◌≡◌, ◌≤◌, drop, map}
 use Rattle.std.specs.List.{fold}
 use Rattle.pst_ast.specs.BodyView.{view_body_statement}
-use Rattle.pst_scope.specs.Uses.{body_list_uses}
+use Rattle.pst_ast.specs.Uses.{body_list_uses}
 use Rattle.pst_walk_body.specs.Locals.{without_inner}
 use Rattle.pst_walk_body.proofs.show_body.+body_uses.Given as goal
 

@@ -1,7 +1,7 @@
 use Rattle.std.proofs.Common.{◌≡◌, drop, map}
 use Rattle.std.specs.List.{flat_map, fold}
 use Rattle.pst_ast.specs.SharedView.{view_next_expr}
-use Rattle.pst_scope.specs.Uses.{InBody, next_expr, whole_uses}
+use Rattle.pst_ast.specs.Uses.{InBody, next_expr, whole_uses}
 use Rattle.pst_walk_body.proofs.show_body.show_next_arguments.Given as goal
 
 abbrev pub invariant-loop-next : goal.invariant-loop-next

@@ -1,5 +1,5 @@
 use Rattle.std.proofs.Common.{◌≡◌, ◌++◌, drop, map}
-use Rattle.pst_scope.specs.Uses.{plain_part}
+use Rattle.pst_ast.specs.Uses.{plain_part}
 use Rattle.pst_walk_parts.proofs.path_parts.plain_parts.Given as goal
 
 abbrev pub invariant-loop-next : goal.invariant-loop-next

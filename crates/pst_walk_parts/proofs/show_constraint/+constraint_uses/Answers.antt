@@ -3,7 +3,7 @@ use Rattle.std.proofs.lemmas.Grind.{common_steps}
 use Rattle.std.specs.List.{fold}
 use Rattle.pst_ast.specs.declared.constraint.ConstraintNode.{ConstraintNode}
 use Rattle.pst_ast.specs.ConstraintView.{view_constraint}
-use Rattle.pst_scope.specs.Uses.{Use, set_uses}
+use Rattle.pst_ast.specs.Uses.{Use, set_uses}
 use Rattle.pst_walk_parts.proofs.ConstraintRows.{block_uses_are}
 use Rattle.pst_walk_parts.proofs.show_constraint.+constraint_uses.Goals as goal
 

@@ -1,7 +1,7 @@
 use Rattle.std.proofs.Common.{◌≡◌, drop, map}
 use Rattle.std.specs.List.{flat_map, fold}
 use Rattle.pst_ast.specs.ConstraintView.{view_constraint_item}
-use Rattle.pst_scope.specs.Uses.{item_uses}
+use Rattle.pst_ast.specs.Uses.{item_uses}
 use Rattle.pst_walk_parts.proofs.show_constraint.+constraint_uses.Given as goal
 
 abbrev pub invariant-show_items-loop-item : goal.invariant-show_items-loop-item

@@ -3,7 +3,7 @@ use Rattle.std.proofs.lemmas.Grind.{common_steps}
 use Rattle.std.specs.List.{fold}
 use Rattle.pst_ast.specs.declared.expression.PathNode.{PathNode}
 use Rattle.pst_ast.specs.ExpressionView.{view_path}
-use Rattle.pst_scope.specs.Uses.{Use, path_uses}
+use Rattle.pst_ast.specs.Uses.{Use, path_uses}
 use Rattle.pst_walk_parts.proofs.ExpressionRows.{dotted_uses_are, ranges_uses_are}
 use Rattle.pst_walk_parts.proofs.Folds.{fold_append}
 use Rattle.pst_walk_parts.proofs.show_expression.+expression_uses.Goals as goal

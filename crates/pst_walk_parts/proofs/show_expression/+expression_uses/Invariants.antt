@@ -1,7 +1,7 @@
 use Rattle.std.proofs.Common.{◌≡◌, drop}
 use Rattle.std.specs.List.{flat_map, fold}
 use Rattle.pst_ast.specs.ExpressionView.{view_next_part, view_next_range}
-use Rattle.pst_scope.specs.Uses.{dotted_uses, comma_range_uses}
+use Rattle.pst_ast.specs.Uses.{dotted_uses, comma_range_uses}
 use Rattle.pst_walk_parts.proofs.show_expression.+expression_uses.Given as goal
 
 abbrev pub invariant-show_next_parts-loop-next : goal.invariant-show_next_parts-loop-next

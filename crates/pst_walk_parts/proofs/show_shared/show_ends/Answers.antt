@@ -1,7 +1,7 @@
 use Rattle.std.proofs.Common.{arith, ◌≡◌, OnOk, List, sym, subst}
 use Rattle.std.proofs.lemmas.Grind.{common_steps}
 use Rattle.std.specs.List.{fold}
-use Rattle.pst_scope.specs.Uses.{Use}
+use Rattle.pst_ast.specs.Uses.{Use}
 use Rattle.pst_walk_parts.proofs.ExpressionRows.{ends_uses_are}
 use Rattle.pst_walk_parts.proofs.Folds.{fold_append}
 use Rattle.pst_walk_parts.proofs.show_shared.show_ends.Goals as goal

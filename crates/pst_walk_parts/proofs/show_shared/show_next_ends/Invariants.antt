@@ -1,7 +1,7 @@
 use Rattle.std.proofs.Common.{◌≡◌, drop}
 use Rattle.std.specs.List.{flat_map, fold}
 use Rattle.pst_ast.specs.ExpressionView.{view_range}
-use Rattle.pst_scope.specs.Uses.{end_uses}
+use Rattle.pst_ast.specs.Uses.{end_uses}
 use Rattle.pst_walk_parts.proofs.show_shared.show_next_ends.Given as goal
 
 abbrev pub invariant-loop-next : goal.invariant-loop-next

@@ -1,8 +1,8 @@
 use Rattle.std.proofs.Common.{◌≡◌, drop, map}
 use Rattle.std.specs.List.{flat_map, fold}
 use Rattle.pst_ast.specs.DeclarationView.{view_next_field}
-use Rattle.pst_scope.specs.Declarations.{next_field_part}
-use Rattle.pst_scope.specs.Uses.{size_of_part}
+use Rattle.pst_ast.specs.Declarations.{next_field_part}
+use Rattle.pst_ast.specs.Uses.{size_of_part}
 use Rattle.pst_walk_parts.proofs.show_shared.show_next_sizes.Given as goal
 
 abbrev pub invariant-loop-next : goal.invariant-loop-next

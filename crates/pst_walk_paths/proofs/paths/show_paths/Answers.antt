@@ -1,6 +1,6 @@
 use Rattle.std.proofs.Common.{◌≡◌, refl, ap, ◌∙◌}
 use Rattle.pst_ast.specs.ExpressionView.{view_expr}
-use Rattle.pst_scope.specs.Uses.{expr_uses}
+use Rattle.pst_ast.specs.Uses.{expr_uses}
 use Rattle.pst_walk_paths.specs.Shown.{by_paths}
 use Rattle.pst_walk_paths.specs.declared.paths.Paths.{Paths}
 use Rattle.pst_walk_paths.proofs.Others.{carried}

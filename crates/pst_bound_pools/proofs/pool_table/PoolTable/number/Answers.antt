@@ -2,7 +2,7 @@ use Rattle.std.proofs.Common.{rules, ◌≡◌, List, subst, sym, ap, ◌∙◌}
 use Rattle.std.specs.Prelude.{ℕ, position}
 use Rattle.std.specs.HashMap.{get}
 use Rattle.std.proofs.lemmas.Iterator.Adapters.{position_from-zero}
-use Rattle.pst_scope.specs.declared.declaration.Declaration.{Declaration}
+use Rattle.pst_ast.specs.declared.scope_declaration.Declaration.{Declaration}
 use Rattle.pst_bound_pools.specs.declared.pool_table.PoolKey.{PoolKey}
 use Rattle.pst_bound_pools.specs.ListedPools.{pool_key, is_pool_at, same_pool, view_pools}
 use Rattle.pst_bound_pools.proofs.pool_table.PoolTable.number.Goals as goal

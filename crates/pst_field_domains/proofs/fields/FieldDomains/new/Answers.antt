@@ -4,7 +4,7 @@ use Rattle.pst_ast.specs.DeclarationView.{view_unit}
 use Rattle.pst_ast.specs.declared.declaration.Unit.{Unit}
 use Rattle.pst_evaluate.specs.Kept.{known_in}
 use Rattle.pst_evaluate.specs.Settled.{AreItemValues}
-use Rattle.pst_scope.specs.Declarations.{declarations}
+use Rattle.pst_ast.specs.Declarations.{declarations}
 use Rattle.pst_field_domains.proofs.fields.FieldDomains.new.Goals as goal
 
 pub item_values-requires : goal.item_values-requires

@@ -1,5 +1,5 @@
 use Rattle.std.proofs.Common.{◌≡◌, ◌++◌, drop, map}
-use Rattle.pst_scope.specs.Uses.{Ties}
+use Rattle.pst_ast.specs.Uses.{Ties}
 use Rattle.pst_type_rules.specs.Binds.{pairs_of}
 use Rattle.pst_handle_uses.specs.Handled.{tied}
 use Rattle.pst_handle_uses.proofs.visitor.HandleUses.keep_next_ties.Given as goal

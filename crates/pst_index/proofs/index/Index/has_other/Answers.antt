@@ -2,9 +2,9 @@ use Rattle.std.proofs.Common.{rules, ◌≡◌, true, false, List, Option, sym, 
 use Rattle.std.specs.HashMap.{get}
 use Rattle.std.specs.Prelude.{Some}
 use Rattle.std.specs.List.{find}
-use Rattle.pst_scope.specs.declared.declaration.Declaration.{Declaration}
-use Rattle.pst_scope.specs.Sorts.{same_scope}
-use Rattle.pst_scope.specs.Lookups.{item_at}
+use Rattle.pst_ast.specs.declared.scope_declaration.Declaration.{Declaration}
+use Rattle.pst_ast.specs.Sorts.{same_scope}
+use Rattle.pst_ast.specs.Lookups.{item_at}
 use Rattle.pst_index.specs.declared.key.Key.{Key}
 use Rattle.pst_index.specs.Found.{same_key, is_other_item, is_item_beside}
 use Rattle.pst_index.specs.Keys.{name_key}

@@ -1,7 +1,7 @@
 use Rattle.std.proofs.Common.{rules, ◌≡◌, List, subst, ap, ◌∙◌}
 use Rattle.std.specs.HashMap.{get}
-use Rattle.pst_scope.specs.declared.declaration.Declaration.{Declaration}
-use Rattle.pst_scope.specs.Lookups.{look_up}
+use Rattle.pst_ast.specs.declared.scope_declaration.Declaration.{Declaration}
+use Rattle.pst_ast.specs.Lookups.{look_up}
 use Rattle.pst_index.specs.declared.key.Key.{Key}
 use Rattle.pst_index.specs.Found.{same_key}
 use Rattle.pst_index.specs.Keys

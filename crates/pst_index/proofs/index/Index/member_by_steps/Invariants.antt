@@ -1,6 +1,6 @@
 use Rattle.std.proofs.Common.{◌≡◌}
 use Rattle.std.specs.Option.{option_and_then}
-use Rattle.pst_scope.specs.Lookups.{member_of, member_within}
+use Rattle.pst_ast.specs.Lookups.{member_of, member_within}
 use Rattle.pst_index.proofs.index.Index.member_by_steps.Given as goal
 
 abbrev pub invariant-loop-at : goal.invariant-loop-at

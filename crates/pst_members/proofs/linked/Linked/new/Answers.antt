@@ -1,7 +1,7 @@
 use Rattle.std.proofs.Common.{List, take, sym, subst, arith}
 use Rattle.std.specs.HashMap.{get}
 use Rattle.std.proofs.lemmas.List.{take_more, take_all}
-use Rattle.pst_scope.specs.declared.declaration.Declaration.{Declaration}
+use Rattle.pst_ast.specs.declared.scope_declaration.Declaration.{Declaration}
 use Rattle.pst_members.specs.Keys.{same_key}
 use Rattle.pst_members.specs.Links.{IsLinked}
 use Rattle.pst_members.proofs.Linking.{linked_on}

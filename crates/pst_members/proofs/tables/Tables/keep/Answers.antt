@@ -1,7 +1,7 @@
 use Rattle.std.proofs.Common.{◌≡◌, Bool, true, false, Option, cond, sym, ◌∙◌, refl, subst}
 use Rattle.std.specs.Prelude.{Some, Result, Ok, Err, OnOk, OnErr}
 use Rattle.std.specs.HashMap.{get}
-use Rattle.pst_scope.specs.declared.declaration.Scope.TheVariants.{Part}
+use Rattle.pst_ast.specs.declared.scope_declaration.Scope.TheVariants.{Part}
 use Rattle.pst_members.specs.declared.key.ScopeKey.{ScopeKey}
 use Rattle.pst_members.specs.declared.tables.Table.{Table}
 use Rattle.pst_members.specs.Keys.{same_key, scope_key}

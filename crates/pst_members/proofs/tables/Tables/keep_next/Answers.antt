@@ -2,7 +2,7 @@ use Rattle.std.proofs.Common.{◌≡◌, get_or, sym, ◌∙◌, refl, Option, l
 use Rattle.std.specs.Prelude.{Some, ◌-◌, if◌then◌else◌}
 use Rattle.std.specs.HashMap.{get}
 use Rattle.std.proofs.lemmas.Option.{slice_get-get_or}
-use Rattle.pst_scope.specs.declared.declaration.Scope.TheVariants.{Part}
+use Rattle.pst_ast.specs.declared.scope_declaration.Scope.TheVariants.{Part}
 use Rattle.pst_members.specs.declared.key.ScopeKey.{ScopeKey}
 use Rattle.pst_members.specs.declared.tables.Table.{Table}
 use Rattle.pst_members.specs.Keys.{same_key, scope_key}

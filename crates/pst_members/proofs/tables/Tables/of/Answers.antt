@@ -1,5 +1,5 @@
 use Rattle.pst_members.proofs.Tabled.{is_right}
-use Rattle.pst_scope.specs.declared.declaration.Scope.TheVariants.{Part}
+use Rattle.pst_ast.specs.declared.scope_declaration.Scope.TheVariants.{Part}
 use Rattle.pst_members.specs.Keys.{scope_key}
 use Rattle.pst_members.proofs.tables.Tables.of.Goals as goal
 

@@ -1,6 +1,6 @@
 use Rattle.std.proofs.Common.{◌≡◌, OnOk, sym, subst}
 use Rattle.pst_ast.specs.SharedView.{view_names}
-use Rattle.pst_scope.specs.Uses.{labels_in}
+use Rattle.pst_ast.specs.Uses.{labels_in}
 use Rattle.pst_walk_parts.specs.Shown.{view_statements}
 use Rattle.pst_named_items.specs.Named.{Named}
 use Rattle.pst_named_items.proofs.Others.{joins_are_none}

@@ -1,6 +1,6 @@
 use Rattle.std.proofs.Common.{◌≡◌, drop, map}
 use Rattle.std.specs.List.{fold}
-use Rattle.pst_scope.specs.Uses.{Joins, labels_in}
+use Rattle.pst_ast.specs.Uses.{Joins, labels_in}
 use Rattle.pst_walk_parts.specs.Shown.{view_statements}
 use Rattle.pst_names.specs.Judged.{judged}
 use Rattle.pst_names.proofs.judge.Judge.judge_next.Given as goal

@@ -1,5 +1,5 @@
 use Rattle.std.proofs.Common.{◌≡◌, ◌++◌, drop}
-use Rattle.pst_scope.specs.Scopes.{along_meant}
+use Rattle.pst_ast.specs.Scopes.{along_meant}
 use Rattle.pst_names.proofs.judge.Judge.mean_along.Given as goal
 
 abbrev pub invariant-loop-name : goal.invariant-loop-name

@@ -1,5 +1,5 @@
 use Rattle.std.proofs.Common.{◌≡◌, ◌++◌, ◌∷◌, [], drop, map}
-use Rattle.pst_scope.specs.Scopes.{meant_each}
+use Rattle.pst_ast.specs.Scopes.{meant_each}
 use Rattle.pst_names.proofs.judge.Judge.mean_path.Given as goal
 
 abbrev pub invariant-loop-referent : goal.invariant-loop-referent

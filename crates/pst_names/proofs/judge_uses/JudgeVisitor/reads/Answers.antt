@@ -1,8 +1,8 @@
 use Rattle.std.proofs.Common.{◌≡◌, OnOk, List, map, subst, ◌∙◌}
 use Rattle.pst_ast.specs.ExpressionView.{view_next_part}
 use Rattle.pst_walk_parts.specs.Shown.{dotted_part}
-use Rattle.pst_scope.specs.declared.referent.PathPart.{PathPart}
-use Rattle.pst_scope.specs.Uses.{Reads}
+use Rattle.pst_ast.specs.declared.referent.PathPart.{PathPart}
+use Rattle.pst_ast.specs.Uses.{Reads}
 use Rattle.pst_names.specs.Judged.{judged}
 use Rattle.pst_names.proofs.judge_uses.JudgeVisitor.reads.Goals as goal
 

@@ -1,7 +1,7 @@
 use Rattle.std.proofs.Common.{◌≡◌, OnOk, List, subst, ◌∙◌}
-use Rattle.pst_scope.specs.Uses.{plain_part}
-use Rattle.pst_scope.specs.declared.referent.PathPart.{PathPart}
-use Rattle.pst_scope.specs.Uses.{Repeats}
+use Rattle.pst_ast.specs.Uses.{plain_part}
+use Rattle.pst_ast.specs.declared.referent.PathPart.{PathPart}
+use Rattle.pst_ast.specs.Uses.{Repeats}
 use Rattle.pst_names.specs.Judged.{judged}
 use Rattle.pst_names.proofs.judge_uses.JudgeVisitor.repeats.Goals as goal
 

@@ -1,7 +1,7 @@
 use Rattle.std.proofs.Common.{ℕ, sym, ap, ◌∙◌, Option}
 use Rattle.std.specs.Option.{option_and_then}
 use Rattle.pst_base.specs.declared.position.Place.{Place}
-use Rattle.pst_scope.specs.Scopes.{numbered, rank_in}
+use Rattle.pst_ast.specs.Scopes.{numbered, rank_in}
 use Rattle.pst_numbers.proofs.numbering.Numbers.of_member.Goals as goal
 
 pub returns : goal.returns

@@ -1,7 +1,7 @@
 use Rattle.std.proofs.Common.{sym}
 use Rattle.pst_ast.specs.SharedView.{view_names}
-use Rattle.pst_scope.specs.Declarations.{names_of}
-use Rattle.pst_scope.specs.Uses.{labels_in}
+use Rattle.pst_ast.specs.Declarations.{names_of}
+use Rattle.pst_ast.specs.Uses.{labels_in}
 use Rattle.pst_walk_parts.specs.Shown.{view_statements}
 use Rattle.pst_pool_binds.proofs.Collected.{joins_are_none}
 use Rattle.pst_pool_binds.proofs.bind_targets.BindVisitorVisitor.joins.Goals as goal

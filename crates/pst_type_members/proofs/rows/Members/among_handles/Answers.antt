@@ -1,8 +1,8 @@
 use Rattle.std.proofs.Common.{List, subst}
 use Rattle.std.specs.Prelude.{IfSome}
-use Rattle.pst_inherited.specs.Needed.{needs_within}
-use Rattle.pst_scope.specs.Sorts.{is_handle}
-use Rattle.pst_scope.specs.declared.declaration.Declaration.{Declaration}
+use Rattle.pst_tree.specs.Needed.{needs_within}
+use Rattle.pst_ast.specs.Sorts.{is_handle}
+use Rattle.pst_ast.specs.declared.scope_declaration.Declaration.{Declaration}
 use Rattle.pst_type_members.specs.Among.{IsAmong}
 use Rattle.pst_type_members.proofs.rows.Members.among_handles.Goals as goal
 

@@ -1,7 +1,7 @@
 use Rattle.std.proofs.Common.{arith}
 use Rattle.std.specs.List.{flat_map}
-use Rattle.pst_inherited.specs.Bases
-use Rattle.pst_inherited.specs.Needed.{needs_within}
+use Rattle.pst_tree.specs.Bases
+use Rattle.pst_tree.specs.Needed.{needs_within}
 use Rattle.pst_type_members.specs.Listed.{is_of}
 use Rattle.pst_type_members.proofs.Rowed.{blank}
 use Rattle.pst_type_members.proofs.Standing.{found_here, found_behind}

@@ -1,5 +1,5 @@
 use Rattle.std.proofs.Common.{List, ap, ◌∙◌}
-use Rattle.pst_scope.specs.declared.declaration.Declaration.{Declaration}
+use Rattle.pst_ast.specs.declared.scope_declaration.Declaration.{Declaration}
 use Rattle.pst_type_members.specs.Keyed.{scope_key, members_at}
 use Rattle.pst_type_members.proofs.rows.Members.own.Goals as goal
 

@@ -2,8 +2,8 @@ use Rattle.std.proofs.Common.{◌∙◌, ap, ℕ, List, ◌∷◌}
 use Rattle.std.specs.Prelude.{map}
 use Rattle.pst_ast.specs.ActivityTree.{ArmLabelTree}
 use Rattle.pst_ast.specs.ActivityView.{view_arm}
-use Rattle.pst_scope.specs.declared.declaration.Declaration.{Declaration}
-use Rattle.pst_scope.specs.Uses.{arm_label}
+use Rattle.pst_ast.specs.declared.scope_declaration.Declaration.{Declaration}
+use Rattle.pst_ast.specs.Uses.{arm_label}
 use Rattle.pst_evaluate.specs.Kept.{Kept, known_in}
 use Rattle.pst_range_rules.specs.Found.{arms_found}
 use Rattle.pst_typed_uses.specs.Judged.{with_found}

@@ -1,6 +1,6 @@
 use Rattle.std.proofs.Common.{refl}
 use Rattle.pst_ast.specs.SharedView.{view_names}
-use Rattle.pst_scope.specs.Uses.{labels_in}
+use Rattle.pst_ast.specs.Uses.{labels_in}
 use Rattle.pst_walk_parts.specs.Shown.{view_statements}
 use Rattle.pst_walk_paths.proofs.Others.{joins_stay}
 use Rattle.pst_typed_uses.specs.Judged.{judged}

@@ -1,5 +1,0 @@
-use Rattle.pst_constants.proofs.OneValue.{value_is_one}
-use Rattle.pst_constants.proofs.laws.expressions_have_one_value.Goals as goal
-
-pub returns : goal.returns
-returns c = value_is_one

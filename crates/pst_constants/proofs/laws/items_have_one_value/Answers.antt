@@ -1,5 +1,0 @@
-use Rattle.pst_constants.proofs.OneValue.{item_value_is_one}
-use Rattle.pst_constants.proofs.laws.items_have_one_value.Goals as goal
-
-pub returns : goal.returns
-returns c = item_value_is_one

@@ -1,4 +1,0 @@
-pub mod Declared
-pub mod Found
-pub mod Needing
-pub mod ContentFound

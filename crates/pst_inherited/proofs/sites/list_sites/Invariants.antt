@@ -1,8 +1,0 @@
-use Rattle.std.proofs.Common.{◌≡◌, ◌++◌, drop, map}
-use Rattle.pst_ast.specs.DeclarationView.{view_unit}
-use Rattle.pst_type_rules.specs.Sites.{actions}
-use Rattle.pst_inherited.specs.Found.{site_of}
-use Rattle.pst_inherited.proofs.sites.list_sites.Given as goal
-
-abbrev pub invariant-loop-unit : goal.invariant-loop-unit
-invariant-loop-unit l = l.found.items ++ map site_of (actions (map view_unit (drop l.unit-index l.units))) ≡ map site_of (actions (map view_unit l.units))

@@ -1,4 +1,0 @@
-pub mod Goes
-pub mod Readers
-pub mod Read
-pub mod Counts

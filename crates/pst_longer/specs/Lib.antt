@@ -1,3 +1,0 @@
-pub mod Goes
-pub mod StepsOf
-pub mod Laws

@@ -1,9 +1,0 @@
-use Rattle.std.proofs.Common.{◌≡◌, ◌∷◌, [], drop}
-use Rattle.pst_scope.specs.Paths
-use Rattle.pst_meaning.specs.Fitting.{fits_of}
-use Rattle.pst_meaning.proofs.paths.behind.Given as goal
-
-abbrev pub invariant-loop-next : goal.invariant-loop-next
-invariant-loop-next l =
-    Paths.behind l.index l.names (fits_of l.what) l.before.items l.head l.part (drop l.next-index l.rest)
-    ≡ Paths.behind l.index l.names (fits_of l.what) (l.fn.first ∷ []) l.fn.first l.fn.second l.rest

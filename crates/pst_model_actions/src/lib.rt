@@ -1,6 +1,0 @@
-//! The action types of a model.
-#![tactic(auto)]
-
-mod actions;
-
-pub use actions::model_actions;

@@ -1,4 +1,0 @@
-pub mod Onward
-pub mod Known
-pub mod Refused
-pub mod Laws

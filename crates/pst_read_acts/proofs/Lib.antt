@@ -1,4 +1,0 @@
-pub mod Comes
-pub mod Pooled
-pub mod Whole
-pub mod Joined

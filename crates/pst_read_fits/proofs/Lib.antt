@@ -1,9 +1,0 @@
-pub mod Ways
-pub mod Went
-pub mod Keeps
-pub mod Filled
-pub mod Fresh
-pub mod Served
-pub mod Back
-pub mod Come
-pub mod Fit

@@ -1,5 +1,0 @@
-use Rattle.pst_read_fits.proofs.Fit.{whole_fits}
-use Rattle.pst_read_fits.proofs.laws.whole_readings_fit.Goals as goal
-
-pub returns : goal.returns
-returns c = whole_fits c.domains_list_values.ensures

@@ -1,5 +1,0 @@
-pub mod Ways
-pub mod Kids
-pub mod Tree
-pub mod Whole
-pub mod Handles

@@ -1,5 +1,0 @@
-use Rattle.pst_read_nodes.proofs.Handles.{handles_typed}
-use Rattle.pst_read_nodes.proofs.laws.handles_have_their_types.Goals as goal
-
-pub returns : goal.returns
-returns c = handles_typed c.nodes_stand_for_pieces.ensures.pieces

@@ -1,4 +1,0 @@
-pub mod Sorted
-pub mod Turns
-pub mod Came
-pub mod Numbers

@@ -1,4 +1,0 @@
-pub mod Nodes
-pub mod Links
-pub mod Values
-pub mod Longer

@@ -1,2 +1,0 @@
-pub mod NodeKinds
-pub mod Shapes

@@ -1,5 +1,0 @@
-use Rattle.pst_refusals_stay.proofs.Barren.{are_live}
-use Rattle.pst_refusals_stay.proofs.laws.beginnings_are_live.Goals as goal
-
-pub returns : goal.returns
-returns c = are_live c.dead_stays_dead.ensures c.refused_lists_are_barren.ensures

@@ -1,4 +1,0 @@
-pub mod Least
-pub mod Ordered
-mod SmallTried
-mod MembersTried

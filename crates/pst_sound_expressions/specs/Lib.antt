@@ -1,4 +1,0 @@
-pub mod Blocks
-pub mod Used
-pub mod Conditions
-pub mod Laws

@@ -1,9 +1,0 @@
-use Rattle.pst_sound_expressions.proofs.Members.{from_contains}
-use Rattle.pst_sound_names.proofs.Named.{member_named}
-use Rattle.pst_scope.specs.Declarations.{declarations}
-use Rattle.pst_inherited.specs.Bases.{members}
-use Rattle.pst_sound_names.proofs.laws.members_are_found.Goals as goal
-
-pub returns : goal.returns
-returns c = λ units names own right type d there has.
-    member_named units names own right type d (from_contains (declarations units) type there.0 there.1 there.2) (from_contains (members (declarations units) type) d has.0 has.1 has.2)

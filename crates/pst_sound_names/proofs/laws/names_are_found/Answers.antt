@@ -1,7 +1,0 @@
-use Rattle.pst_sound_expressions.proofs.Members.{from_contains}
-use Rattle.pst_sound_names.proofs.Named.{name_found}
-use Rattle.pst_scope.specs.Declarations.{declarations}
-use Rattle.pst_sound_names.proofs.laws.names_are_found.Goals as goal
-
-pub returns : goal.returns
-returns c = λ units names own right d there. name_found units names own right d (from_contains (declarations units) d there.0 there.1 there.2)

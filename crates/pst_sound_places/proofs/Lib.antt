@@ -1,4 +1,0 @@
-pub mod Laid
-pub mod Texts
-pub mod Places
-pub mod Units

@@ -1,5 +1,0 @@
-use Rattle.pst_sound_places.proofs.Units.{units_rise}
-use Rattle.pst_sound_places.proofs.laws.tokens_of_units_rise.Goals as goal
-
-pub returns : goal.returns
-returns c = λ texts names tokens units are wholes. units_rise c.tokens_are_in_order.ensures c.tokens_belong.ensures names texts tokens units are wholes

@@ -1,6 +1,0 @@
-pub mod Tally
-pub mod Texts
-pub mod Numbers
-pub mod Traversing
-pub mod Judged
-pub mod Constraints

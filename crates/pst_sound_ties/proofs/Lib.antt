@@ -1,3 +1,0 @@
-pub mod Binds
-pub mod Ends
-pub mod Ties

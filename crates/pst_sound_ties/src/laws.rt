@@ -1,8 +1,0 @@
-//! Laws of the definitions: each function here does nothing, and its contract is a law.
-ghost use Rattle.pst_sound_ties.specs.Laws.{TiesAreSound};
-
-/// In the model of sources that keep the rules, each bind of each activity is sound, and no two of
-/// them bind one input, or one output of a stream.
-pub fn ties_are_sound()
-    ensures { TiesAreSound }
-{}

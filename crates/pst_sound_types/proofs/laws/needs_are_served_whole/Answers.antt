@@ -1,5 +1,0 @@
-use Rattle.pst_sound_types.proofs.ServedWhole.{needs_served}
-use Rattle.pst_sound_types.proofs.laws.needs_are_served_whole.Goals as goal
-
-pub returns : goal.returns
-returns c = needs_served c.instances_are_one.ensures c.needs_are_served.ensures

@@ -1,5 +1,0 @@
-pub mod Children
-pub mod Found
-pub mod Kept
-pub mod Listed
-mod Whole

@@ -1,3 +1,0 @@
-pub mod Stated
-pub mod Listed
-pub mod Laws

@@ -1,4 +1,0 @@
-mod Arena
-mod Halves
-mod Kept
-mod Parting

@@ -1,5 +1,0 @@
-use Rattle.std.proofs.Common.{◌+◌}
-use Rattle.pst_versions.proofs.versions.Versions.+part.Given as goal
-
-abbrev pub decreases-part : goal.decreases-part
-decreases-part l = l.key + l.other

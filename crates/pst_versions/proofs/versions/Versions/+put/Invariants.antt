@@ -1,4 +1,0 @@
-use Rattle.pst_versions.proofs.versions.Versions.+put.Given as goal
-
-abbrev pub decreases-put : goal.decreases-put
-decreases-put l = l.at

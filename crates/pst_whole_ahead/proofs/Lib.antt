@@ -1,4 +1,0 @@
-pub mod Same
-pub mod Blanks
-pub mod Options
-pub mod Ahead
