@@ -1,3 +1,3 @@
 mod Legality
-mod Runs
+pub mod Runs
 mod Owed

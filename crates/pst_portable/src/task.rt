@@ -23,12 +23,16 @@ fn work_of(line: &Line<'_>) -> Work
     ensures { IsWork line.now.command (map string_bytes line.now.arguments.now) result }
 {
     match line.command {
-        Command::Run => on_lanes(lanes_given(line), Work::Run),
+        Command::Run => {
+            let lanes = lanes_given(line);
+            on_lanes(lanes, Work::Run { lanes })
+        }
         Command::Solve => Work::Solve,
         Command::Check => Work::Check,
         Command::Gen => {
             let size = size_given(line);
-            on_lanes(lanes_given(line), Work::Generate { size })
+            let lanes = lanes_given(line);
+            on_lanes(lanes, Work::Generate { size, lanes })
         }
         Command::Static => Work::Unbuilt,
         Command::Place => Work::Unbuilt,
