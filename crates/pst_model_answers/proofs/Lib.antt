@@ -1,3 +1,3 @@
-mod Legality
+pub mod Legality
 pub mod Runs
-mod Owed
+pub mod Owed
