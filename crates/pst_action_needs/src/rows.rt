@@ -121,7 +121,7 @@ pub fn walked(
 
 // Whether an action type is compound, behind a base that is or isn't.
 fn is_compound_behind(sites: &Sites, base: bool, action: &Declaration) -> bool
-    ensures { result ≡ Found.after base (Found.own_sort sites.now action.now) }
+    ensures { result ≡ InheritedFound.after base (InheritedFound.own_sort sites.now action.now) }
 {
     match sites.at(action.name.place) {
         None => base,

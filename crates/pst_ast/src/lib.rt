@@ -1,7 +1,7 @@
-//! Syntax trees of the whole grammar, and their laws.
-//!
-//! What the sources declare, what a name stands for where it is used, and which rules of names are
-//! broken: definitions on syntax trees.
+//! Syntax trees of the whole grammar, and what they mean on their own: what the sources declare,
+//! what a name stands for where it is used, and which rules of names are broken. Each law is the
+//! contract of a function that does nothing; a caller that needs a law in a proof calls its
+//! function.
 #![tactic(auto)]
 
 mod activity;

@@ -1,37 +1,8 @@
-//! Laws of scenarios, most of them of those that lists of choices read whole.
-//!
-//! Each law is the contract of a function that does nothing. A caller that needs a law in a proof
-//! calls its function.
-//!
-//! What lists of choices read fits the model.
-//!
-//! Each law is the contract of a function that does nothing. A caller that needs a law in a proof
-//! calls its function.
-//!
-//! What is known stays as a list of choices grows.
-//!
-//! The law is the contract of a function that does nothing. A caller that needs it in a proof calls
-//! the function.
-//!
-//! What of the order of a scenario stays as a list of choices grows.
-//!
-//! Each law is the contract of a function that does nothing. A caller that needs a law in a proof
-//! calls its function.
-//!
-//! How longer lists of choices are read.
-//!
-//! Each law is the contract of a function that does nothing. A caller that needs a law in a proof
-//! calls its function.
-//!
-//! Every legal scenario is read: some list of choices leads to it, whatever the seed is.
-//!
-//! Each law is the contract of a function that does nothing. A caller that needs a law in a proof
-//! calls its function.
-//!
-//! What becomes of what is known as a scenario is read further: bounds only narrow.
-//!
-//! The law is the contract of a function that does nothing. A caller that needs it in a proof calls
-//! the function.
+//! Laws of scenarios as lists of choices read them. What a list reads whole is a scenario that fits
+//! the model, and every legal scenario is read by some list, whatever the seed is. Longer lists go
+//! on where a shorter one ends: what was read, known and refused stays, the order of what was
+//! placed stays, and bounds only narrow. Each law is the contract of a function that does nothing;
+//! a caller that needs a law in a proof calls its function.
 #![tactic(auto)]
 
 mod forms;

@@ -1,6 +1,5 @@
-//! Look-ups among what the sources declare, none of which goes through the list of declarations.
-//!
-//! What names and paths of names stand for where they are used.
+//! Look-ups among what the sources declare, none of which goes through the list of declarations,
+//! and what names and paths of names stand for where they are used.
 #![tactic(auto)]
 
 mod bases;

@@ -12,9 +12,9 @@ use Rattle.pst_ast.specs.declared.scope_declaration.Sort.{Sort}
 use Rattle.pst_ast.specs.declared.scope_declaration.Sort.TheVariants as sort
 use Rattle.pst_base.specs.contracts.position.PlacePartialEq.TheImpl as place
 use Rattle.pst_ast.specs.contracts.leaf.NamePartialEq.TheImpl as name
-use Rattle.pst_ast.specs.contracts.declaration.ScopePartialEq.TheImpl as scope
-use Rattle.pst_ast.specs.contracts.declaration.SortPartialEq.TheImpl as sorts
-use Rattle.pst_ast.specs.contracts.declaration.DeclarationPartialEq.TheImpl as declaration
+use Rattle.pst_ast.specs.contracts.scope_declaration.ScopePartialEq.TheImpl as scope
+use Rattle.pst_ast.specs.contracts.scope_declaration.SortPartialEq.TheImpl as sorts
+use Rattle.pst_ast.specs.contracts.scope_declaration.DeclarationPartialEq.TheImpl as declaration
 use Rattle.pst_ast.specs.contracts.shared.TypeNamePartialEq.TheImpl as type_name
 use Rattle.pst_ast.specs.contracts.shared.ScopedNamePartialEq.TheImpl as scoped
 use Rattle.pst_ast.specs.contracts.declaration.ObjectWordPartialEq.TheImpl as word

@@ -1,6 +1,5 @@
-//! Members of actions with their bases', each found at once however many bases there are.
-//!
-//! Maps from numbers to numbers of which every earlier state can still be read.
+//! Members of actions with their bases', each found at once however many bases there are, by maps
+//! from numbers to numbers of which every earlier state can still be read.
 #![tactic(auto)]
 
 mod key;

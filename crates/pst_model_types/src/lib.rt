@@ -1,6 +1,4 @@
-//! The object types of a model, and the constraints of action types.
-//!
-//! The action types of a model.
+//! The object types and the action types of a model, with the constraints of both.
 #![tactic(auto)]
 
 mod action;

@@ -1,33 +1,8 @@
-//! What is known of whatever a list of choices has read lies in its domains, and what is refused there
-//! stays refused.
-//!
-//! Each law is the contract of a function that does nothing. A caller that needs a law in a proof
-//! calls its function.
-//!
-//! Behind the sources each list of choices goes on to one that is read whole.
-//!
-//! Each law is the contract of a function that does nothing. A caller that needs a law in a proof
-//! calls its function.
-//!
-//! What is refused of a list of choices stays refused.
-//!
-//! Each law is the contract of a function that does nothing. A caller that needs a law in a proof
-//! calls its function.
-//!
-//! The values of compound actions while a scenario is read.
-//!
-//! The law is the contract of a function that does nothing. A caller that needs it in a proof calls
-//! the function.
-//!
-//! What actions and links are in whatever a list of choices has read.
-//!
-//! Each law is the contract of a function that does nothing. A caller that needs a law in a proof
-//! calls its function.
-//!
-//! What the nodes of a scenario stand for while it is read.
-//!
-//! Each law is the contract of a function that does nothing. A caller that needs a law in a proof
-//! calls its function.
+//! What is known of whatever a list of choices has read lies in its domains, and what is refused
+//! there stays refused: what nodes, actions, links and values of compound actions are while a
+//! scenario is read, and that behind the sources each list goes on to one that is read whole. Each
+//! law is the contract of a function that does nothing; a caller that needs a law in a proof calls
+//! its function.
 #![tactic(auto)]
 
 mod laws;

@@ -1,17 +1,7 @@
-//! When a scenario that a list of choices reads whole is legal.
-//!
-//! Each law is the contract of a function that does nothing. A caller that needs a law in a proof
-//! calls its function.
-//!
-//! How the inferred actions of scenarios that are read whole are numbered.
-//!
-//! The law is the contract of a function that does nothing. A caller that needs it in a proof calls
-//! the function.
-//!
-//! Scenarios that fit a model fit it in shape.
-//!
-//! Each law is the contract of a function that does nothing. A caller that needs a law in a proof
-//! calls its function.
+//! When a scenario that a list of choices reads whole is legal: one that fits the model fits it in
+//! shape, its inferred actions are numbered as the choices made them, and it is legal where its
+//! constraints hold and it has a plan. Each law is the contract of a function that does nothing; a
+//! caller that needs a law in a proof calls its function.
 #![tactic(auto)]
 
 mod laws;

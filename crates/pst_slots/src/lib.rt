@@ -1,12 +1,6 @@
-//! What the slots of a scenario's constraints stand for.
-//!
-//! Each law is the contract of a function that does nothing. A caller that needs a law in a proof
-//! calls its function.
-//!
-//! The statement that a node of a scenario stands for, and the list of a scenario's constraints.
-//!
-//! Each law is the contract of a function that does nothing. A caller that needs a law in a proof
-//! calls its function.
+//! What the slots of a scenario's constraints stand for, which statement each node of a scenario
+//! stands for, and the list of a scenario's constraints. Each law is the contract of a function
+//! that does nothing; a caller that needs a law in a proof calls its function.
 #![tactic(auto)]
 
 mod laws;

@@ -1,26 +1,9 @@
-//! The model of the sources is sound.
-//!
-//! The root of the model of the sources isn't abstract.
-//!
-//! The bodies of the model of sources are sound.
-//!
-//! The binds of activities of the model of sources are sound.
-//!
-//! The steps of activities of the model of sources are sound.
-//!
-//! Names of sources are declared at places of their own.
-//!
-//! What pools serve in the model of sources is sound.
-//!
-//! The constraints of action types of the model of sources are sound.
-//!
-//! The activities of the model of sources are sound.
-//!
-//! What the names of sources stand for where they are declared.
-//!
-//! The types of the model of sources are sound, and so is what pools serve.
-//!
-//! The expressions of the model of sources are sound.
+//! The model of sources that keep the rules and the limits is sound. Names of sources are declared
+//! at places of their own, and stand for what is declared there; from this it follows that object
+//! types, action types with their needs, pools, functions and expressions are sound, so are the
+//! constraints, steps, activities, binds and bodies and what pools serve, and the root isn't
+//! abstract. Each law is the contract of a function that does nothing; a caller that needs a law in
+//! a proof calls its function.
 #![tactic(auto)]
 
 mod laws;

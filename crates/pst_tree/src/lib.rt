@@ -1,6 +1,5 @@
-//! The component instances of the sources.
-//!
-//! What actions have and do with their bases, in order and by number.
+//! The component instances of the sources, and what actions have and do with their bases, in order
+//! and by number.
 #![tactic(auto)]
 
 mod bases;

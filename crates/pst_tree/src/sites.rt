@@ -83,7 +83,7 @@ fn has_body(parts: &[ActionPart]) -> bool
 
 // What an action with these parts does itself.
 fn content_of(parts: &[ActionPart]) -> Option<ContentSort>
-    ensures { result ≡ Found.content_sort (map view_action_part parts.now) }
+    ensures { result ≡ InheritedFound.content_sort (map view_action_part parts.now) }
 {
     if has_activity(parts) {
         Some(ContentSort::Activity)
@@ -189,7 +189,7 @@ fn sites_by_place(
 
 // Whether an action is compound behind a base that does that.
 fn is_compound_after(compound: bool, content: Option<ContentSort>) -> bool
-    ensures { result ≡ Found.after compound content }
+    ensures { result ≡ InheritedFound.after compound content }
 {
     match content {
         Some(ContentSort::Activity) => true,
@@ -210,14 +210,14 @@ impl Sites {
 
     /// The action whose name stands at a place.
     pub fn at(&self, place: Place) -> Option<ActionSite>
-        ensures { result ≡ Found.site_at self.now place }
+        ensures { result ≡ InheritedFound.site_at self.now place }
     {
         self.sites.get(&place_key(place)).copied()
     }
 
     /// Whether an action is declared there that isn't abstract.
     pub fn is_concrete(&self, action: &Declaration) -> bool
-        ensures { result ≡ Found.is_concrete_by self.now action.now }
+        ensures { result ≡ InheritedFound.is_concrete_by self.now action.now }
     {
         match self.at(action.name.place) {
             Some(site) => !site.is_abstract,
@@ -227,7 +227,7 @@ impl Sites {
 
     // What an action does itself.
     fn content(&self, action: &Declaration) -> Option<ContentSort>
-        ensures { result ≡ Found.own_sort self.now action.now }
+        ensures { result ≡ InheritedFound.own_sort self.now action.now }
     {
         match self.at(action.name.place) {
             Some(site) => site.content,
@@ -237,7 +237,7 @@ impl Sites {
 
     /// Whether an action is compound, given the action with its bases, the furthest first.
     pub fn is_compound(&self, bases: &[Declaration]) -> bool
-        ensures { result ≡ Found.compound_from self.now false bases.now }
+        ensures { result ≡ InheritedFound.compound_from self.now false bases.now }
     {
         let mut compound = false;
         for base in bases {

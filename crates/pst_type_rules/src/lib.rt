@@ -1,8 +1,6 @@
-//! The rules of types: which are broken, and the values of constant expressions: definitions on
-//! syntax trees.
-//!
-//! The values of constant expressions, those of enum items, and the domains of types: definitions
-//! on syntax trees.
+//! The rules of types, as definitions on syntax trees: which of them are broken, and what they
+//! stand on, the values of constant expressions and of enum items and the domains of types. Each
+//! law is the contract of a function that does nothing.
 #![tactic(auto)]
 
 mod constants_laws;

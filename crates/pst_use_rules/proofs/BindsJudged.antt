@@ -14,8 +14,8 @@ use Rattle.pst_ast.specs.declared.referent.Checked.{Checked}
 use Rattle.pst_ast.specs.declared.referent.Checked.TheVariants.{Is, Breaks}
 use Rattle.pst_ast.specs.declared.referent.Finding.{Finding}
 use Rattle.pst_ast.specs.declared.referent.Target.{Target}
-use Rattle.pst_ast.specs.contracts.declaration.DeclarationPartialEq.TheImpl as declaration
-use Rattle.pst_ast.specs.contracts.declaration.DeclarationEq.TheImpl.Laws.{laws-law}
+use Rattle.pst_ast.specs.contracts.scope_declaration.DeclarationPartialEq.TheImpl as declaration
+use Rattle.pst_ast.specs.contracts.scope_declaration.DeclarationEq.TheImpl.Laws.{laws-law}
 use Rattle.pst_ast.specs.Declarations.{declarations}
 use Rattle.pst_ast.specs.Lookups.{type_of}
 use Rattle.pst_ast.specs.NameRules.{unless, named_in, target_of}

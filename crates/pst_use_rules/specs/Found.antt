@@ -16,7 +16,7 @@ use Rattle.pst_ast.specs.declared.referent.Finding.{Finding}
 use Rattle.pst_ast.specs.declared.referent.Referent.{Referent}
 use Rattle.pst_ast.specs.declared.referent.Target.{Target}
 use Rattle.pst_ast.specs.declared.referent.Traversal.{Traversal}
-use Rattle.pst_ast.specs.contracts.declaration.DeclarationPartialEq.TheImpl as declaration
+use Rattle.pst_ast.specs.contracts.scope_declaration.DeclarationPartialEq.TheImpl as declaration
 use Rattle.pst_ast.specs.Sorts.{same_name, is_pool, is_resource}
 use Rattle.pst_ast.specs.Lookups.{type_here, type_named, type_of, stands_for, traversed}
 use Rattle.pst_ast.specs.NameRules.{finding, unless, named_in, target_of}

@@ -1,7 +1,7 @@
 use Rattle.std.proofs.Common.{◌∙◌, sym, ap}
 use Rattle.pst_ast.specs.declared.scope_declaration.Declaration.{Declaration}
-use Rattle.pst_ast.specs.contracts.declaration.DeclarationPartialEq.TheImpl as declaration
-use Rattle.pst_ast.specs.contracts.declaration.DeclarationEq.TheImpl.Laws.{laws-law}
+use Rattle.pst_ast.specs.contracts.scope_declaration.DeclarationPartialEq.TheImpl as declaration
+use Rattle.pst_ast.specs.contracts.scope_declaration.DeclarationEq.TheImpl.Laws.{laws-law}
 use Rattle.pst_loops.proofs.Same.{same_declaration}
 use Rattle.pst_loops.proofs.numbers.are_same.Goals as goal
 
