@@ -16,7 +16,7 @@ use Rattle.pst_words.proofs.Given.{given_here, given_later}
 use Rattle.pst_outcome.specs.declared.task.Task.{Task}
 use Rattle.pst_outcome.specs.declared.task.Work.{Work}
 use Rattle.pst_outcome.specs.declared.task.Work.TheVariants as work
-use Rattle.pst_outcome.specs.Tasks.{IsNumberGiven, AreSources, IsWork, FitsLanes, IsSeveral, AreLimits, IsTask, on_lanes}
+use Rattle.pst_outcome.specs.Tasks.{IsNumberGiven, AreSources, IsWork, FitsLanes, IsSeveral, AreLimits, IsTask}
 
 -- ---- numbers
 
@@ -99,13 +99,13 @@ module _ (command : Command) (have : ℕ) (arguments : List (List ℕ)) (each : 
 one_run : (have : ℕ) (arguments : List (List ℕ)) (a b : Work) → All (IsArgument Run have) arguments → IsWork Run arguments a → IsWork Run arguments b → a ≡ b
 one_run have arguments a b each h k =
     let same : h.0 ≡ k.0 = one_number Run have arguments each Lanes 1 h.0 k.0 (lanes have) h.1 k.1 in
-    h.2 ∙ ap (λ (n : ℕ). on_lanes n (work.Run n)) same ∙ sym k.2
+    h.2 ∙ ap (λ (n : ℕ). work.Run n) same ∙ sym k.2
 
 one_generation : (have : ℕ) (arguments : List (List ℕ)) (a b : Work) → All (IsArgument Gen have) arguments → IsWork Gen arguments a → IsWork Gen arguments b → a ≡ b
 one_generation have arguments a b each h k =
     let size : h.0 ≡ k.0 = one_number Gen have arguments each Size 0 h.0 k.0 (sizes have) h.2 k.2 in
     let same : h.1 ≡ k.1 = one_number Gen have arguments each Lanes 1 h.1 k.1 (lanes have) h.3 k.3 in
-    h.4 ∙ ap (λ (n : ℕ). on_lanes n (work.Generate h.0 n)) same ∙ ap (λ (n : ℕ). on_lanes k.1 (work.Generate n k.1)) size ∙ sym k.4
+    h.4 ∙ ap (λ (n : ℕ). work.Generate h.0 n) same ∙ ap (λ (n : ℕ). work.Generate n k.1) size ∙ sym k.4
 
 one_work : (command : Command) (have : ℕ) (arguments : List (List ℕ)) (a b : Work) → All (IsArgument command have) arguments → IsWork command arguments a → IsWork command arguments b → a ≡ b
 one_work Run have arguments a b each h k = one_run have arguments a b each h k
@@ -149,14 +149,10 @@ few_given command have n arguments some few each is = by (value_cases command ha
     by (inr (text, given_is, (k, low, high, small, spells))) =
         let same = is.is_given k small (given_is ∙ ap Some spells) in (omega (arith, same, low), omega (arith, same, high))
 
-on_lanes_fits : (b : Bool) (have : ℕ) (w : Work) → FitsLanes have w → FitsLanes have (if b then w else work.Unbuilt)
-on_lanes_fits true have w fits = fits
-on_lanes_fits false have w fits = tt
-
 -- where so many lanes are there, and at most 16, the lanes of a line's task are there
 pub work_fits : (command : Command) (have : ℕ) (arguments : List (List ℕ)) (w : Work) → 0 < have → have ≤ 16 → All (IsArgument command have) arguments → IsWork command arguments w → FitsLanes have w
-work_fits Run have arguments w some few each h = subst (FitsLanes have) (sym h.2) (on_lanes_fits (nat_eq h.0 1) have (work.Run h.0) (few_given Run have h.0 arguments some few each h.1))
-work_fits Gen have arguments w some few each h = subst (FitsLanes have) (sym h.4) (on_lanes_fits (nat_eq h.1 1) have (work.Generate h.0 h.1) (few_given Gen have h.1 arguments some few each h.3))
+work_fits Run have arguments w some few each h = subst (FitsLanes have) (sym h.2) (few_given Run have h.0 arguments some few each h.1)
+work_fits Gen have arguments w some few each h = subst (FitsLanes have) (sym h.4) (few_given Gen have h.1 arguments some few each h.3)
 work_fits Solve have arguments w some few each h = subst (FitsLanes have) (sym h) tt
 work_fits Check have arguments w some few each h = subst (FitsLanes have) (sym h) tt
 work_fits Static have arguments w some few each h = subst (FitsLanes have) (sym h) tt
@@ -165,14 +161,10 @@ work_fits Sweep have arguments w some few each h = subst (FitsLanes have) (sym h
 
 -- ---- several lanes
 
-only_several : (b : Bool) (w : Work) → IsSeveral (if b then w else work.Unbuilt) → IsSeveral w
-only_several true w several = several
-only_several false w several = absurd several
-
 -- a line that asks for that gives the number
 pub several_given : (command : Command) (arguments : List (List ℕ)) (w : Work) → IsWork command arguments w → IsSeveral w → (count : ℕ) × IsNumberGiven Lanes arguments 1 count × (1 < count)
-several_given Run arguments w h several = (h.0, h.1, only_several (nat_eq h.0 1) (work.Run h.0) (subst IsSeveral h.2 several))
-several_given Gen arguments w h several = (h.1, h.3, only_several (nat_eq h.1 1) (work.Generate h.0 h.1) (subst IsSeveral h.4 several))
+several_given Run arguments w h several = (h.0, h.1, subst IsSeveral h.2 several)
+several_given Gen arguments w h several = (h.1, h.3, subst IsSeveral h.4 several)
 several_given Solve arguments w h several = absurd (subst IsSeveral h several)
 several_given Check arguments w h several = absurd (subst IsSeveral h several)
 several_given Static arguments w h several = absurd (subst IsSeveral h several)

@@ -1,7 +1,8 @@
 -- From what is answered to a request to right answers.
-use Rattle.std.proofs.Common.{◌≡◌, ℕ, ◌-◌, ◌^◌, ◌<◌, ◌≤◌, List, [], ◌∷◌, length, nat_eq, refl, sym, subst, arith}
-use Rattle.std.specs.Prelude.{Option, Result, Ok, Err, IfOk, string_bytes}
+use Rattle.std.proofs.Common.{◌≡◌, ◌∙◌, ℕ, ◌-◌, ◌^◌, ◌<◌, ◌≤◌, List, [], ◌∷◌, length, drop, nat_eq, slice_index_or, slice_set, refl, ap, sym, subst, arith}
+use Rattle.std.specs.Prelude.{Option, Result, Ok, Err, IfOk, IfErr, string_bytes}
 use Rattle.std.specs.List.{count_by}
+use Rattle.std.proofs.lemmas.List.{drop-drop}
 use Rattle.std.proofs.lemmas.List.Sums.{count_by-le-length}
 use Rattle.std.proofs.lemmas.List.Elements.{All-nil, All-cons, All-head}
 use Rattle.pst_base.specs.declared.memory.NoMemory.{NoMemory}
@@ -46,6 +47,10 @@ none_called calls faults [] = All-nil IsUncalled
 none_called calls faults (x ∷ more) =
     All-cons IsUncalled (lane (calls x) (calls x) (faults x) (faults x)) (lanes_told calls faults more more) (record { calls = refl; count = refl }) (none_called calls faults more)
 
+-- lanes behind the first are as they were, and so are those behind the sixteenth
+pub behind_first : {T : Type 0} (was now : List T) → drop 1 now ≡ drop 1 was → drop 16 now ≡ drop 16 was
+behind_first was now same = sym (drop-drop 15 1 now) ∙ ap (drop 15) same ∙ drop-drop 15 1 was
+
 pub one_made : (l : Lane) → HasMade l → HaveMade (l ∷ [])
 one_made l made = All-cons HasMade l [] made (All-nil HasMade)
 
@@ -81,6 +86,29 @@ module _ (l : Lane) (others : List Lane) (none : AreUncalled others) where
   model_beside names m root task trace _ _ fits (IsSpent level sought calm low h) = IsSpent level sought (beside calm) low h
   model_beside names m root task trace _ _ fits (IsFound s plan a t first planned h) = IsFound s plan a t first planned (scenario_beside names m s plan trace task.work a t fits h)
   model_beside names m root task trace _ _ fits (IsUnbuilt is calm) = IsUnbuilt is (beside calm)
+
+-- what is answered on the first of some lanes, once it has been called
+pub first_done : {T : Type 0} (calls : T → Option (List Answered)) (faults : T → ℕ) (lanes : List T) (was now : T) (names : List (List ℕ)) (m : ModelTree) (root : ℕ) (task : Task) (trace : List ℕ) (r : Result Reply NoMemory)
+    → 0 < length lanes → was ≡ slice_index_or lanes 0 was → FitsLanes 1 task.work
+    → IfOk r (λ reply. OfModel names m root task trace (lane (calls was) (calls now) (faults was) (faults now) ∷ []) reply.answer (string_bytes reply.text))
+    → IfOk r (λ reply. OfModel names m root task trace (lanes_told calls faults lanes (slice_set lanes 0 now)) reply.answer (string_bytes reply.text))
+first_done calls faults [] was now names m root task trace r some is fits done = absurd (omega (arith, some))
+first_done calls faults (x ∷ more) was now names m root task trace (Err e) some is fits done = tt
+first_done calls faults (x ∷ more) was now names m root task trace (Ok reply) some is fits done =
+    model_beside (lane (calls x) (calls now) (faults x) (faults now)) (lanes_told calls faults more more) (none_called calls faults more) names m root task trace reply.answer (string_bytes reply.text) fits
+    (subst (λ z. OfModel names m root task trace (lane (calls z) (calls now) (faults z) (faults now) ∷ []) reply.answer (string_bytes reply.text)) is done)
+
+pub first_made : {T E : Type 0} (calls : T → Option (List Answered)) (faults : T → ℕ) (lanes : List T) (was now : T) (r : Result Reply E) → 0 < length lanes → was ≡ slice_index_or lanes 0 was
+    → IfErr r (λ e. HasMade (lane (calls was) (calls now) (faults was) (faults now))) → IfErr r (λ e. HaveMade (lanes_told calls faults lanes (slice_set lanes 0 now)))
+first_made calls faults [] was now r some is made = absurd (omega (arith, some))
+first_made calls faults (x ∷ more) was now (Ok reply) some is made = tt
+first_made calls faults (x ∷ more) was now (Err e) some is made =
+    made_beside (lane (calls x) (calls now) (faults x) (faults now)) (lanes_told calls faults more more) (subst (λ z. HasMade (lane (calls z) (calls now) (faults z) (faults now))) is made) (none_called calls faults more)
+
+-- what holds anyway holds where memory ran out
+pub on_memory : {A E : Type 0} (P : Type 0) (r : Result A E) → P → IfErr r (λ e. P)
+on_memory P (Ok x) p = tt
+on_memory P (Err e) p = p
 
 -- ---- lines
 

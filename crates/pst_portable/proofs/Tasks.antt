@@ -1,13 +1,12 @@
 -- What a line asks for, by its command.
-use Rattle.std.proofs.Common.{◌≡◌, ◌≤◌, ℕ, Bool, true, false, List, refl, sym, subst, arith}
-use Rattle.std.specs.Prelude.{nat_eq, if◌then◌else◌}
-use Rattle.std.proofs.lemmas.Bool.{eqb-true}
+use Rattle.std.proofs.Common.{◌≡◌, ◌≤◌, ◌<◌, ◌⊎◌, inl, inr, ℕ, List, refl, arith}
+use Rattle.std.proofs.lemmas.Bool.{cases_lt}
 use Rattle.pst_words.specs.declared.command.Command.{Command}
 use Rattle.pst_words.specs.declared.command.Command.TheVariants.{Run, Solve, Check, Gen, Static, Place, Sweep}
 use Rattle.pst_words.specs.declared.key.Key.TheVariants.{Infer, Budget}
 use Rattle.pst_outcome.specs.declared.task.Work.{Work}
 use Rattle.pst_outcome.specs.declared.task.Work.TheVariants as work
-use Rattle.pst_outcome.specs.Tasks.{IsNumberGiven, IsWork, FitsLanes, AreLimits}
+use Rattle.pst_outcome.specs.Tasks.{IsNumberGiven, FitsLanes, IsSeveral, AreLimits}
 
 pub are_limits : (command : Command) (arguments : List (List ℕ)) (infer budget : ℕ) → (command ≡ Gen → ⊥) → IsNumberGiven Infer arguments 2 infer → IsNumberGiven Budget arguments 100000 budget
     → AreLimits command arguments infer budget
@@ -19,19 +18,22 @@ are_limits Static arguments infer budget other i b = (i, b)
 are_limits Place arguments infer budget other i b = (i, b)
 are_limits Sweep arguments infer budget other i b = (i, b)
 
-one_lane : (n : ℕ) → n ≡ 1 → (1 ≤ n) × (n ≤ 1)
-one_lane n is = (omega (arith, is), omega (arith, is))
+-- where more lanes are there
+pub fits_more : (w : Work) (a b : ℕ) → a ≤ b → FitsLanes a w → FitsLanes b w
+fits_more (work.Run lanes) a b more (low, high) = (low, omega (arith, more, high))
+fits_more work.Solve a b more fits = tt
+fits_more work.Check a b more fits = tt
+fits_more (work.Generate size lanes) a b more (low, high) = (low, omega (arith, more, high))
+fits_more work.Unbuilt a b more fits = tt
 
-alone_by : (n : ℕ) (w : Work) (b : Bool) → nat_eq n 1 ≡ b → (n ≡ 1 → FitsLanes 1 w) → FitsLanes 1 (if b then w else work.Unbuilt)
-alone_by n w true is fits = fits (eqb-true n 1 is)
-alone_by n w false is fits = tt
+at_most : (n : ℕ) → (1 < n → ⊥) → (1 < n) ⊎ (n ≤ 1) → n ≤ 1
+at_most n few (inl many) = absurd (few many)
+at_most n few (inr one) = one
 
--- nothing is done on several lanes so far
-pub work_alone : (command : Command) (arguments : List (List ℕ)) (w : Work) → IsWork command arguments w → FitsLanes 1 w
-work_alone Run arguments w h = subst (FitsLanes 1) (sym h.2) (alone_by h.0 (work.Run h.0) (nat_eq h.0 1) refl (one_lane h.0))
-work_alone Gen arguments w h = subst (FitsLanes 1) (sym h.4) (alone_by h.1 (work.Generate h.0 h.1) (nat_eq h.1 1) refl (one_lane h.1))
-work_alone Solve arguments w h = subst (FitsLanes 1) (sym h) tt
-work_alone Check arguments w h = subst (FitsLanes 1) (sym h) tt
-work_alone Static arguments w h = subst (FitsLanes 1) (sym h) tt
-work_alone Place arguments w h = subst (FitsLanes 1) (sym h) tt
-work_alone Sweep arguments w h = subst (FitsLanes 1) (sym h) tt
+-- what isn't run on several lanes is run on one at most
+pub fits_one : (w : Work) (have : ℕ) → FitsLanes have w → (IsSeveral w → ⊥) → FitsLanes 1 w
+fits_one (work.Run lanes) have (low, high) alone = (low, at_most lanes alone (cases_lt 1 lanes))
+fits_one work.Solve have fits alone = tt
+fits_one work.Check have fits alone = tt
+fits_one (work.Generate size lanes) have (low, high) alone = (low, at_most lanes alone (cases_lt 1 lanes))
+fits_one work.Unbuilt have fits alone = tt

@@ -24,7 +24,8 @@ pub record IsReady (have : ℕ) (q : Question) : Type 0 where
   pub concrete : IsConcreteRoot (view_model q.model) q.root
   pub small : length (bytes_of q.trace) ≤ most_trace
   pub some : 0 < have
-  pub fits : FitsLanes 1 q.task.work
+  pub few : have ≤ 16
+  pub fits : FitsLanes have q.task.work
 
 abbrev pub IsServable : ℕ → Request → Type 0
 IsServable have (Answered reply) = Unit {0}

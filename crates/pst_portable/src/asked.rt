@@ -1,7 +1,8 @@
 //! Replies to requests.
-ghost use Rattle.std.specs.Prelude.{◌≡◌, [], ◌∷◌, min, drop, length, string_bytes, vec_len, IfOk, IfErr};
+ghost use Rattle.std.specs.Prelude.{◌≡◌, ◌↔◌, [], ◌∷◌, min, drop, length, string_bytes, vec_len, IfOk, IfErr, IsTrue};
 ghost use Rattle.pst_model.specs.ModelView.{view_model};
 ghost use Rattle.pst_run_alone.specs.Lanes.{lane as lane_of, HasMade, HaveMade, lanes_told};
+ghost use Rattle.pst_outcome.specs.Tasks.{IsSeveral};
 ghost use Rattle.pst_outcome.specs.Models.{OfModel};
 ghost use Rattle.pst_outcome.specs.Outcome.{bytes_of};
 ghost use Rattle.pst_portable.specs.Requests.{IsReady, IsServable, IsAnswered};
@@ -10,9 +11,12 @@ use crate::request::{Question, Request};
 use pst_base::NoMemory;
 use pst_front::trace_of;
 use pst_model_answers::answer_model;
-use pst_outcome::Reply;
-use pst_target::Target;
+use pst_outcome::{Reply, Work};
+use pst_shared_answers::answer_shared;
+use pst_target::{Gate, Target};
 use std::alloc::Global;
+use std::sync::Wait;
+use std::thread::Threads;
 
 // The reply to a question that is answered on one lane.
 fn answer_alone<T: Target>(
@@ -58,7 +62,8 @@ fn answer_on_first<T: Target>(
     question: &Question,
     lanes: &mut Vec<T>,
 ) -> Result<Reply, NoMemory>
-    requires { IsReady (min (vec_len lanes.old) 16) question.now }
+    requires ready { IsReady (min (vec_len lanes.old) 16) question.now }
+    requires one { IsSeveral question.now.task.work → ⊥ }
     ensures done { IfOk result (λ reply. OfModel question.now.names (view_model question.now.model) question.now.root question.now.task (bytes_of question.now.trace)
         (lanes_told T.calls T.faults lanes.old.items lanes.new.items) reply.answer (string_bytes reply.text)) }
     ensures memory { IfErr result (λ e. HaveMade (lanes_told T.calls T.faults lanes.old.items lanes.new.items)) }
@@ -71,20 +76,63 @@ fn answer_on_first<T: Target>(
     }
 }
 
-/// The reply to a request on some lanes, of which the first is used.
-pub(crate) fn reply_on_lanes<T: Target>(
+// Whether a scenario is to be run on several lanes.
+fn is_several(work: Work) -> bool
+    ensures { IsTrue result ↔ IsSeveral work }
+{
+    match work {
+        Work::Run { lanes } => lanes > 1,
+        Work::Generate { size: _, lanes } => lanes > 1,
+        Work::Solve => false,
+        Work::Check => false,
+        Work::Unbuilt => false,
+    }
+}
+
+// The reply to a question that is answered on some lanes.
+fn answer_on_lanes<R: Threads + Wait + Sync, T: Target + Send, G: Gate + Sync>(
+    rt: &R,
+    alloc: Global,
+    question: &Question,
+    lanes: &mut Vec<T>,
+    gate: &G,
+) -> Result<Reply, NoMemory>
+    requires ready { IsReady (min (vec_len lanes.old) 16) question.now }
+    ensures done { IfOk result (λ reply. OfModel question.now.names (view_model question.now.model) question.now.root question.now.task (bytes_of question.now.trace)
+        (lanes_told T.calls T.faults lanes.old.items lanes.new.items) reply.answer (string_bytes reply.text)) }
+    ensures memory { IfErr result (λ e. HaveMade (lanes_told T.calls T.faults lanes.old.items lanes.new.items)) }
+    ensures others { drop 16 lanes.new.items ≡ drop 16 lanes.old.items }
+    ensures as_many { length lanes.new.items ≡ length lanes.old.items }
+{
+    if !is_several(question.task.work) {
+        return answer_on_first(alloc, question, lanes);
+    }
+    let Question {
+        names,
+        model,
+        root,
+        task,
+        trace: _,
+    } = question;
+    answer_shared(rt, alloc, names, model, *root, *task, lanes, gate)
+}
+
+/// The reply to a request on some lanes, of which as many of the first are used as it asks for.
+pub(crate) fn reply_on_lanes<R: Threads + Wait + Sync, T: Target + Send, G: Gate + Sync>(
+    rt: &R,
     alloc: Global,
     request: Request,
     lanes: &mut Vec<T>,
+    gate: &G,
 ) -> Result<Reply, NoMemory>
-    requires { IsServable (min (vec_len lanes.old) 16) request }
+    requires servable { IsServable (min (vec_len lanes.old) 16) request }
     ensures done { IfOk result (λ reply. IsAnswered request (lanes_told T.calls T.faults lanes.old.items lanes.new.items) reply.answer (string_bytes reply.text)) }
     ensures memory { IfErr result (λ e. HaveMade (lanes_told T.calls T.faults lanes.old.items lanes.new.items)) }
-    ensures others { drop 1 lanes.new.items ≡ drop 1 lanes.old.items }
+    ensures others { drop 16 lanes.new.items ≡ drop 16 lanes.old.items }
     ensures as_many { length lanes.new.items ≡ length lanes.old.items }
 {
     match request {
         Request::Answered(reply) => Ok(reply),
-        Request::Asked(question) => answer_on_first(alloc, &question, lanes),
+        Request::Asked(question) => answer_on_lanes(rt, alloc, &question, lanes, gate),
     }
 }

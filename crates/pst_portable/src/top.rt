@@ -83,28 +83,36 @@ fn most_lanes(count: usize) -> u32
 }
 
 // The reply to words on some lanes.
-fn reply_to_words_on<S: Shelf, T: Target>(
+fn reply_to_words_on<
+    R: Threads + Wait + Sync,
+    S: Shelf,
+    T: Target + Send,
+    G: Gate + Sync,
+>(
+    rt: &R,
     alloc: Global,
     words: &[String],
     shelf: &mut S,
     lanes: &mut Vec<T>,
+    gate: &G,
 ) -> Result<Reply, NoMemory>
     ensures same_files { S.files shelf.new ≡ S.files shelf.old }
     ensures owed { IfOk result (λ reply. IsOwed lines.All (min (vec_len lanes.old) 16) (map string_bytes words.now) (S.files shelf.old) (S.faults shelf.old) (S.faults shelf.new)
         (lanes_told T.calls T.faults lanes.old.items lanes.new.items) reply.answer (string_bytes reply.text)) }
     ensures memory { IfErr result (λ e. HaveMade (lanes_told T.calls T.faults lanes.old.items lanes.new.items)) }
     ensures unopened { ((command : Command) (arguments : List (List ℕ)) → IsLine lines.All (min (vec_len lanes.old) 16) (map string_bytes words.now) command arguments → ⊥) → S.rest shelf.new ≡ S.rest shelf.old }
-    ensures others { drop 1 lanes.new.items ≡ drop 1 lanes.old.items }
+    ensures others { drop 16 lanes.new.items ≡ drop 16 lanes.old.items }
     ensures as_many { length lanes.new.items ≡ length lanes.old.items }
 {
     let have = most_lanes(lanes.len());
     let request = request_of_words(alloc, Lines::All, have, words, shelf)?;
-    reply_on_lanes(alloc, request, lanes)
+    reply_on_lanes(rt, alloc, request, lanes, gate)
 }
 
-/// Answers words on the lanes, for every command: as `portable_alone` does, on the first of them. What
-/// asks for several lanes, and `sweep`, isn't built yet. Where no lane is handed in no words are a line.
-/// It promises nothing of its return.
+/// Answers words on the lanes, for every command: as `portable_alone` does, on the first of them, but
+/// that a scenario is run on as many of the first lanes as the line says, each with a worker that passes
+/// the gate before each body. `static`, `place` and `sweep` aren't built yet. Where no lane is handed in
+/// no words are a line. It promises nothing of its return.
 pub fn portable_stimulus<
     R: Threads + Wait + Sync,
     S: Shelf,
@@ -130,12 +138,11 @@ pub fn portable_stimulus<
     // Words that are no line are refused before any file is opened.
     ensures unopened { ((command : Command) (arguments : List (List ℕ)) → IsLine lines.All (min (vec_len lanes.old) 16) (map string_bytes words.now) command arguments → ⊥) → S.rest shelf.new ≡ S.rest shelf.old }
 
-    // The other lanes are as they were.
-    ensures others { drop 1 lanes.new.items ≡ drop 1 lanes.old.items }
+    // The lanes beyond the sixteenth are as they were.
+    ensures others { drop 16 lanes.new.items ≡ drop 16 lanes.old.items }
     ensures as_many { length lanes.new.items ≡ length lanes.old.items }
 {
-    let (_runtime, _gate) = (rt, gate);
-    match reply_to_words_on(alloc, words, shelf, lanes) {
+    match reply_to_words_on(rt, alloc, words, shelf, lanes, gate) {
         Ok(reply) => deliver(sink, reply),
         Err(NoMemory) => Answer::NoMemory,
     }

@@ -1,4 +1,4 @@
-use Rattle.std.proofs.Common.{ℕ, List, map, string_bytes}
+use Rattle.std.proofs.Common.{◌≤◌, ℕ, List, map, string_bytes}
 use Rattle.pst_words.specs.declared.command.Lines.{Lines}
 use Rattle.pst_words.specs.Lines.{IsLine}
 use Rattle.pst_portable.specs.declared.request.Request.{Request}
@@ -11,8 +11,8 @@ request_of_line-requires g c = (c.args.have, c.in-Ok.ensures.whole)
 
 pub returns-in-Ok-clause-servable : goal.returns-in-Ok-clause-servable
 returns-in-Ok-clause-servable g c =
-    at_line (λ (x : Request). (ls : Lines) (n : ℕ) (ws : List (List ℕ)) → IsLine ls n ws c.in-Ok.line.command (map string_bytes c.in-Ok.line.arguments.now) → IsServable n x) (IsServable c.args.have)
-    c.request_of_line.result (λ x h. h c.args.lines c.args.have (map string_bytes c.args.words.now) c.in-Ok.ensures) c.request_of_line.ensures.servable
+    at_line (λ (x : Request). (ls : Lines) (n : ℕ) (ws : List (List ℕ)) → n ≤ 16 → IsLine ls n ws c.in-Ok.line.command (map string_bytes c.in-Ok.line.arguments.now) → IsServable n x) (IsServable c.args.have)
+    c.request_of_line.result (λ x h. h c.args.lines c.args.have (map string_bytes c.args.words.now) c.requires c.in-Ok.ensures) c.request_of_line.ensures.servable
 
 pub returns-in-Ok-clause-is : goal.returns-in-Ok-clause-is
 returns-in-Ok-clause-is g c =
