@@ -30,7 +30,7 @@ pub fn add_lanes(text: &mut String, lanes: &[ScriptTarget]) -> Result<(), AllocE
 }
 
 // Writes the function of each action that starts on the lane in a line of a trace: the body of an
-// action calls the function of its number modulo `functions`, once.
+// action calls the function of its number modulo `functions`, once; where that is 0, none.
 fn add_started(
     text: &mut String,
     line: &str,
@@ -44,7 +44,9 @@ fn add_started(
         let (action, on) = start.split_once(':').unwrap_or((start, ""));
         if on.parse::<usize>().unwrap_or(usize::MAX) == lane {
             let action = action.parse::<u32>().unwrap_or(0);
-            write!(text, " {}", action.checked_rem(functions).unwrap_or(0))?;
+            if let Some(function) = action.checked_rem(functions) {
+                write!(text, " {function}")?;
+            }
         }
     }
     Ok(())
@@ -69,7 +71,8 @@ fn called(alloc: Global, calls: &[Call]) -> Result<String, AllocError> {
 }
 
 /// How many lanes have other calls than those of the actions that start there in a trace, in order,
-/// where the body of an action calls the function of its number modulo `functions`, once.
+/// where the body of an action calls the function of its number modulo `functions`, once; where that is
+/// 0, none.
 pub fn count_astray(
     alloc: Global,
     trace: &str,
