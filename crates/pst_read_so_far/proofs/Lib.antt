@@ -1,0 +1,10 @@
+pub mod Links
+pub mod Turns
+pub mod Same
+pub mod Bare
+pub mod Blanks
+pub mod Behind
+pub mod Ahead
+pub mod Members
+pub mod Slots
+pub mod Refused

@@ -1,0 +1,3 @@
+pub mod Joined
+pub mod OpenBlanks
+pub mod Laws
