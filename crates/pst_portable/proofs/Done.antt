@@ -8,7 +8,6 @@ use Rattle.std.proofs.lemmas.List.Elements.{All-nil, All-cons, All-head}
 use Rattle.pst_base.specs.declared.memory.NoMemory.{NoMemory}
 use Rattle.pst_io.specs.Shelf.{Files}
 use Rattle.pst_target.specs.declared.call.Call.{Call as Answered}
-use Rattle.pst_model.specs.ModelView.{view_model}
 use Rattle.pst_model.specs.ModelTree.{ModelTree}
 use Rattle.pst_scen.specs.declared.scenario.Scenario.{Scenario}
 use Rattle.pst_scen.specs.Plan.{Entries}
@@ -24,7 +23,7 @@ use Rattle.pst_outcome.specs.declared.reply.Reply.{Reply}
 use Rattle.pst_outcome.specs.declared.task.Task.{Task}
 use Rattle.pst_outcome.specs.declared.task.Work.{Work}
 use Rattle.pst_outcome.specs.Texts.{usage_text}
-use Rattle.pst_outcome.specs.Tasks.{FitsLanes, IsTask}
+use Rattle.pst_outcome.specs.Tasks.{FitsLanes}
 use Rattle.pst_outcome.specs.Sources.{Front, Ends, HasModel}
 use Rattle.pst_outcome.specs.Models.{OfScenario, IsRun, IsSharedRun, IsGenerated, IsSharedGenerated, IsSolved, IsJudged, ShowsCounts, OfModel, HasNone, IsSpent, IsFound, IsUnbuilt}
 use Rattle.pst_outcome.specs.Outcome.{IsOwed, IsUsage, EndsAtFiles, EndsAtSources, IsServed, HasFront, bytes_of}
@@ -33,7 +32,7 @@ use Rattle.pst_front.specs.declared.front.LineFront.{LineFront}
 use Rattle.pst_front.specs.Stages.{front_of, IsStage, OfLine, AtFiles, BehindFiles}
 use Rattle.pst_portable.specs.declared.request.Request.{Request}
 use Rattle.pst_portable.specs.declared.request.Request.TheVariants as request
-use Rattle.pst_portable.specs.Replies.{Says, IsDone}
+use Rattle.pst_portable.specs.Replies.{IsDone}
 use Rattle.pst_portable.specs.Requests.{SaysUsage, IsServable, IsAnswered, IsRequest}
 
 -- a trace file that is small has few lines

@@ -14,7 +14,7 @@ use Rattle.pst_scenario_answers.specs.declared.check.CheckAnswer.{CheckAnswer}
 use Rattle.pst_scenario_answers.specs.declared.check.CheckAnswer.TheVariants as checked
 use Rattle.pst_run_alone.specs.declared.answer.RunAnswer.{RunAnswer}
 use Rattle.pst_run_alone.specs.declared.answer.RunAnswer.TheVariants as ran
-use Rattle.pst_run_alone.specs.Lanes.{Lane, IsUncalled, HasMade, AreUncalled, HaveMade}
+use Rattle.pst_run_alone.specs.Lanes.{Lane, HasMade, AreUncalled, HaveMade}
 use Rattle.pst_run_alone.specs.Shown.{ShowsRun, IsTooWide, HasEnded, HasFailed, HasTrapped}
 use Rattle.pst_words.specs.declared.command.Lines.{Lines}
 use Rattle.pst_outcome.specs.declared.answer.Answer.{Answer}

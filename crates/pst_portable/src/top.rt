@@ -83,12 +83,7 @@ fn most_lanes(count: usize) -> u32
 }
 
 // The reply to words on some lanes.
-fn reply_to_words_on<
-    R: Threads + Wait + Sync,
-    S: Shelf,
-    T: Target + Send,
-    G: Gate + Sync,
->(
+fn reply_to_words_on<R: Threads + Wait + Sync, S: Shelf, T: Target + Send, G: Gate + Sync>(
     rt: &R,
     alloc: Global,
     words: &[String],

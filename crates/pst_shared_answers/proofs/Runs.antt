@@ -11,7 +11,6 @@ use Rattle.pst_scen.specs.Plan.{Entries, widest}
 use Rattle.pst_scen.specs.Laws.{PrefixesAreLegal}
 use Rattle.pst_book.specs.Books.{View}
 use Rattle.pst_exec.specs.declared.ending.RunEnd.{RunEnd}
-use Rattle.pst_exec.specs.declared.ending.RunEnd.TheVariants as end
 use Rattle.pst_exec.specs.Alone.{IsNarrow}
 use Rattle.pst_run_alone.specs.declared.answer.RunAnswer.TheVariants as ran
 use Rattle.pst_run_alone.specs.declared.answer.ShownRun.{ShownRun}

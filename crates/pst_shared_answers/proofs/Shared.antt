@@ -1,6 +1,6 @@
 -- From how a run on several lanes ended to what is answered of it.
 use Rattle.std.proofs.Common.{◌≡◌, ◌≤◌, ◌<◌, ℕ, Bool, true, false, nat_lt, List, length, get_or, refl, sym, subst, arith}
-use Rattle.std.specs.Prelude.{◌↔◌, Option, Result, Ok, Err, IfOk, drop, string_bytes}
+use Rattle.std.specs.Prelude.{◌↔◌, Option, Result, Ok, Err, drop, string_bytes}
 use Rattle.std.proofs.lemmas.Bool.{ltb-true, ltb-false}
 use Rattle.pst_target.specs.declared.call.Call.{Call as Answered}
 use Rattle.pst_model.specs.ModelTree.{ModelTree}
@@ -21,10 +21,10 @@ use Rattle.pst_run_alone.specs.declared.answer.ShownRun.{ShownRun}
 use Rattle.pst_run_alone.specs.Lanes.{Lane, HasMade, HaveMade, lanes_told}
 use Rattle.pst_run_alone.specs.Shown.{Says, SaysEnd, narrow_text}
 use Rattle.pst_workers.specs.Told.{Told, told_of, lane_at, LaneRan}
-use Rattle.pst_run_many.specs.Many.{RunsOn as RunsThere, LaneRanUpTo, LaneFailed, LaneTrapped, LaneStopped, HasRan, HasFailed, HasTrapped, RanWholeOn, StoppedOn, KeptCalls, RunsMany}
-use Rattle.pst_outcome.specs.SharedRuns.{Break, Failed, Trapped, HasRun, HasRunUpTo, HasBroken, AtCall, InTrap, RunsOn, HasStopped, BetweenBodies, InBody, AreUncalledFrom, HaveRun, HaveStopped, answer_of_break, last_of_break, ShowsSharedRun, IsTooWide, EndsWhole, EndsEarly}
+use Rattle.pst_run_many.specs.Many.{RunsOn as RunsThere, LaneFailed, LaneTrapped, LaneStopped, HasRan, HasFailed, HasTrapped, RanWholeOn, StoppedOn, KeptCalls, RunsMany}
+use Rattle.pst_outcome.specs.SharedRuns.{Break, Failed, Trapped, HasRun, HasBroken, AtCall, InTrap, RunsOn, HasStopped, BetweenBodies, InBody, AreUncalledFrom, HaveRun, HaveStopped, ShowsSharedRun, IsTooWide, EndsWhole, EndsEarly}
 use Rattle.pst_model_answers.proofs.Runs.{none_made, all_made}
-use Rattle.pst_shared_answers.proofs.Told.{between, told_length, told_at, none_called_behind, same_told}
+use Rattle.pst_shared_answers.proofs.Told.{between, told_at, none_called_behind, same_told}
 
 -- ---- one lane
 

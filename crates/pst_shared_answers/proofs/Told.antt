@@ -1,6 +1,6 @@
 -- What lanes tell, one after another and by their numbers.
 use Rattle.std.proofs.Common.{◌≡◌, ◌≤◌, ◌<◌, ℕ, zero, suc, List, [], ◌∷◌, length, get_or, drop, refl, ap, sym, subst, arith}
-use Rattle.std.specs.Prelude.{Option, map}
+use Rattle.std.specs.Prelude.{Option}
 use Rattle.std.proofs.lemmas.List.Elements.{All-nil, All-cons}
 use Rattle.pst_target.specs.declared.call.Call.{Call as Answered}
 use Rattle.pst_run_alone.specs.Lanes.{Lane, lane, IsUncalled, AreUncalled, lanes_told}

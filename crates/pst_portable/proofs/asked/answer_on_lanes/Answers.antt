@@ -17,9 +17,10 @@ pub answer_shared-requires-clause-concrete : goal.answer_shared-requires-clause-
 answer_shared-requires-clause-concrete g c = λ names lives. c.requires.ready.concrete
 
 pub answer_shared-requires-clause-fits : goal.answer_shared-requires-clause-fits
-answer_shared-requires-clause-fits g c = λ names lives.
-    (fits_more c.args.question.now.task.work (min c.args.lanes.now.len 16) 16 c.requires.ready.few c.requires.ready.fits,
-    fits_more c.args.question.now.task.work (min c.args.lanes.now.len 16) (length c.args.lanes.now.items) (let same = c.args.lanes.now.ok.0 in omega (arith, same)) c.requires.ready.fits)
+answer_shared-requires-clause-fits g c = λ names lives. (
+  fits_more c.args.question.now.task.work (min c.args.lanes.now.len 16) 16 c.requires.ready.few c.requires.ready.fits,
+  fits_more c.args.question.now.task.work (min c.args.lanes.now.len 16) (length c.args.lanes.now.items) (let same = c.args.lanes.now.ok.0 in omega (arith, same)) c.requires.ready.fits,
+)
 
 pub returns-clause-done : goal.returns-clause-done
 returns-clause-done g c = c.answer_shared.ensures.owed (bytes_of c.args.question.now.trace)

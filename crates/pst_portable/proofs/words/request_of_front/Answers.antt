@@ -1,5 +1,4 @@
 use Rattle.std.proofs.Common.{map, string_bytes, sym, subst}
-use Rattle.pst_words.specs.declared.command.Command.{Command}
 use Rattle.pst_outcome.specs.Outcome.{bytes_of}
 use Rattle.pst_front.specs.declared.stage.Stage.{Stage}
 use Rattle.pst_front.specs.Stages.{front_of, HasSoundModel}
