@@ -26,3 +26,4 @@ mod RunsTried
 mod FillingsTried
 mod SuppliesTried
 mod HandlesTried
+mod ReadingsTried

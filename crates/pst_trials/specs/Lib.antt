@@ -21,3 +21,4 @@ pub mod Runs
 pub mod Fillings
 pub mod Supplies
 pub mod Handles
+pub mod Readings

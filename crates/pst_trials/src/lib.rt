@@ -24,6 +24,7 @@ ghost use Rattle.pst_trials.specs.Runs.{RunsAreTried};
 ghost use Rattle.pst_trials.specs.Fillings.{FillingsAreTried};
 ghost use Rattle.pst_trials.specs.Supplies.{SuppliesAreTried};
 ghost use Rattle.pst_trials.specs.Handles.{HandlesAreTried};
+ghost use Rattle.pst_trials.specs.Readings.{ReadingsAreTried};
 
 use pst_order::{blocks_are_one, must_is_kept, whole_is_sound};
 
@@ -146,4 +147,9 @@ pub fn cores_are_tried()
 /// The number of a claimed resource instance, and the values of its fields.
 pub fn claim_values_are_tried()
     ensures { ClaimValuesAreTried }
+{}
+
+/// The laws of reading, each on a small model, and without its premise.
+pub fn readings_are_tried()
+    ensures { ReadingsAreTried }
 {}
