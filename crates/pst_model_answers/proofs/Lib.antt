@@ -1,3 +1,3 @@
-mod Legality
-mod Runs
-mod Owed
+pub mod Legality
+pub mod Runs
+pub mod Owed

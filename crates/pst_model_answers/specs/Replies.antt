@@ -1,14 +1,13 @@
 -- Replies to a scenario that was found, and to a search and a run that ended without one.
-use Rattle.std.specs.Prelude.{◌≡◌, ℕ, List, string_bytes, Result, Ok, Err}
-use Rattle.pst_target.specs.declared.call.Call.{Call as Answered}
+use Rattle.std.specs.Prelude.{◌≡◌, ℕ, List, [], ◌∷◌, string_bytes, Result, Ok, Err}
 use Rattle.pst_model.specs.ModelTree.{ModelTree}
 use Rattle.pst_scen.specs.declared.scenario.Scenario.{Scenario}
 use Rattle.pst_scen.specs.Plan.{Entries}
-use Rattle.pst_body.specs.Doing.{with_calls}
 use Rattle.pst_search.specs.declared.first.SearchEnd.{SearchEnd}
 use Rattle.pst_search.specs.declared.first.SearchEnd.TheVariants as search_end
 use Rattle.pst_exec.specs.declared.ending.RunEnd.{RunEnd}
 use Rattle.pst_run_alone.specs.declared.answer.ShownRun.{ShownRun}
+use Rattle.pst_run_alone.specs.Lanes.{Lane, HasMade}
 use Rattle.pst_run_alone.specs.Shown as shown_run
 use Rattle.pst_scenario_answers.specs.declared.check.CheckAnswer.{CheckAnswer}
 use Rattle.pst_scenario_answers.specs.Checked.{IsChecked, answer_text}
@@ -17,7 +16,7 @@ use Rattle.pst_outcome.specs.declared.answer.Answer.TheVariants.{NoScenario, Bud
 use Rattle.pst_outcome.specs.declared.reply.Reply.{Reply}
 use Rattle.pst_outcome.specs.declared.task.Work.{Work}
 use Rattle.pst_outcome.specs.Texts.{no_scenario_text, budget_text}
-use Rattle.pst_outcome.specs.Models.{Lane, OfScenario, answer_of_run, answer_of_check}
+use Rattle.pst_outcome.specs.Models.{OfScenario, answer_of_run, answer_of_check}
 
 -- the reply has this answer and this text
 pub record Says (answer : Answer) (text : List ℕ) (reply : Reply) : Type 0 where
@@ -43,11 +42,7 @@ TellsEnd names m s stop reply = (shown : ShownRun) × shown_run.SaysEnd names m 
 abbrev pub SaysCheck : List (List ℕ) → ModelTree → Scenario → List ℕ → Reply → Type 0
 SaysCheck names m s trace reply = (answer : CheckAnswer) × IsChecked names m s trace answer × Says (answer_of_check answer) (answer_text answer) reply
 
--- calls may have been made
-abbrev pub HasMade : Lane → Type 0
-HasMade l = (made : List Answered) × (l.after ≡ with_calls l.before made)
-
--- the reply to the scenario; where memory ran out, calls may have been made
+-- the reply to the scenario on one lane; where memory ran out, calls may have been made
 abbrev pub Replies : List (List ℕ) → ModelTree → Scenario → Entries → List ℕ → Lane → Work → {E : Type 0} → Result Reply E → Type 0
-Replies names m s plan trace l done (Ok reply) = OfScenario names m s plan trace l done reply.answer (string_bytes reply.text)
+Replies names m s plan trace l done (Ok reply) = OfScenario names m s plan trace (l ∷ []) done reply.answer (string_bytes reply.text)
 Replies names m s plan trace l done (Err e) = HasMade l

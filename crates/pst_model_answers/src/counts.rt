@@ -3,7 +3,8 @@ ghost use Rattle.std.specs.Prelude.{◌≡◌, ◌<◌, ◌^◌, ℕ, List, leng
 ghost use Rattle.pst_model.specs.ModelView.{view_model};
 ghost use Rattle.pst_trace_texts.specs.Named.{name};
 ghost use Rattle.pst_generated.specs.Generated.{counts_text as text_of_counts};
-ghost use Rattle.pst_outcome.specs.Models.{lane as lane_of, is_of_type as has_type, ends_type as ends_that_type, count_ended as count_of_ended};
+ghost use Rattle.pst_run_alone.specs.Lanes.{lane as lane_of};
+ghost use Rattle.pst_outcome.specs.Models.{is_of_type as has_type, ends_type as ends_that_type, count_ended as count_of_ended};
 ghost use Rattle.pst_model_answers.specs.Ready.{IsReady};
 ghost use Rattle.pst_model_answers.specs.Replies.{Says, Replies};
 
@@ -74,8 +75,9 @@ fn count_ended(
         .count() as u32
 }
 
-// The reply to a run that was whole.
-fn reply_to_whole(
+/// The reply to a run of a generated model of that size that was whole: it counts the actions that
+/// ended.
+pub fn reply_to_whole(
     alloc: Global,
     names: &Names,
     model: &Model,
@@ -100,7 +102,7 @@ fn reply_to_whole(
     })
 }
 
-/// Runs the scenario, of a generated model of that size, and counts the actions that ended.
+/// Runs the scenario on one lane, of a generated model of that size, and counts the actions that ended.
 pub(crate) fn reply_to_counts<T: Target>(
     alloc: Global,
     names: &Names,
@@ -111,7 +113,7 @@ pub(crate) fn reply_to_counts<T: Target>(
     lane: &mut T,
 ) -> Result<Reply, NoMemory>
     requires { IsReady (view_model model.now) scenario.now plan.now }
-    ensures { (trace : List ℕ) → Replies names.now (view_model model.now) scenario.now plan.now trace (lane_of (T.calls lane.old) (T.calls lane.new) (T.faults lane.old) (T.faults lane.new)) (Work.Generate size) result }
+    ensures { (trace : List ℕ) → Replies names.now (view_model model.now) scenario.now plan.now trace (lane_of (T.calls lane.old) (T.calls lane.new) (T.faults lane.old) (T.faults lane.new)) (Work.Generate size 1) result }
 {
     match run_one(alloc, model, scenario, plan, lane) {
         Ok(book) => reply_to_whole(alloc, names, model, scenario, size, book.trace()),

@@ -4,7 +4,9 @@ ghost use Rattle.std.specs.List.{count_by};
 ghost use Rattle.pst_model.specs.ModelView.{view_model};
 ghost use Rattle.pst_trace_texts.specs.declared.last.Last.TheVariants.{Solved as WasSolved};
 ghost use Rattle.pst_trace_texts.specs.Texts.{trace_text};
-ghost use Rattle.pst_outcome.specs.Models.{lane as lane_of, answer_of_check as answer_of, IsSought};
+ghost use Rattle.pst_run_alone.specs.Lanes.{lane as lane_of};
+ghost use Rattle.pst_outcome.specs.Tasks.{FitsLanes};
+ghost use Rattle.pst_outcome.specs.Models.{answer_of_check as answer_of, IsSought};
 ghost use Rattle.pst_model_answers.specs.Ready.{IsReady};
 ghost use Rattle.pst_model_answers.specs.Replies.{Says, SaysCheck, Replies};
 
@@ -69,7 +71,7 @@ fn reply_to_check(
     })
 }
 
-/// The reply where the scenario was found: it is run, printed, or compared with the trace.
+/// The reply where the scenario was found: it is run on one lane, printed, or compared with the trace.
 pub(crate) fn reply_to_found<T: Target>(
     alloc: Global,
     names: &Names,
@@ -82,14 +84,15 @@ pub(crate) fn reply_to_found<T: Target>(
 ) -> Result<Reply, NoMemory>
     requires ready { IsReady (view_model model.now) scenario.now plan.now }
     requires sought { IsSought work }
+    requires alone { FitsLanes 1 work }
     requires few { count_by (nat_eq 10) trace.now < 2 ^ 32 - 2 }
     ensures { Replies names.now (view_model model.now) scenario.now plan.now trace.now (lane_of (T.calls lane.old) (T.calls lane.new) (T.faults lane.old) (T.faults lane.new)) work result }
 {
     match work {
-        Work::Run => reply_to_run(alloc, names, model, scenario, plan, lane),
+        Work::Run { lanes: _one } => reply_to_run(alloc, names, model, scenario, plan, lane),
         Work::Solve => reply_to_solve(alloc, names, model, scenario),
         Work::Check => reply_to_check(alloc, names, model, scenario, plan, trace),
-        Work::Generate { size } => {
+        Work::Generate { size, lanes: _one } => {
             reply_to_counts(alloc, names, model, scenario, plan, size, lane)
         }
         Work::Unbuilt => unreachable!(),

@@ -7,4 +7,6 @@ mod found;
 mod model;
 mod run;
 
-pub use model::answer_model;
+pub use counts::reply_to_whole;
+pub use model::{answer_model, reply_to_search_end};
+pub use run::{reply_of, reply_to_end};

@@ -1,5 +1,5 @@
 //! What is answered of a model.
-ghost use Rattle.std.specs.Prelude.{◌≡◌, ◌<◌, ◌^◌, ◌-◌, List, nat_eq, IfOk, IfErr, MatchBool, string_bytes};
+ghost use Rattle.std.specs.Prelude.{◌≡◌, ◌<◌, ◌^◌, ◌-◌, List, [], ◌∷◌, nat_eq, IfOk, IfErr, MatchBool, string_bytes};
 ghost use Rattle.std.specs.List.{count_by};
 ghost use Rattle.pst_target.specs.declared.call.Call.{Call as Answered};
 ghost use Rattle.pst_model.specs.ModelView.{view_model};
@@ -7,7 +7,9 @@ ghost use Rattle.pst_model.specs.Sound.{IsSound};
 ghost use Rattle.pst_built.specs.Laws.{IsConcreteRoot};
 ghost use Rattle.pst_body.specs.Doing.{with_calls};
 ghost use Rattle.pst_outcome.specs.Texts as Texts;
-ghost use Rattle.pst_outcome.specs.Models.{lane as lane_of, IsSought, OfModel};
+ghost use Rattle.pst_run_alone.specs.Lanes.{lane as lane_of};
+ghost use Rattle.pst_outcome.specs.Tasks.{FitsLanes};
+ghost use Rattle.pst_outcome.specs.Models.{IsSought, OfModel};
 ghost use Rattle.pst_model_answers.specs.Replies.{Says, SaysEnd};
 
 use crate::found::reply_to_found;
@@ -24,7 +26,7 @@ fn is_sought(work: Work) -> bool
     ensures { MatchBool result (IsSought work) (work ≡ Work.Unbuilt) }
 {
     match work {
-        Work::Run | Work::Solve | Work::Check | Work::Generate { .. } => true,
+        Work::Run { .. } | Work::Solve | Work::Check | Work::Generate { .. } => true,
         Work::Unbuilt => false,
     }
 }
@@ -62,8 +64,8 @@ fn unbuilt(alloc: Global) -> Result<Reply, NoMemory>
     })
 }
 
-// The reply where the search gave no scenario with so few inferred actions.
-fn reply_to_end(alloc: Global, infer: u32, end: SearchEnd) -> Result<Reply, NoMemory>
+/// The reply where the search gave no scenario with so few inferred actions.
+pub fn reply_to_search_end(alloc: Global, infer: u32, end: SearchEnd) -> Result<Reply, NoMemory>
     ensures { IfOk result (SaysEnd infer end) }
 {
     match end {
@@ -77,8 +79,8 @@ fn reply_to_end(alloc: Global, infer: u32, end: SearchEnd) -> Result<Reply, NoMe
 /// scenario is sought and run on the lane, a generated model's too, its header is printed, or a trace is
 /// judged against it.
 ///
-/// The model is sound, the root is an action type that isn't abstract, and the trace has fewer than
-/// 2^32 - 2 line feeds. The lane is called by runs alone. Where memory runs out, the calls made stay in
+/// The model is sound, the root is an action type that isn't abstract, the trace has fewer than
+/// 2^32 - 2 line feeds, and no more than one lane is asked for. The lane is called by runs alone. Where memory runs out, the calls made stay in
 /// the lane's list.
 pub fn answer_model<T: Target>(
     alloc: Global,
@@ -92,7 +94,8 @@ pub fn answer_model<T: Target>(
     requires sound { IsSound (view_model model.now) }
     requires concrete { IsConcreteRoot (view_model model.now) root }
     requires few { count_by (nat_eq 10) trace.now < 2 ^ 32 - 2 }
-    ensures owed { IfOk result (λ reply. OfModel names.now (view_model model.now) root task trace.now (lane_of (T.calls lane.old) (T.calls lane.new) (T.faults lane.old) (T.faults lane.new)) reply.answer (string_bytes reply.text)) }
+    requires alone { FitsLanes 1 task.work }
+    ensures owed { IfOk result (λ reply. OfModel names.now (view_model model.now) root task trace.now (lane_of (T.calls lane.old) (T.calls lane.new) (T.faults lane.old) (T.faults lane.new) ∷ []) reply.answer (string_bytes reply.text)) }
     ensures memory { IfErr result (λ e. (made : List Answered) × (T.calls lane.new ≡ with_calls (T.calls lane.old) made)) }
 {
     whole_readings_are_built();
@@ -103,6 +106,6 @@ pub fn answer_model<T: Target>(
         Ok((scenario, plan)) => reply_to_found(
             alloc, names, model, &scenario, &plan, task.work, trace, lane,
         ),
-        Err(end) => reply_to_end(alloc, task.infer, end),
+        Err(end) => reply_to_search_end(alloc, task.infer, end),
     }
 }

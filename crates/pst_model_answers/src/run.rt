@@ -1,7 +1,8 @@
 //! The run of a scenario.
 ghost use Rattle.std.specs.Prelude.{◌≡◌, ℕ, List, IfOk};
 ghost use Rattle.pst_model.specs.ModelView.{view_model};
-ghost use Rattle.pst_outcome.specs.Models.{lane as lane_of, answer_of_run as answer_of};
+ghost use Rattle.pst_run_alone.specs.Lanes.{lane as lane_of};
+ghost use Rattle.pst_outcome.specs.Models.{answer_of_run as answer_of};
 ghost use Rattle.pst_model_answers.specs.Ready.{IsReady};
 ghost use Rattle.pst_model_answers.specs.Replies.{Replies, Tells, TellsEnd};
 
@@ -26,8 +27,8 @@ fn answer_of_run(answer: RunAnswer) -> Answer
     }
 }
 
-// The reply that tells what is shown of a run.
-fn reply_of(shown: ShownRun) -> Reply
+/// The reply that tells what is shown of a run.
+pub fn reply_of(shown: ShownRun) -> Reply
     ensures { Tells shown result }
 {
     Reply {
@@ -37,7 +38,7 @@ fn reply_of(shown: ShownRun) -> Reply
 }
 
 /// The reply to a run that wasn't whole.
-pub(crate) fn reply_to_end(
+pub fn reply_to_end(
     alloc: Global,
     names: &Names,
     model: &Model,
@@ -50,7 +51,7 @@ pub(crate) fn reply_to_end(
     Ok(reply_of(shown))
 }
 
-/// Runs the scenario, and prints its trace.
+/// Runs the scenario on one lane, and prints its trace.
 pub(crate) fn reply_to_run<T: Target>(
     alloc: Global,
     names: &Names,
@@ -60,7 +61,7 @@ pub(crate) fn reply_to_run<T: Target>(
     lane: &mut T,
 ) -> Result<Reply, NoMemory>
     requires { IsReady (view_model model.now) scenario.now plan.now }
-    ensures { (trace : List ℕ) → Replies names.now (view_model model.now) scenario.now plan.now trace (lane_of (T.calls lane.old) (T.calls lane.new) (T.faults lane.old) (T.faults lane.new)) Work.Run result }
+    ensures { (trace : List ℕ) → Replies names.now (view_model model.now) scenario.now plan.now trace (lane_of (T.calls lane.old) (T.calls lane.new) (T.faults lane.old) (T.faults lane.new)) (Work.Run 1) result }
 {
     let shown = show_run(alloc, names, model, scenario, plan, lane)?;
     Ok(reply_of(shown))

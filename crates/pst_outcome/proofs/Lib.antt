@@ -2,7 +2,7 @@ mod OneReading
 mod OneLine
 mod OneLexing
 mod OneParse
-mod OneTask
+pub mod OneTask
 mod OneFront
 mod OneStop
 mod OneModel

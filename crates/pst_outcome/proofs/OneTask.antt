@@ -1,12 +1,12 @@
 -- The words of a line ask for one thing.
 use Rattle.std.proofs.Common.{◌≡◌, ◌∙◌, ℕ, ◌*◌, ◌^◌, ◌<◌, ◌≤◌, ◌⊎◌, inl, inr, Bool, true, false, List, [], ◌∷◌, ◌++◌, length, drop, decimal, nat_lt, cond, refl, ap, sym, subst, arith}
-use Rattle.std.specs.Prelude.{All, Some, None}
-use Rattle.std.proofs.lemmas.Bool.{ltb-true}
+use Rattle.std.specs.Prelude.{All, Some, None, nat_eq, if◌then◌else◌}
+use Rattle.std.proofs.lemmas.Bool.{ltb-true, ltb-false}
 use Rattle.std.proofs.lemmas.List.{append_cancel_left}
 use Rattle.std.proofs.lemmas.List.Elements.{All-head, All-tail}
 use Rattle.pst_generated.specs.Generated.{generated_text}
 use Rattle.pst_words.specs.declared.command.Command.{Command}
-use Rattle.pst_words.specs.declared.command.Command.TheVariants.{Run, Gen}
+use Rattle.pst_words.specs.declared.command.Command.TheVariants.{Run, Solve, Check, Gen, Static, Place, Sweep}
 use Rattle.pst_words.specs.declared.key.Key.{Key}
 use Rattle.pst_words.specs.declared.key.Key.TheVariants.{Seed, Infer, Budget, Lanes, Size}
 use Rattle.pst_words.specs.Table.{key_start, IsValue}
@@ -16,9 +16,39 @@ use Rattle.pst_words.proofs.Given.{given_here, given_later}
 use Rattle.pst_outcome.specs.declared.task.Task.{Task}
 use Rattle.pst_outcome.specs.declared.task.Work.{Work}
 use Rattle.pst_outcome.specs.declared.task.Work.TheVariants as work
-use Rattle.pst_outcome.specs.Tasks.{IsNumberGiven, AreSources, IsWork, AreLimits, IsTask, on_lanes}
+use Rattle.pst_outcome.specs.Tasks.{IsNumberGiven, AreSources, IsWork, FitsLanes, IsSeveral, AreLimits, IsTask}
 
 -- ---- numbers
+
+-- each value of the key has that
+abbrev EachValue : ℕ → Key → (List ℕ → Type 0) → Type 0
+EachValue have key P = (text : List ℕ) → IsValue have key text → P text
+
+value_of_key : (have : ℕ) (key k : Key) (word text : List ℕ) (P : List ℕ → Type 0) → EachValue have key P → is_of key word ≡ true → word ≡ key_start k ++ text → IsValue have k text → P (drop (length (key_start key)) word)
+value_of_key have key k word text P has is are value =
+    let own : is_of k word ≡ true = subst (λ (w : List ℕ). is_of k w ≡ true) (sym are) (is_word_of k text) in
+    let same : k ≡ key = one_key k key word own is in
+    let moved : word ≡ key_start key ++ text = are ∙ ap (λ (l : Key). key_start l ++ text) same in
+    let rest : text ≡ drop (length (key_start key)) word = append_cancel_left (key_start key) text (drop (length (key_start key)) word) (sym moved ∙ word_is key word is) in
+    subst P rest (has text (subst (λ (l : Key). IsValue have l text) same value))
+
+value_by : (command : Command) (have : ℕ) (key : Key) (word : List ℕ) (P : List ℕ → Type 0) → EachValue have key P → is_of key word ≡ true → IsArgument command have word → P (drop (length (key_start key)) word)
+value_by command have key word P has is (AKey k text among are value) = value_of_key have key k word text P has is are value
+value_by command have key word P has is (AFile file) = let both : false ≡ true = sym (key_no_file key word is) ∙ file in absurd cc
+
+-- the key is given no value, or one that has what each value has
+pub value_cases : (command : Command) (have : ℕ) (key : Key) (words : List (List ℕ)) (P : List ℕ → Type 0) → EachValue have key P → All (IsArgument command have) words
+    → (given key words ≡ None) ⊎ ((text : List ℕ) × (given key words ≡ Some text) × P text)
+value_cases command have key [] P has each = inl refl
+value_cases command have key (word ∷ more) P has each =
+    by (value_cases command have key more P has (All-tail (IsArgument command have) word more each)) (is_of key word) refl
+  where
+    by : (given key more ≡ None) ⊎ ((text : List ℕ) × (given key more ≡ Some text) × P text) → (b : Bool) → is_of key word ≡ b
+        → (given key (word ∷ more) ≡ None) ⊎ ((text : List ℕ) × (given key (word ∷ more) ≡ Some text) × P text)
+    by rest true is =
+        inr (drop (length (key_start key)) word, given_here key word more is, value_by command have key word P has is (All-head (IsArgument command have) word more each))
+    by (inl none) false is = inl (given_later key word more is ∙ none)
+    by (inr (text, some, holds)) false is = inr (text, given_later key word more is ∙ some, holds)
 
 -- a number that fits 64 bits, which the text spells
 abbrev Spells : List ℕ → Type 0
@@ -26,7 +56,7 @@ Spells text = (k : ℕ) × (k < 2 ^ 64) × (text ≡ decimal k)
 
 -- each value of the key is one
 abbrev IsNumberKey : ℕ → Key → Type 0
-IsNumberKey have key = (text : List ℕ) → IsValue have key text → Spells text
+IsNumberKey have key = EachValue have key Spells
 
 seeds : (have : ℕ) → IsNumberKey have Seed
 seeds have text is = let high = is.high in (is.number, omega (arith, high), is.spelled)
@@ -47,32 +77,14 @@ lanes have text is = (is.number, few_lanes (nat_lt have 16) have is.number refl 
 sizes : (have : ℕ) → IsNumberKey have Size
 sizes have text is = let high = is.high in (is.eighth * 8, omega (arith, high), is.spelled)
 
-value_of_key : (have : ℕ) (key k : Key) (word text : List ℕ) → IsNumberKey have key → is_of key word ≡ true → word ≡ key_start k ++ text → IsValue have k text → Spells (drop (length (key_start key)) word)
-value_of_key have key k word text numbers is are value =
-    let own : is_of k word ≡ true = subst (λ (w : List ℕ). is_of k w ≡ true) (sym are) (is_word_of k text) in
-    let same : k ≡ key = one_key k key word own is in
-    let moved : word ≡ key_start key ++ text = are ∙ ap (λ (l : Key). key_start l ++ text) same in
-    let rest : text ≡ drop (length (key_start key)) word = append_cancel_left (key_start key) text (drop (length (key_start key)) word) (sym moved ∙ word_is key word is) in
-    subst Spells rest (numbers text (subst (λ (l : Key). IsValue have l text) same value))
-
-spelled_by : (command : Command) (have : ℕ) (key : Key) (word : List ℕ) → IsNumberKey have key → is_of key word ≡ true → IsArgument command have word → Spells (drop (length (key_start key)) word)
-spelled_by command have key word numbers is (AKey k text among are value) = value_of_key have key k word text numbers is are value
-spelled_by command have key word numbers is (AFile file) = let both : false ≡ true = sym (key_no_file key word is) ∙ file in absurd cc
-
 -- the key is given no value, or a number that fits 64 bits
 cases : (command : Command) (have : ℕ) (key : Key) (words : List (List ℕ)) → IsNumberKey have key → All (IsArgument command have) words
     → (given key words ≡ None) ⊎ ((k : ℕ) × (k < 2 ^ 64) × (given key words ≡ Some (decimal k)))
-cases command have key [] numbers each = inl refl
-cases command have key (word ∷ more) numbers each =
-    by (cases command have key more numbers (All-tail (IsArgument command have) word more each)) (is_of key word) refl
+cases command have key words numbers each = by (value_cases command have key words Spells numbers each)
   where
-    by : (given key more ≡ None) ⊎ ((k : ℕ) × (k < 2 ^ 64) × (given key more ≡ Some (decimal k))) → (b : Bool) → is_of key word ≡ b
-        → (given key (word ∷ more) ≡ None) ⊎ ((k : ℕ) × (k < 2 ^ 64) × (given key (word ∷ more) ≡ Some (decimal k)))
-    by rest true is =
-        let (k, small, spells) = spelled_by command have key word numbers is (All-head (IsArgument command have) word more each) in
-        inr (k, small, given_here key word more is ∙ ap Some spells)
-    by (inl none) false is = inl (given_later key word more is ∙ none)
-    by (inr (k, small, some)) false is = inr (k, small, given_later key word more is ∙ some)
+    by : (given key words ≡ None) ⊎ ((text : List ℕ) × (given key words ≡ Some text) × Spells text) → (given key words ≡ None) ⊎ ((k : ℕ) × (k < 2 ^ 64) × (given key words ≡ Some (decimal k)))
+    by (inl none) = inl none
+    by (inr (text, some, (k, small, spelled))) = inr (k, small, some ∙ ap Some spelled)
 
 module _ (command : Command) (have : ℕ) (arguments : List (List ℕ)) (each : All (IsArgument command have) arguments) where
   one_number : (key : Key) (otherwise n m : ℕ) → IsNumberKey have key → IsNumberGiven key arguments otherwise n → IsNumberGiven key arguments otherwise m → n ≡ m
@@ -87,13 +99,13 @@ module _ (command : Command) (have : ℕ) (arguments : List (List ℕ)) (each : 
 one_run : (have : ℕ) (arguments : List (List ℕ)) (a b : Work) → All (IsArgument Run have) arguments → IsWork Run arguments a → IsWork Run arguments b → a ≡ b
 one_run have arguments a b each h k =
     let same : h.0 ≡ k.0 = one_number Run have arguments each Lanes 1 h.0 k.0 (lanes have) h.1 k.1 in
-    h.2 ∙ ap (λ (n : ℕ). on_lanes n work.Run) same ∙ sym k.2
+    h.2 ∙ ap (λ (n : ℕ). work.Run n) same ∙ sym k.2
 
 one_generation : (have : ℕ) (arguments : List (List ℕ)) (a b : Work) → All (IsArgument Gen have) arguments → IsWork Gen arguments a → IsWork Gen arguments b → a ≡ b
 one_generation have arguments a b each h k =
     let size : h.0 ≡ k.0 = one_number Gen have arguments each Size 0 h.0 k.0 (sizes have) h.2 k.2 in
     let same : h.1 ≡ k.1 = one_number Gen have arguments each Lanes 1 h.1 k.1 (lanes have) h.3 k.3 in
-    h.4 ∙ ap (λ (n : ℕ). on_lanes n (work.Generate h.0)) same ∙ ap (λ (n : ℕ). on_lanes k.1 (work.Generate n)) size ∙ sym k.4
+    h.4 ∙ ap (λ (n : ℕ). work.Generate h.0 n) same ∙ ap (λ (n : ℕ). work.Generate n k.1) size ∙ sym k.4
 
 one_work : (command : Command) (have : ℕ) (arguments : List (List ℕ)) (a b : Work) → All (IsArgument command have) arguments → IsWork command arguments a → IsWork command arguments b → a ≡ b
 one_work Run have arguments a b each h k = one_run have arguments a b each h k
@@ -115,6 +127,49 @@ one_task command have arguments a b each one other =
     same o p q r =
         ap (λ (w : Work). record { work = w; seed = a.seed; infer = a.infer; budget = a.budget }) o ∙ ap (λ (n : ℕ). record { work = b.work; seed = n; infer = a.infer; budget = a.budget }) p
         ∙ ap (λ (n : ℕ). record { work = b.work; seed = b.seed; infer = n; budget = a.budget }) q ∙ ap (λ (n : ℕ). record { work = b.work; seed = b.seed; infer = b.infer; budget = n }) r
+
+-- ---- lanes
+
+abbrev SpellsFew : ℕ → List ℕ → Type 0
+SpellsFew have text = (k : ℕ) × (1 ≤ k) × (k ≤ have) × (k < 2 ^ 64) × (text ≡ decimal k)
+
+no_more : (b : Bool) (have n : ℕ) → nat_lt have 16 ≡ b → (have ≤ 16) → n ≤ cond b have 16 → n ≤ have
+no_more true have n is few high = high
+no_more false have n is few high = let many : 16 ≤ have = ltb-false have 16 is in omega (arith, few, many, high)
+
+-- the number of lanes that a line gives is there
+few_given : (command : Command) (have n : ℕ) (arguments : List (List ℕ)) → 0 < have → have ≤ 16 → All (IsArgument command have) arguments → IsNumberGiven Lanes arguments 1 n → (1 ≤ n) × (n ≤ have)
+few_given command have n arguments some few each is = by (value_cases command have Lanes arguments (SpellsFew have) spelled each)
+  where
+    spelled : EachValue have Lanes (SpellsFew have)
+    spelled text v = (v.number, v.low, no_more (nat_lt have 16) have v.number refl few v.high, few_lanes (nat_lt have 16) have v.number refl v.high, v.spelled)
+
+    by : (given Lanes arguments ≡ None) ⊎ ((text : List ℕ) × (given Lanes arguments ≡ Some text) × SpellsFew have text) → (1 ≤ n) × (n ≤ have)
+    by (inl none) = let one = is.is_not none in (omega (arith, one), omega (arith, one, some))
+    by (inr (text, given_is, (k, low, high, small, spells))) =
+        let same = is.is_given k small (given_is ∙ ap Some spells) in (omega (arith, same, low), omega (arith, same, high))
+
+-- where so many lanes are there, and at most 16, the lanes of a line's task are there
+pub work_fits : (command : Command) (have : ℕ) (arguments : List (List ℕ)) (w : Work) → 0 < have → have ≤ 16 → All (IsArgument command have) arguments → IsWork command arguments w → FitsLanes have w
+work_fits Run have arguments w some few each h = subst (FitsLanes have) (sym h.2) (few_given Run have h.0 arguments some few each h.1)
+work_fits Gen have arguments w some few each h = subst (FitsLanes have) (sym h.4) (few_given Gen have h.1 arguments some few each h.3)
+work_fits Solve have arguments w some few each h = subst (FitsLanes have) (sym h) tt
+work_fits Check have arguments w some few each h = subst (FitsLanes have) (sym h) tt
+work_fits Static have arguments w some few each h = subst (FitsLanes have) (sym h) tt
+work_fits Place have arguments w some few each h = subst (FitsLanes have) (sym h) tt
+work_fits Sweep have arguments w some few each h = subst (FitsLanes have) (sym h) tt
+
+-- ---- several lanes
+
+-- a line that asks for that gives the number
+pub several_given : (command : Command) (arguments : List (List ℕ)) (w : Work) → IsWork command arguments w → IsSeveral w → (count : ℕ) × IsNumberGiven Lanes arguments 1 count × (1 < count)
+several_given Run arguments w h several = (h.0, h.1, subst IsSeveral h.2 several)
+several_given Gen arguments w h several = (h.1, h.3, subst IsSeveral h.4 several)
+several_given Solve arguments w h several = absurd (subst IsSeveral h several)
+several_given Check arguments w h several = absurd (subst IsSeveral h several)
+several_given Static arguments w h several = absurd (subst IsSeveral h several)
+several_given Place arguments w h several = absurd (subst IsSeveral h several)
+several_given Sweep arguments w h several = absurd (subst IsSeveral h several)
 
 -- ---- sources
 

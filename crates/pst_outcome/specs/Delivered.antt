@@ -6,9 +6,7 @@ use Rattle.pst_io.specs.Shelf.{Files}
 use Rattle.pst_words.specs.declared.command.Lines.{Lines}
 use Rattle.pst_outcome.specs.declared.answer.Answer.{Answer}
 use Rattle.pst_outcome.specs.declared.answer.Answer.TheVariants.{WriteFault, NoMemory}
-use Rattle.pst_body.specs.Doing.{with_calls}
-use Rattle.pst_target.specs.declared.call.Call.{Call as Answered}
-use Rattle.pst_outcome.specs.Models.{Lane}
+use Rattle.pst_run_alone.specs.Lanes.{Lane, HaveMade}
 use Rattle.pst_outcome.specs.Outcome.{IsOwed}
 
 -- what was written before the call and after it, where it is told, and the sink's count of faults
@@ -39,26 +37,25 @@ pub record Leaves (w : Writing) : Type 0 where
   pub count : w.faults_after ≡ w.faults_before
 
 -- the answer is right, and its text was written
-pub record HasAnswered (lines : Lines) (have : ℕ) (words : List (List ℕ)) (files : Option Files) (old new : ℕ) (l : Lane) (w : Writing) (answer : Answer) : Type 0 where
+pub record HasAnswered (lines : Lines) (have : ℕ) (words : List (List ℕ)) (files : Option Files) (old new : ℕ) (told : List Lane) (w : Writing) (answer : Answer) : Type 0 where
   pub text : List ℕ
-  pub owed : IsOwed lines have words files old new l answer text
+  pub owed : IsOwed lines have words files old new told answer text
   pub writes : Writes w text
 
 -- a right answer was to be given, and the sink failed at its text
-pub record HasBroken (lines : Lines) (have : ℕ) (words : List (List ℕ)) (files : Option Files) (old new : ℕ) (l : Lane) (w : Writing) : Type 0 where
+pub record HasBroken (lines : Lines) (have : ℕ) (words : List (List ℕ)) (files : Option Files) (old new : ℕ) (told : List Lane) (w : Writing) : Type 0 where
   pub answer : Answer
   pub text : List ℕ
-  pub owed : IsOwed lines have words files old new l answer text
+  pub owed : IsOwed lines have words files old new told answer text
   pub breaks : Breaks w text
 
--- nothing was written; calls of the lane may have been made
-pub record HasNoMemory (l : Lane) (w : Writing) : Type 0 where
+-- nothing was written; calls of the lanes may have been made
+pub record HasNoMemory (told : List Lane) (w : Writing) : Type 0 where
   pub leaves : Leaves w
-  pub made : List Answered
-  pub calls : l.after ≡ with_calls l.before made
+  pub made : HaveMade told
 
 -- the answer of the program
-abbrev pub Answers : Lines → ℕ → List (List ℕ) → Option Files → ℕ → ℕ → Lane → Writing → Answer → Type 0
-Answers lines have words files old new l w WriteFault = HasBroken lines have words files old new l w
-Answers lines have words files old new l w NoMemory = HasNoMemory l w
-Answers lines have words files old new l w answer = HasAnswered lines have words files old new l w answer
+abbrev pub Answers : Lines → ℕ → List (List ℕ) → Option Files → ℕ → ℕ → List Lane → Writing → Answer → Type 0
+Answers lines have words files old new told w WriteFault = HasBroken lines have words files old new told w
+Answers lines have words files old new told w NoMemory = HasNoMemory told w
+Answers lines have words files old new told w answer = HasAnswered lines have words files old new told w answer

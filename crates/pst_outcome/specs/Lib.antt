@@ -2,6 +2,7 @@ pub mod Status
 pub mod Texts
 pub mod Tasks
 pub mod Sources
+pub mod SharedRuns
 pub mod Models
 pub mod Outcome
 pub mod Delivered

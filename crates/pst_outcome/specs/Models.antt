@@ -1,9 +1,8 @@
 -- What is answered of a model, with the text of the answer.
-use Rattle.std.specs.Prelude.{◌≡◌, ◌<◌, ◌≤◌, ℕ, List, [], length, codes, Bool, false, Option, slice_get}
+use Rattle.std.specs.Prelude.{◌≡◌, ◌<◌, ◌≤◌, ℕ, List, [], ◌∷◌, length, codes, Bool, false, slice_get}
 use Rattle.std.specs.List.{count_by}
 use Rattle.std.specs.Option.{option_map_or}
 use Rattle.std.specs.Str.{bytes_eq}
-use Rattle.pst_target.specs.declared.call.Call.{Call as Answered}
 use Rattle.pst_model.specs.ModelTree.{ModelTree}
 use Rattle.pst_scen.specs.declared.act.Act.{Act}
 use Rattle.pst_scen.specs.declared.event.Event.{Event}
@@ -23,6 +22,7 @@ use Rattle.pst_scenario_answers.specs.declared.check.CheckAnswer.TheVariants as 
 use Rattle.pst_scenario_answers.specs.Checked.{IsChecked, answer_text}
 use Rattle.pst_run_alone.specs.declared.answer.RunAnswer.{RunAnswer}
 use Rattle.pst_run_alone.specs.declared.answer.RunAnswer.TheVariants as ran
+use Rattle.pst_run_alone.specs.Lanes.{Lane, AreUncalled}
 use Rattle.pst_run_alone.specs.Shown.{ShowsRun}
 use Rattle.pst_generated.specs.Generated.{counts_text}
 use Rattle.pst_outcome.specs.declared.answer.Answer.{Answer}
@@ -31,23 +31,7 @@ use Rattle.pst_outcome.specs.declared.task.Task.{Task}
 use Rattle.pst_outcome.specs.declared.task.Work.{Work}
 use Rattle.pst_outcome.specs.declared.task.Work.TheVariants as work
 use Rattle.pst_outcome.specs.Texts.{no_scenario_text, budget_text, unbuilt_text}
-
--- ---- the lane
-
--- what the lane tells of its calls before and after, and its counts of faults
-pub record Lane : Type 0 where
-  pub before : Option (List Answered)
-  pub after : Option (List Answered)
-  pub faults_before : ℕ
-  pub faults_after : ℕ
-
-abbrev pub lane : Option (List Answered) → Option (List Answered) → ℕ → ℕ → Lane
-lane before after faults_before faults_after = record { before = before; after = after; faults_before = faults_before; faults_after = faults_after }
-
--- it has no new call
-pub record IsUncalled (l : Lane) : Type 0 where
-  pub calls : l.after ≡ l.before
-  pub count : l.faults_after ≡ l.faults_before
+use Rattle.pst_outcome.specs.SharedRuns.{HaveRun, ShowsSharedRun}
 
 -- ---- answers of the parts below
 
@@ -85,17 +69,30 @@ pub data ShowsCounts (names : List (List ℕ)) (m : ModelTree) (s : Scenario) (p
   EndsElse : (answer : RunAnswer) (text : List ℕ) → ShowsRun names m s plan l.before l.after l.faults_before l.faults_after answer text
       → ((actions : ℕ) → answer ≡ ran.Done actions → ⊥) → ShowsCounts names m s plan size l answer text
 
+-- The same of a run on several lanes.
+pub data ShowsSharedCounts (names : List (List ℕ)) (m : ModelTree) (s : Scenario) (plan : Entries) (size count : ℕ) (lanes : List Lane) : RunAnswer → List ℕ → Type 0 where
+  HaveEnded : (trace : List Event) → (count < widest plan.groups → ⊥) → HaveRun m s count trace lanes
+      → ShowsSharedCounts names m s plan size count lanes (ran.Done (length s.actions))
+      (counts_text size (count_ended names m s trace (codes "make")) (count_ended names m s trace (codes "take")) (length s.actions))
+  EndElse : (answer : RunAnswer) (text : List ℕ) → ShowsSharedRun names m s plan count lanes answer text
+      → ((actions : ℕ) → answer ≡ ran.Done actions → ⊥) → ShowsSharedCounts names m s plan size count lanes answer text
+
 -- ---- scenarios
 
--- The scenario is run on the lane, of a generated model too, its header is printed, or a trace is judged against it.
-pub data OfScenario (names : List (List ℕ)) (m : ModelTree) (s : Scenario) (plan : Entries) (trace : List ℕ) (l : Lane) : Work → Answer → List ℕ → Type 0 where
-  IsRun : (answer : RunAnswer) (text : List ℕ) → ShowsRun names m s plan l.before l.after l.faults_before l.faults_after answer text
-      → OfScenario names m s plan trace l work.Run (answer_of_run answer) text
-  IsGenerated : (size : ℕ) (answer : RunAnswer) (text : List ℕ) → ShowsCounts names m s plan size l answer text
-      → OfScenario names m s plan trace l (work.Generate size) (answer_of_run answer) text
-  IsSolved : IsUncalled l → OfScenario names m s plan trace l work.Solve (Solved (length s.actions)) (trace_text names m s [] last.Solved)
-  IsJudged : (answer : CheckAnswer) → IsUncalled l → IsChecked names m s trace answer
-      → OfScenario names m s plan trace l work.Check (answer_of_check answer) (answer_text answer)
+-- The scenario is run on the first lane, or on so many of the first ones, of a generated model too; its header is printed; or a trace is judged
+-- against it.
+pub data OfScenario (names : List (List ℕ)) (m : ModelTree) (s : Scenario) (plan : Entries) (trace : List ℕ) (lanes : List Lane) : Work → Answer → List ℕ → Type 0 where
+  IsRun : (count : ℕ) (l : Lane) (others : List Lane) (answer : RunAnswer) (text : List ℕ) → count ≡ 1 → lanes ≡ l ∷ others → AreUncalled others
+      → ShowsRun names m s plan l.before l.after l.faults_before l.faults_after answer text → OfScenario names m s plan trace lanes (work.Run count) (answer_of_run answer) text
+  IsSharedRun : (count : ℕ) (answer : RunAnswer) (text : List ℕ) → 1 < count → ShowsSharedRun names m s plan count lanes answer text
+      → OfScenario names m s plan trace lanes (work.Run count) (answer_of_run answer) text
+  IsGenerated : (size count : ℕ) (l : Lane) (others : List Lane) (answer : RunAnswer) (text : List ℕ) → count ≡ 1 → lanes ≡ l ∷ others → AreUncalled others
+      → ShowsCounts names m s plan size l answer text → OfScenario names m s plan trace lanes (work.Generate size count) (answer_of_run answer) text
+  IsSharedGenerated : (size count : ℕ) (answer : RunAnswer) (text : List ℕ) → 1 < count → ShowsSharedCounts names m s plan size count lanes answer text
+      → OfScenario names m s plan trace lanes (work.Generate size count) (answer_of_run answer) text
+  IsSolved : AreUncalled lanes → OfScenario names m s plan trace lanes work.Solve (Solved (length s.actions)) (trace_text names m s [] last.Solved)
+  IsJudged : (answer : CheckAnswer) → AreUncalled lanes → IsChecked names m s trace answer
+      → OfScenario names m s plan trace lanes work.Check (answer_of_check answer) (answer_text answer)
 
 -- ---- models
 
@@ -106,11 +103,11 @@ IsSought done = Unit {0}
 
 -- No scenario with so few inferred actions is legal; the budget is spent in a level that may be searched; the first legal scenario in the seed's
 -- order with the fewest inferred actions is found; or nothing is sought yet.
-pub data OfModel (names : List (List ℕ)) (m : ModelTree) (root : ℕ) (task : Task) (trace : List ℕ) (l : Lane) : Answer → List ℕ → Type 0 where
-  HasNone : IsSought task.work → IsUncalled l → ((s : Scenario) → s.level ≤ task.infer → Legal m root s → ⊥)
-      → OfModel names m root task trace l NoScenario (no_scenario_text task.infer)
-  IsSpent : (level : ℕ) → IsSought task.work → IsUncalled l → level ≤ task.infer → Spent m root task.seed level task.budget
-      → OfModel names m root task trace l (Budget level) (budget_text level)
+pub data OfModel (names : List (List ℕ)) (m : ModelTree) (root : ℕ) (task : Task) (trace : List ℕ) (lanes : List Lane) : Answer → List ℕ → Type 0 where
+  HasNone : IsSought task.work → AreUncalled lanes → ((s : Scenario) → s.level ≤ task.infer → Legal m root s → ⊥)
+      → OfModel names m root task trace lanes NoScenario (no_scenario_text task.infer)
+  IsSpent : (level : ℕ) → IsSought task.work → AreUncalled lanes → level ≤ task.infer → Spent m root task.seed level task.budget
+      → OfModel names m root task trace lanes (Budget level) (budget_text level)
   IsFound : (s : Scenario) (plan : Entries) (answer : Answer) (text : List ℕ) → IsFirst m root task.seed task.infer s → IsPlanOf s plan
-      → OfScenario names m s plan trace l task.work answer text → OfModel names m root task trace l answer text
-  IsUnbuilt : task.work ≡ work.Unbuilt → IsUncalled l → OfModel names m root task trace l Unbuilt unbuilt_text
+      → OfScenario names m s plan trace lanes task.work answer text → OfModel names m root task trace lanes answer text
+  IsUnbuilt : task.work ≡ work.Unbuilt → AreUncalled lanes → OfModel names m root task trace lanes Unbuilt unbuilt_text

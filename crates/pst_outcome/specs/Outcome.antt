@@ -8,6 +8,7 @@ use Rattle.pst_model.specs.ModelTree.{ModelTree}
 use Rattle.pst_words.specs.declared.command.Command.{Command}
 use Rattle.pst_words.specs.declared.command.Lines.{Lines}
 use Rattle.pst_words.specs.Lines.{IsLine, IsWrongWord}
+use Rattle.pst_run_alone.specs.Lanes.{Lane, AreUncalled}
 use Rattle.pst_files_read.specs.Limits.{most_bytes, most_trace}
 use Rattle.pst_files_read.specs.Files.{AreRead, IsReached, IsTraceWord, IsTraceRead, IsMissing, IsLonger, sources_in}
 use Rattle.pst_outcome.specs.declared.answer.Answer.{Answer}
@@ -17,7 +18,7 @@ use Rattle.pst_outcome.specs.declared.task.Task.{Task}
 use Rattle.pst_outcome.specs.Texts.{usage_text, no_file_text, read_fault_text, large_text}
 use Rattle.pst_outcome.specs.Tasks.{IsRoot, AreSources, IsTask}
 use Rattle.pst_outcome.specs.Sources.{Front, Ends, HasModel, OfTexts}
-use Rattle.pst_outcome.specs.Models.{Lane, IsUncalled, OfModel}
+use Rattle.pst_outcome.specs.Models.{OfModel}
 
 -- ---- files
 
@@ -58,17 +59,17 @@ bytes_of None = []
 bytes_of (Some text) = text
 
 -- Before anything is written: this answer and its text are right for the words, where these lines are served and so many lanes are there, for the
--- files where the shelf tells them, for the shelf's count of faults before and now, and for what the lane tells.
-pub data IsOwed (lines : Lines) (have : ℕ) (words : List (List ℕ)) (files : Option Files) (old new : ℕ) (l : Lane) : Answer → List ℕ → Type 0 where
+-- files where the shelf tells them, for the shelf's count of faults before and now, and for what the lanes tell.
+pub data IsOwed (lines : Lines) (have : ℕ) (words : List (List ℕ)) (files : Option Files) (old new : ℕ) (told : List Lane) : Answer → List ℕ → Type 0 where
   -- the words are no line
-  IsUsage : (word : ℕ) → IsUncalled l → new ≡ old → IsWrongWord lines have words word → IsOwed lines have words files old new l (Usage word) (usage_text word)
+  IsUsage : (word : ℕ) → AreUncalled told → new ≡ old → IsWrongWord lines have words word → IsOwed lines have words files old new told (Usage word) (usage_text word)
   -- a file of the line can't be had
-  EndsAtFiles : (command : Command) (arguments : List (List ℕ)) (answer : Answer) (text : List ℕ) → IsUncalled l → IsLine lines have words command arguments
-      → OfFiles files old new arguments answer text → IsOwed lines have words files old new l answer text
+  EndsAtFiles : (command : Command) (arguments : List (List ℕ)) (answer : Answer) (text : List ℕ) → AreUncalled told → IsLine lines have words command arguments
+      → OfFiles files old new arguments answer text → IsOwed lines have words files old new told answer text
   -- its sources have no model
-  EndsAtSources : (command : Command) (arguments : List (List ℕ)) (trace : Option (List ℕ)) (answer : Answer) (text : List ℕ) → IsUncalled l → IsLine lines have words command arguments
-      → HasFront files old new command arguments trace (Ends answer text) → IsOwed lines have words files old new l answer text
+  EndsAtSources : (command : Command) (arguments : List (List ℕ)) (trace : Option (List ℕ)) (answer : Answer) (text : List ℕ) → AreUncalled told → IsLine lines have words command arguments
+      → HasFront files old new command arguments trace (Ends answer text) → IsOwed lines have words files old new told answer text
   -- what the line asks for is done with their model
   IsServed : (command : Command) (arguments : List (List ℕ)) (trace : Option (List ℕ)) (names : List (List ℕ)) (m : ModelTree) (root : ℕ) (task : Task) (answer : Answer) (text : List ℕ)
       → IsLine lines have words command arguments → HasFront files old new command arguments trace (HasModel names m root) → IsTask command arguments task
-      → OfModel names m root task (bytes_of trace) l answer text → IsOwed lines have words files old new l answer text
+      → OfModel names m root task (bytes_of trace) told answer text → IsOwed lines have words files old new told answer text

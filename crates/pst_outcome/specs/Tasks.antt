@@ -1,5 +1,5 @@
 -- What a line asks for: its root, its sources, how the first legal scenario is sought, and what is done with it.
-use Rattle.std.specs.Prelude.{◌≡◌, ℕ, ◌^◌, ◌<◌, List, [], ◌∷◌, ◌++◌, codes, decimal, nat_eq, if◌then◌else◌, Some, None}
+use Rattle.std.specs.Prelude.{◌≡◌, ℕ, ◌^◌, ◌<◌, ◌≤◌, List, [], ◌∷◌, ◌++◌, codes, decimal, Some, None}
 use Rattle.pst_token.specs.Lexemes.{IsName}
 use Rattle.pst_generated.specs.Generated.{generated_text}
 use Rattle.pst_words.specs.declared.command.Command.{Command}
@@ -38,19 +38,27 @@ AreSources command arguments texts sources = sources ≡ texts
 
 -- ---- the scenario that is sought, and what is done with it
 
--- that on one lane; on several lanes nothing yet
-abbrev pub on_lanes : ℕ → Work → Work
-on_lanes lanes done = if nat_eq lanes 1 then done else work.Unbuilt
-
--- what is done with the scenario
+-- what is done with the scenario; it is run on as many of the first lanes as the line says
 abbrev pub IsWork : Command → List (List ℕ) → Work → Type 0
-IsWork Run arguments done = (lanes : ℕ) × IsNumberGiven Lanes arguments 1 lanes × (done ≡ on_lanes lanes work.Run)
+IsWork Run arguments done = (lanes : ℕ) × IsNumberGiven Lanes arguments 1 lanes × (done ≡ work.Run lanes)
 IsWork Solve arguments done = done ≡ work.Solve
 IsWork Check arguments done = done ≡ work.Check
-IsWork Gen arguments done = (size : ℕ) × (lanes : ℕ) × IsNumberGiven Size arguments 0 size × IsNumberGiven Lanes arguments 1 lanes × (done ≡ on_lanes lanes (work.Generate size))
+IsWork Gen arguments done = (size : ℕ) × (lanes : ℕ) × IsNumberGiven Size arguments 0 size × IsNumberGiven Lanes arguments 1 lanes × (done ≡ work.Generate size lanes)
 IsWork Static arguments done = done ≡ work.Unbuilt
 IsWork Place arguments done = done ≡ work.Unbuilt
 IsWork Sweep arguments done = done ≡ work.Unbuilt
+
+-- where it is run on lanes, so many are there
+abbrev pub FitsLanes : ℕ → Work → Type 0
+FitsLanes have (work.Run lanes) = (1 ≤ lanes) × (lanes ≤ have)
+FitsLanes have (work.Generate size lanes) = (1 ≤ lanes) × (lanes ≤ have)
+FitsLanes have other = Unit {0}
+
+-- it is run on several
+abbrev pub IsSeveral : Work → Type 0
+IsSeveral (work.Run lanes) = 1 < lanes
+IsSeveral (work.Generate size lanes) = 1 < lanes
+IsSeveral other = ⊥
 
 -- the most inferred actions, and the most live lists of choices; a generated model has its own
 abbrev pub AreLimits : Command → List (List ℕ) → ℕ → ℕ → Type 0

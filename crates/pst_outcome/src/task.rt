@@ -3,16 +3,21 @@
 /// What is done with the first legal scenario.
 #[derive(Clone, Copy, Debug, PartialEq, Eq)]
 pub enum Work {
-    /// It is run on one lane, and its trace is printed.
-    Run,
+    /// It is run, and its trace is printed.
+    Run {
+        /// On how many lanes.
+        lanes: u32,
+    },
     /// Its header is printed.
     Solve,
     /// A trace is judged against it.
     Check,
-    /// It is one of a generated model: it is run on one lane, and counts are printed.
+    /// It is one of a generated model: it is run, and counts are printed.
     Generate {
         /// The size of the model.
         size: u32,
+        /// On how many lanes.
+        lanes: u32,
     },
     /// Nothing yet.
     Unbuilt,

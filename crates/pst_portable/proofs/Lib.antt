@@ -1,4 +1,3 @@
 mod Tasks
 mod Done
 mod Said
-mod Lanes

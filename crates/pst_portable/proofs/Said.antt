@@ -1,18 +1,20 @@
 -- From right answers to what was delivered.
-use Rattle.std.proofs.Common.{◌≡◌, ◌∙◌, ℕ, List, sym, subst, inl, inr}
+use Rattle.std.proofs.Common.{◌≡◌, ◌<◌, ◌⊎◌, ℕ, Bool, true, false, nat_lt, List, ◌∷◌, length, get_or, refl, sym, subst, inl, inr}
 use Rattle.std.specs.Prelude.{Option, string_bytes}
+use Rattle.std.proofs.lemmas.Bool.{ltb-true, ltb-false, cases_order}
 use Rattle.pst_io.specs.Shelf.{Files}
-use Rattle.pst_target.specs.declared.call.Call.{Call as Answered}
-use Rattle.pst_body.specs.Doing.{with_calls}
 use Rattle.pst_model.specs.ModelTree.{ModelTree}
 use Rattle.pst_token.specs.declared.token.Token.{Token}
 use Rattle.pst_ast.specs.DeclarationTree.{UnitTree}
 use Rattle.pst_scen.specs.declared.scenario.Scenario.{Scenario}
+use Rattle.pst_scen.specs.declared.event.Event.{Event}
+use Rattle.pst_lanes.specs.Lanes.{starts_on, ends_on}
 use Rattle.pst_scen.specs.Plan.{Entries}
 use Rattle.pst_scenario_answers.specs.declared.check.CheckAnswer.{CheckAnswer}
 use Rattle.pst_scenario_answers.specs.declared.check.CheckAnswer.TheVariants as checked
 use Rattle.pst_run_alone.specs.declared.answer.RunAnswer.{RunAnswer}
 use Rattle.pst_run_alone.specs.declared.answer.RunAnswer.TheVariants as ran
+use Rattle.pst_run_alone.specs.Lanes.{Lane, IsUncalled, HasMade, AreUncalled, HaveMade}
 use Rattle.pst_run_alone.specs.Shown.{ShowsRun, IsTooWide, HasEnded, HasFailed, HasTrapped}
 use Rattle.pst_words.specs.declared.command.Lines.{Lines}
 use Rattle.pst_outcome.specs.declared.answer.Answer.{Answer}
@@ -21,11 +23,13 @@ use Rattle.pst_outcome.specs.declared.reply.Reply.{Reply}
 use Rattle.pst_outcome.specs.declared.task.Task.{Task}
 use Rattle.pst_outcome.specs.declared.task.Work.{Work}
 use Rattle.pst_outcome.specs.Sources.{Front, Ends, HasModel, OfUnits, BreaksRule, HasManyInstances, AreElaborated, OfTokens, IsSyntaxFault, HasUnits, OfTexts, IsLexicalFault, HasManyTokens, HasTokens}
-use Rattle.pst_outcome.specs.Models.{Lane, IsUncalled, answer_of_run, answer_of_check, ShowsCounts, HasEnded as HasEndedWhole, EndsElse, OfScenario, IsRun, IsGenerated, IsSolved, IsJudged, OfModel, HasNone, IsSpent, IsFound, IsUnbuilt}
+use Rattle.pst_outcome.specs.SharedRuns.{Break, HasRun, HasBroken, AtCall, InTrap, HasStopped, BetweenBodies, InBody, AreUncalledFrom, HaveRun, HaveStopped, ShowsSharedRun, IsTooWide as AreTooWide, EndsWhole, EndsEarly}
+use Rattle.pst_outcome.specs.Models.{answer_of_run, answer_of_check, ShowsCounts, HasEnded as HasEndedWhole, EndsElse, ShowsSharedCounts, HaveEnded, EndElse, OfScenario, IsRun, IsSharedRun, IsGenerated, IsSharedGenerated, IsSolved, IsJudged, OfModel, HasNone, IsSpent, IsFound, IsUnbuilt}
 use Rattle.pst_outcome.specs.Outcome.{OfFiles, IsNoFile, IsUnread, HasManyBytes, HasLongTrace, IsOwed, IsUsage, EndsAtFiles, EndsAtSources, IsServed, bytes_of}
 use Rattle.pst_outcome.specs.Delivered.{Answers, Writing}
 use Rattle.pst_portable.specs.Replies.{Delivers}
-use Rattle.pst_portable.proofs.Done.{none_made}
+use Rattle.pst_model_answers.proofs.Runs.{none_made, all_made}
+use Rattle.pst_portable.proofs.Done.{made_beside}
 
 -- ---- an answer that only writing or memory gives is never right before
 
@@ -46,17 +50,19 @@ check_said checked.Prefix = tt
 check_said (checked.BadTrace number) = tt
 check_said (checked.Illegal number rule) = tt
 
-scenario_said : (names : List (List ℕ)) (m : ModelTree) (s : Scenario) (plan : Entries) (trace : List ℕ) (l : Lane) (work : Work) (a : Answer) (t : List ℕ) → OfScenario names m s plan trace l work a t → IsSaid a
-scenario_said names m s plan trace l _ _ _ (IsRun a text h) = run_said a
-scenario_said names m s plan trace l _ _ _ (IsGenerated size a text h) = run_said a
-scenario_said names m s plan trace l _ _ _ (IsSolved none) = tt
-scenario_said names m s plan trace l _ _ _ (IsJudged a none h) = check_said a
+scenario_said : (names : List (List ℕ)) (m : ModelTree) (s : Scenario) (plan : Entries) (trace : List ℕ) (told : List Lane) (work : Work) (a : Answer) (t : List ℕ) → OfScenario names m s plan trace told work a t → IsSaid a
+scenario_said names m s plan trace told _ _ _ (IsRun n l ls a text one is calm h) = run_said a
+scenario_said names m s plan trace told _ _ _ (IsSharedRun n a text several h) = run_said a
+scenario_said names m s plan trace told _ _ _ (IsGenerated size n l ls a text one is calm h) = run_said a
+scenario_said names m s plan trace told _ _ _ (IsSharedGenerated size n a text several h) = run_said a
+scenario_said names m s plan trace told _ _ _ (IsSolved none) = tt
+scenario_said names m s plan trace told _ _ _ (IsJudged a none h) = check_said a
 
-model_said : (names : List (List ℕ)) (m : ModelTree) (root : ℕ) (task : Task) (trace : List ℕ) (l : Lane) (a : Answer) (t : List ℕ) → OfModel names m root task trace l a t → IsSaid a
-model_said names m root task trace l _ _ (HasNone sought none h) = tt
-model_said names m root task trace l _ _ (IsSpent level sought none low h) = tt
-model_said names m root task trace l _ _ (IsFound s plan a t first planned h) = scenario_said names m s plan trace l task.work a t h
-model_said names m root task trace l _ _ (IsUnbuilt is none) = tt
+model_said : (names : List (List ℕ)) (m : ModelTree) (root : ℕ) (task : Task) (trace : List ℕ) (told : List Lane) (a : Answer) (t : List ℕ) → OfModel names m root task trace told a t → IsSaid a
+model_said names m root task trace told _ _ (HasNone sought none h) = tt
+model_said names m root task trace told _ _ (IsSpent level sought none low h) = tt
+model_said names m root task trace told _ _ (IsFound s plan a t first planned h) = scenario_said names m s plan trace told task.work a t h
+model_said names m root task trace told _ _ (IsUnbuilt is none) = tt
 
 -- the same of what sources come to
 abbrev IsFrontSaid : Front → Type 0
@@ -83,22 +89,16 @@ files_said files old new arguments _ _ (IsUnread _ _ _ _) = tt
 files_said files old new arguments _ _ (HasManyBytes _ _ _ _ _ _) = tt
 files_said files old new arguments _ _ (HasLongTrace _ _ _ _ _ _ _) = tt
 
-owed_said : (lines : Lines) (have : ℕ) (words : List (List ℕ)) (files : Option Files) (old new : ℕ) (l : Lane) (a : Answer) (t : List ℕ) → IsOwed lines have words files old new l a t → IsSaid a
-owed_said lines have words files old new l _ _ (IsUsage _ _ _ _) = tt
-owed_said lines have words files old new l _ _ (EndsAtFiles command arguments a t _ _ h) = files_said files old new arguments a t h
-owed_said lines have words files old new l _ _ (EndsAtSources command arguments trace a t _ _ h) = texts_said arguments h.component h.action h.sources (Ends a t) h.comes_to
-owed_said lines have words files old new l _ _ (IsServed command arguments trace names m root task a t _ _ _ h) = model_said names m root task (bytes_of trace) l a t h
+owed_said : (lines : Lines) (have : ℕ) (words : List (List ℕ)) (files : Option Files) (old new : ℕ) (told : List Lane) (a : Answer) (t : List ℕ) → IsOwed lines have words files old new told a t → IsSaid a
+owed_said lines have words files old new told _ _ (IsUsage _ _ _ _) = tt
+owed_said lines have words files old new told _ _ (EndsAtFiles command arguments a t _ _ h) = files_said files old new arguments a t h
+owed_said lines have words files old new told _ _ (EndsAtSources command arguments trace a t _ _ h) = texts_said arguments h.component h.action h.sources (Ends a t) h.comes_to
+owed_said lines have words files old new told _ _ (IsServed command arguments trace names m root task a t _ _ _ h) = model_said names m root task (bytes_of trace) told a t h
 
--- ---- the calls of the lane are those that were there, and others behind them
-
-abbrev HasMade : Lane → Type 0
-HasMade l = (made : List Answered) × (l.after ≡ with_calls l.before made)
-
-uncalled_made : (l : Lane) → IsUncalled l → HasMade l
-uncalled_made l none = let no = none_made l.before in (no.0, none.calls ∙ no.1)
+-- ---- the calls of the lanes are those that were there, and others behind them
 
 run_made : (names : List (List ℕ)) (m : ModelTree) (s : Scenario) (plan : Entries) (l : Lane) (a : RunAnswer) (t : List ℕ) → ShowsRun names m s plan l.before l.after l.faults_before l.faults_after a t → HasMade l
-run_made names m s plan l _ _ (IsTooWide wide same count) = let no = none_made l.before in (no.0, same ∙ no.1)
+run_made names m s plan l _ _ (IsTooWide wide same count) = none_made l (record { calls = same; count = count })
 run_made names m s plan l _ _ (HasEnded book narrow h count) = (h.made, h.calls)
 run_made names m s plan l _ _ (HasFailed action call book narrow h risen) = (h.ran.made, h.ran.calls)
 run_made names m s plan l _ _ (HasTrapped action kind book narrow h count) = (h.made, h.calls)
@@ -107,31 +107,77 @@ counts_made : (names : List (List ℕ)) (m : ModelTree) (s : Scenario) (plan : E
 counts_made names m s plan size l _ _ (HasEndedWhole book narrow h count) = (h.made, h.calls)
 counts_made names m s plan size l _ _ (EndsElse a t h other) = run_made names m s plan l a t h
 
-scenario_made : (names : List (List ℕ)) (m : ModelTree) (s : Scenario) (plan : Entries) (trace : List ℕ) (l : Lane) (work : Work) (a : Answer) (t : List ℕ) → OfScenario names m s plan trace l work a t → HasMade l
-scenario_made names m s plan trace l _ _ _ (IsRun a t h) = run_made names m s plan l a t h
-scenario_made names m s plan trace l _ _ _ (IsGenerated size a t h) = counts_made names m s plan size l a t h
-scenario_made names m s plan trace l _ _ _ (IsSolved none) = uncalled_made l none
-scenario_made names m s plan trace l _ _ _ (IsJudged a none h) = uncalled_made l none
+-- the first lane's calls were made, and no others
+first_made : (told : List Lane) (l : Lane) (others : List Lane) → told ≡ l ∷ others → HasMade l → AreUncalled others → HaveMade told
+first_made told l others is made none = subst HaveMade (sym is) (made_beside l others made none)
 
-model_made : (names : List (List ℕ)) (m : ModelTree) (root : ℕ) (task : Task) (trace : List ℕ) (l : Lane) (a : Answer) (t : List ℕ) → OfModel names m root task trace l a t → HasMade l
-model_made names m root task trace l _ _ (HasNone sought none h) = uncalled_made l none
-model_made names m root task trace l _ _ (IsSpent level sought none low h) = uncalled_made l none
-model_made names m root task trace l _ _ (IsFound s plan a t first planned h) = scenario_made names m s plan trace l task.work a t h
-model_made names m root task trace l _ _ (IsUnbuilt is none) = uncalled_made l none
+-- a lane that ran actions, or stopped
+has_run_made : (m : ModelTree) (s : Scenario) (actions : List ℕ) (l : Lane) → HasRun m s actions l → HasMade l
+has_run_made m s actions l h = (h.made, h.calls)
 
-owed_made : (lines : Lines) (have : ℕ) (words : List (List ℕ)) (files : Option Files) (old new : ℕ) (l : Lane) (a : Answer) (t : List ℕ) → IsOwed lines have words files old new l a t → HasMade l
-owed_made lines have words files old new l _ _ (IsUsage _ none _ _) = uncalled_made l none
-owed_made lines have words files old new l _ _ (EndsAtFiles command arguments a t none _ h) = uncalled_made l none
-owed_made lines have words files old new l _ _ (EndsAtSources command arguments trace a t none _ h) = uncalled_made l none
-owed_made lines have words files old new l _ _ (IsServed command arguments trace names m root task a t _ _ _ h) = model_made names m root task (bytes_of trace) l a t h
+broken_made : (m : ModelTree) (s : Scenario) (actions : List ℕ) (action : ℕ) (l : Lane) (break : Break) → HasBroken m s actions action l break → HasMade l
+broken_made m s actions action l _ (AtCall function arguments call r number risen) = (r.made, r.calls)
+broken_made m s actions action l _ (InTrap kind r count) = (r.made, r.calls)
+
+stopped_made : (m : ModelTree) (s : Scenario) (trace : List Event) (number : ℕ) (l : Lane) → HasStopped m s trace number l → HasMade l
+stopped_made m s trace number l (BetweenBodies h) = has_run_made m s (ends_on number trace) l h
+stopped_made m s trace number l (InBody action break runs h) = broken_made m s (ends_on number trace) action l break h
+
+-- each lane is one of the run, or one of the others
+each_made : (count : ℕ) (told : List Lane) → ((k : ℕ) (d : Lane) → k < count → HasMade (get_or told k d)) → AreUncalledFrom count told → HaveMade told
+each_made count told ran others = λ k d inside. by k d inside (nat_lt k count) refl
+  where
+    by : (k : ℕ) (d : Lane) → k < length told → (b : Bool) → nat_lt k count ≡ b → HasMade (get_or told k d)
+    by k d inside true is = ran k d (ltb-true k count is)
+    by k d inside false is = none_made (get_or told k d) (others k d (ltb-false k count is) inside)
+
+have_run_made : (m : ModelTree) (s : Scenario) (count : ℕ) (trace : List Event) (told : List Lane) → HaveRun m s count trace told → HaveMade told
+have_run_made m s count trace told h = each_made count told (λ k d below. has_run_made m s (starts_on k trace) (get_or told k d) (h.each k d below)) h.others
+
+have_stopped_made : (m : ModelTree) (s : Scenario) (count : ℕ) (trace : List Event) (told : List Lane) (number action : ℕ) (break : Break) → HaveStopped m s count trace told number action break → HaveMade told
+have_stopped_made m s count trace told number action break h = each_made count told (λ k d below. by k d below (cases_order k number)) h.others
+  where
+    by : (k : ℕ) (d : Lane) → k < count → (k ≡ number) ⊎ ((k < number) ⊎ (number < k)) → HasMade (get_or told k d)
+    by k d below (inr (inl low)) = has_run_made m s (ends_on k trace) (get_or told k d) (h.below k d low)
+    by k d below (inl same) = subst (λ (n : ℕ). HasMade (get_or told n d)) (sym same) (broken_made m s (ends_on number trace) action (get_or told number d) break (h.here d))
+    by k d below (inr (inr high)) = stopped_made m s trace k (get_or told k d) (h.above k d high below)
+
+shared_made : (names : List (List ℕ)) (m : ModelTree) (s : Scenario) (plan : Entries) (count : ℕ) (told : List Lane) (a : RunAnswer) (t : List ℕ) → ShowsSharedRun names m s plan count told a t → HaveMade told
+shared_made names m s plan count told _ _ (AreTooWide wide none) = all_made told none
+shared_made names m s plan count told _ _ (EndsWhole trace fits h) = have_run_made m s count trace told h
+shared_made names m s plan count told _ _ (EndsEarly trace number action break fits h) = have_stopped_made m s count trace told number action break h
+
+shared_counts_made : (names : List (List ℕ)) (m : ModelTree) (s : Scenario) (plan : Entries) (size count : ℕ) (told : List Lane) (a : RunAnswer) (t : List ℕ) → ShowsSharedCounts names m s plan size count told a t → HaveMade told
+shared_counts_made names m s plan size count told _ _ (HaveEnded trace fits h) = have_run_made m s count trace told h
+shared_counts_made names m s plan size count told _ _ (EndElse a t h other) = shared_made names m s plan count told a t h
+
+scenario_made : (names : List (List ℕ)) (m : ModelTree) (s : Scenario) (plan : Entries) (trace : List ℕ) (told : List Lane) (work : Work) (a : Answer) (t : List ℕ) → OfScenario names m s plan trace told work a t → HaveMade told
+scenario_made names m s plan trace told _ _ _ (IsRun n l ls a t one is calm h) = first_made told l ls is (run_made names m s plan l a t h) calm
+scenario_made names m s plan trace told _ _ _ (IsSharedRun n a t several h) = shared_made names m s plan n told a t h
+scenario_made names m s plan trace told _ _ _ (IsGenerated size n l ls a t one is calm h) = first_made told l ls is (counts_made names m s plan size l a t h) calm
+scenario_made names m s plan trace told _ _ _ (IsSharedGenerated size n a t several h) = shared_counts_made names m s plan size n told a t h
+scenario_made names m s plan trace told _ _ _ (IsSolved none) = all_made told none
+scenario_made names m s plan trace told _ _ _ (IsJudged a none h) = all_made told none
+
+model_made : (names : List (List ℕ)) (m : ModelTree) (root : ℕ) (task : Task) (trace : List ℕ) (told : List Lane) (a : Answer) (t : List ℕ) → OfModel names m root task trace told a t → HaveMade told
+model_made names m root task trace told _ _ (HasNone sought none h) = all_made told none
+model_made names m root task trace told _ _ (IsSpent level sought none low h) = all_made told none
+model_made names m root task trace told _ _ (IsFound s plan a t first planned h) = scenario_made names m s plan trace told task.work a t h
+model_made names m root task trace told _ _ (IsUnbuilt is none) = all_made told none
+
+owed_made : (lines : Lines) (have : ℕ) (words : List (List ℕ)) (files : Option Files) (old new : ℕ) (told : List Lane) (a : Answer) (t : List ℕ) → IsOwed lines have words files old new told a t → HaveMade told
+owed_made lines have words files old new told _ _ (IsUsage _ none _ _) = all_made told none
+owed_made lines have words files old new told _ _ (EndsAtFiles command arguments a t none _ h) = all_made told none
+owed_made lines have words files old new told _ _ (EndsAtSources command arguments trace a t none _ h) = all_made told none
+owed_made lines have words files old new told _ _ (IsServed command arguments trace names m root task a t _ _ _ h) = model_made names m root task (bytes_of trace) told a t h
 
 -- ---- what was delivered is the answer
 
-pub answered : (lines : Lines) (have : ℕ) (words : List (List ℕ)) (files : Option Files) (old new : ℕ) (l : Lane) (w : Writing) (reply : Reply) (result : Answer)
-    → IsOwed lines have words files old new l reply.answer (string_bytes reply.text) → Delivers reply w result → Answers lines have words files old new l w result
-answered lines have words files old new l w reply result owed (inl d) = subst (Answers lines have words files old new l w) (sym d.0) (by_answer reply.answer owed)
+pub answered : (lines : Lines) (have : ℕ) (words : List (List ℕ)) (files : Option Files) (old new : ℕ) (told : List Lane) (w : Writing) (reply : Reply) (result : Answer)
+    → IsOwed lines have words files old new told reply.answer (string_bytes reply.text) → Delivers reply w result → Answers lines have words files old new told w result
+answered lines have words files old new told w reply result owed (inl d) = subst (Answers lines have words files old new told w) (sym d.0) (by_answer reply.answer owed)
   where
-    by_answer : (a : Answer) → IsOwed lines have words files old new l a (string_bytes reply.text) → Answers lines have words files old new l w a
+    by_answer : (a : Answer) → IsOwed lines have words files old new told a (string_bytes reply.text) → Answers lines have words files old new told w a
     by_answer (answer.Done actions) o = record { text = string_bytes reply.text; owed = o; writes = d.1 }
     by_answer (answer.Solved actions) o = record { text = string_bytes reply.text; owed = o; writes = d.1 }
     by_answer answer.Whole o = record { text = string_bytes reply.text; owed = o; writes = d.1 }
@@ -151,10 +197,9 @@ answered lines have words files old new l w reply result owed (inl d) = subst (A
     by_answer (answer.BadTrace number) o = record { text = string_bytes reply.text; owed = o; writes = d.1 }
     by_answer (answer.Illegal number rule) o = record { text = string_bytes reply.text; owed = o; writes = d.1 }
     by_answer answer.Unbuilt o = record { text = string_bytes reply.text; owed = o; writes = d.1 }
-    by_answer answer.WriteFault o = absurd (owed_said lines have words files old new l answer.WriteFault (string_bytes reply.text) o)
-    by_answer answer.NoMemory o = absurd (owed_said lines have words files old new l answer.NoMemory (string_bytes reply.text) o)
-answered lines have words files old new l w reply result owed (inr (inl d)) =
-    subst (Answers lines have words files old new l w) (sym d.0) (record { answer = reply.answer; text = string_bytes reply.text; owed = owed; breaks = d.1 })
-answered lines have words files old new l w reply result owed (inr (inr d)) =
-    let made = owed_made lines have words files old new l reply.answer (string_bytes reply.text) owed in
-    subst (Answers lines have words files old new l w) (sym d.0) (record { leaves = d.1; made = made.0; calls = made.1 })
+    by_answer answer.WriteFault o = absurd (owed_said lines have words files old new told answer.WriteFault (string_bytes reply.text) o)
+    by_answer answer.NoMemory o = absurd (owed_said lines have words files old new told answer.NoMemory (string_bytes reply.text) o)
+answered lines have words files old new told w reply result owed (inr (inl d)) =
+    subst (Answers lines have words files old new told w) (sym d.0) (record { answer = reply.answer; text = string_bytes reply.text; owed = owed; breaks = d.1 })
+answered lines have words files old new told w reply result owed (inr (inr d)) =
+    subst (Answers lines have words files old new told w) (sym d.0) (record { leaves = d.1; made = owed_made lines have words files old new told reply.answer (string_bytes reply.text) owed })

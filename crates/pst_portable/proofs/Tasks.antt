@@ -1,9 +1,12 @@
 -- What a line asks for, by its command.
-use Rattle.std.proofs.Common.{◌≡◌, ℕ, List, refl}
+use Rattle.std.proofs.Common.{◌≡◌, ◌≤◌, ◌<◌, ◌⊎◌, inl, inr, ℕ, List, refl, arith}
+use Rattle.std.proofs.lemmas.Bool.{cases_lt}
 use Rattle.pst_words.specs.declared.command.Command.{Command}
 use Rattle.pst_words.specs.declared.command.Command.TheVariants.{Run, Solve, Check, Gen, Static, Place, Sweep}
 use Rattle.pst_words.specs.declared.key.Key.TheVariants.{Infer, Budget}
-use Rattle.pst_outcome.specs.Tasks.{IsNumberGiven, AreLimits}
+use Rattle.pst_outcome.specs.declared.task.Work.{Work}
+use Rattle.pst_outcome.specs.declared.task.Work.TheVariants as work
+use Rattle.pst_outcome.specs.Tasks.{IsNumberGiven, FitsLanes, IsSeveral, AreLimits}
 
 pub are_limits : (command : Command) (arguments : List (List ℕ)) (infer budget : ℕ) → (command ≡ Gen → ⊥) → IsNumberGiven Infer arguments 2 infer → IsNumberGiven Budget arguments 100000 budget
     → AreLimits command arguments infer budget
@@ -14,3 +17,23 @@ are_limits Gen arguments infer budget other i b = absurd (other refl)
 are_limits Static arguments infer budget other i b = (i, b)
 are_limits Place arguments infer budget other i b = (i, b)
 are_limits Sweep arguments infer budget other i b = (i, b)
+
+-- where more lanes are there
+pub fits_more : (w : Work) (a b : ℕ) → a ≤ b → FitsLanes a w → FitsLanes b w
+fits_more (work.Run lanes) a b more (low, high) = (low, omega (arith, more, high))
+fits_more work.Solve a b more fits = tt
+fits_more work.Check a b more fits = tt
+fits_more (work.Generate size lanes) a b more (low, high) = (low, omega (arith, more, high))
+fits_more work.Unbuilt a b more fits = tt
+
+at_most : (n : ℕ) → (1 < n → ⊥) → (1 < n) ⊎ (n ≤ 1) → n ≤ 1
+at_most n few (inl many) = absurd (few many)
+at_most n few (inr one) = one
+
+-- what isn't run on several lanes is run on one at most
+pub fits_one : (w : Work) (have : ℕ) → FitsLanes have w → (IsSeveral w → ⊥) → FitsLanes 1 w
+fits_one (work.Run lanes) have (low, high) alone = (low, at_most lanes alone (cases_lt 1 lanes))
+fits_one work.Solve have fits alone = tt
+fits_one work.Check have fits alone = tt
+fits_one (work.Generate size lanes) have (low, high) alone = (low, at_most lanes alone (cases_lt 1 lanes))
+fits_one work.Unbuilt have fits alone = tt

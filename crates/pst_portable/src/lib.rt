@@ -2,7 +2,9 @@
 //! run, and the text of the answer is written to a sink.
 #![tactic(auto)]
 
+mod asked;
 mod replies;
+mod request;
 mod task;
 mod top;
 mod words;

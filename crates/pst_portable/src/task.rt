@@ -1,7 +1,7 @@
 //! What a line asks for.
 ghost use Rattle.std.specs.Prelude.{◌≡◌, map, string_bytes};
 ghost use Rattle.pst_front.specs.Lines.{AreBehind};
-ghost use Rattle.pst_outcome.specs.Tasks.{on_lanes as work_on_lanes, IsWork, AreLimits, IsTask};
+ghost use Rattle.pst_outcome.specs.Tasks.{IsWork, AreLimits, IsTask};
 
 use pst_front::{infer_given, lanes_given, size_given};
 use pst_outcome::{Task, Work};
@@ -10,25 +10,22 @@ use pst_words::{Command, Key, Line};
 /// The budget where a line gives none.
 const BUDGET: u64 = 100_000;
 
-// That on one lane; on several lanes nothing yet.
-fn on_lanes(lanes: u32, done: Work) -> Work
-    ensures { result ≡ work_on_lanes lanes done }
-{
-    if lanes == 1 { done } else { Work::Unbuilt }
-}
-
 // What is done with the scenario.
 fn work_of(line: &Line<'_>) -> Work
     requires { AreBehind line.now.command (map string_bytes line.now.arguments.now) }
     ensures { IsWork line.now.command (map string_bytes line.now.arguments.now) result }
 {
     match line.command {
-        Command::Run => on_lanes(lanes_given(line), Work::Run),
+        Command::Run => {
+            let lanes = lanes_given(line);
+            Work::Run { lanes }
+        }
         Command::Solve => Work::Solve,
         Command::Check => Work::Check,
         Command::Gen => {
             let size = size_given(line);
-            on_lanes(lanes_given(line), Work::Generate { size })
+            let lanes = lanes_given(line);
+            Work::Generate { size, lanes }
         }
         Command::Static => Work::Unbuilt,
         Command::Place => Work::Unbuilt,

@@ -1,22 +1,20 @@
 //! The calls of the program.
-ghost use Rattle.std.specs.Prelude.{◌≡◌, List, ℕ, Option, None, map, min, length, drop, string_bytes, vec_len, IfOk};
-ghost use Rattle.pst_io.specs.Shelf.{Files};
+ghost use Rattle.std.specs.Prelude.{◌≡◌, List, ℕ, [], ◌∷◌, map, min, length, drop, string_bytes, vec_len, IfOk, IfErr};
 ghost use Rattle.pst_words.specs.declared.command.Command.{Command};
 ghost use Rattle.pst_words.specs.declared.command.Lines.TheVariants as lines;
 ghost use Rattle.pst_words.specs.Lines.{IsLine};
-ghost use Rattle.pst_outcome.specs.Models.{lane as lane_of};
+ghost use Rattle.pst_run_alone.specs.Lanes.{lane as lane_of, HasMade, HaveMade, lanes_told};
 ghost use Rattle.pst_outcome.specs.Outcome.{IsOwed};
 ghost use Rattle.pst_outcome.specs.Delivered.{Answers, writing};
-ghost use Rattle.pst_portable.specs.Lanes.{first_calls, first_faults};
 ghost use Rattle.pst_portable.specs.Replies.{Delivers};
 
-use crate::replies::usage;
-use crate::words::reply_to_words;
+use crate::asked::{reply_alone, reply_on_lanes};
+use crate::words::request_of_words;
 use pst_base::NoMemory;
 use pst_io::{Shelf, Sink, write_all};
 use pst_outcome::{Answer, Reply};
 use pst_target::{Gate, Target};
-use pst_words::{Lines, read_words};
+use pst_words::Lines;
 use std::alloc::Global;
 use std::sync::Wait;
 use std::thread::Threads;
@@ -34,26 +32,21 @@ fn deliver<K: Sink>(sink: &mut K, reply: Reply) -> Answer
     }
 }
 
-// Answers words, where these lines are served and so many lanes are there, of which that is the first.
-fn answer<S: Shelf, K: Sink, T: Target>(
+// The reply to words on one lane.
+fn reply_to_words<S: Shelf, T: Target>(
     alloc: Global,
-    lines: Lines,
-    have: u32,
     words: &[String],
     shelf: &mut S,
-    sink: &mut K,
     lane: &mut T,
-) -> Answer
-    ensures answer { Answers lines have (map string_bytes words.now) (S.files shelf.old) (S.faults shelf.old) (S.faults shelf.new)
-        (lane_of (T.calls lane.old) (T.calls lane.new) (T.faults lane.old) (T.faults lane.new))
-        (writing (K.written sink.old) (K.written sink.new) (K.faults sink.old) (K.faults sink.new)) result }
+) -> Result<Reply, NoMemory>
     ensures same_files { S.files shelf.new ≡ S.files shelf.old }
-    ensures unopened { ((command : Command) (arguments : List (List ℕ)) → IsLine lines have (map string_bytes words.now) command arguments → ⊥) → S.rest shelf.new ≡ S.rest shelf.old }
+    ensures owed { IfOk result (λ reply. IsOwed lines.WithoutSweep 1 (map string_bytes words.now) (S.files shelf.old) (S.faults shelf.old) (S.faults shelf.new)
+        (lane_of (T.calls lane.old) (T.calls lane.new) (T.faults lane.old) (T.faults lane.new) ∷ []) reply.answer (string_bytes reply.text)) }
+    ensures memory { IfErr result (λ e. HasMade (lane_of (T.calls lane.old) (T.calls lane.new) (T.faults lane.old) (T.faults lane.new))) }
+    ensures unopened { ((command : Command) (arguments : List (List ℕ)) → IsLine lines.WithoutSweep 1 (map string_bytes words.now) command arguments → ⊥) → S.rest shelf.new ≡ S.rest shelf.old }
 {
-    match reply_to_words(alloc, lines, have, words, shelf, lane) {
-        Ok(reply) => deliver(sink, reply),
-        Err(NoMemory) => Answer::NoMemory,
-    }
+    let request = request_of_words(alloc, Lines::WithoutSweep, 1, words, shelf)?;
+    reply_alone(alloc, request, lane)
 }
 
 /// Answers words on one lane, for every command but `sweep`: it reads the words and the files of the
@@ -69,14 +62,17 @@ pub fn portable_alone<S: Shelf, K: Sink, T: Target>(
     // Each answer comes only where it is right, and its text was written and nothing else. What the
     // lane was called for is part of it.
     ensures answer { Answers lines.WithoutSweep 1 (map string_bytes words.now) (S.files shelf.old) (S.faults shelf.old) (S.faults shelf.new)
-        (lane_of (T.calls lane.old) (T.calls lane.new) (T.faults lane.old) (T.faults lane.new))
+        (lane_of (T.calls lane.old) (T.calls lane.new) (T.faults lane.old) (T.faults lane.new) ∷ [])
         (writing (K.written sink.old) (K.written sink.new) (K.faults sink.old) (K.faults sink.new)) result }
     ensures same_files { S.files shelf.new ≡ S.files shelf.old }
 
     // Words that are no line are refused before any file is opened.
     ensures unopened { ((command : Command) (arguments : List (List ℕ)) → IsLine lines.WithoutSweep 1 (map string_bytes words.now) command arguments → ⊥) → S.rest shelf.new ≡ S.rest shelf.old }
 {
-    answer(alloc, Lines::WithoutSweep, 1, words, shelf, sink, lane)
+    match reply_to_words(alloc, words, shelf, lane) {
+        Ok(reply) => deliver(sink, reply),
+        Err(NoMemory) => Answer::NoMemory,
+    }
 }
 
 // How many lanes a line may have: those that are there, and at most 16.
@@ -86,30 +82,37 @@ fn most_lanes(count: usize) -> u32
     if count < 16 { count as u32 } else { 16 }
 }
 
-// The reply to words where no lane is there: none are a line.
-fn reply_without_lanes(alloc: Global, words: &[String]) -> Result<Reply, NoMemory>
-    ensures { IfOk result (λ reply. (files : Option Files) (count : ℕ) → IsOwed lines.All 0 (map string_bytes words.now) files count count (lane_of None None 0 0) reply.answer (string_bytes reply.text)) }
+// The reply to words on some lanes.
+fn reply_to_words_on<
+    R: Threads + Wait + Sync,
+    S: Shelf,
+    T: Target + Send,
+    G: Gate + Sync,
+>(
+    rt: &R,
+    alloc: Global,
+    words: &[String],
+    shelf: &mut S,
+    lanes: &mut Vec<T>,
+    gate: &G,
+) -> Result<Reply, NoMemory>
+    ensures same_files { S.files shelf.new ≡ S.files shelf.old }
+    ensures owed { IfOk result (λ reply. IsOwed lines.All (min (vec_len lanes.old) 16) (map string_bytes words.now) (S.files shelf.old) (S.faults shelf.old) (S.faults shelf.new)
+        (lanes_told T.calls T.faults lanes.old.items lanes.new.items) reply.answer (string_bytes reply.text)) }
+    ensures memory { IfErr result (λ e. HaveMade (lanes_told T.calls T.faults lanes.old.items lanes.new.items)) }
+    ensures unopened { ((command : Command) (arguments : List (List ℕ)) → IsLine lines.All (min (vec_len lanes.old) 16) (map string_bytes words.now) command arguments → ⊥) → S.rest shelf.new ≡ S.rest shelf.old }
+    ensures others { drop 16 lanes.new.items ≡ drop 16 lanes.old.items }
+    ensures as_many { length lanes.new.items ≡ length lanes.old.items }
 {
-    match read_words(Lines::All, 0, words) {
-        Ok(_) => unreachable!(),
-        Err(word) => usage(alloc, word),
-    }
+    let have = most_lanes(lanes.len());
+    let request = request_of_words(alloc, Lines::All, have, words, shelf)?;
+    reply_on_lanes(rt, alloc, request, lanes, gate)
 }
 
-// Answers words where no lane is there.
-fn answer_without_lanes<K: Sink>(alloc: Global, words: &[String], sink: &mut K) -> Answer
-    ensures { (files : Option Files) (count : ℕ) → Answers lines.All 0 (map string_bytes words.now) files count count (lane_of None None 0 0)
-        (writing (K.written sink.old) (K.written sink.new) (K.faults sink.old) (K.faults sink.new)) result }
-{
-    match reply_without_lanes(alloc, words) {
-        Ok(reply) => deliver(sink, reply),
-        Err(NoMemory) => Answer::NoMemory,
-    }
-}
-
-/// Answers words on the lanes, for every command: as `portable_alone` does, on the first of them. What
-/// asks for several lanes, and `sweep`, isn't built yet. Where no lane is handed in no words are a line.
-/// It promises nothing of its return.
+/// Answers words on the lanes, for every command: as `portable_alone` does, on the first of them, but
+/// that a scenario is run on as many of the first lanes as the line says, each with a worker that passes
+/// the gate before each body. `static`, `place` and `sweep` aren't built yet. Where no lane is handed in
+/// no words are a line. It promises nothing of its return.
 pub fn portable_stimulus<
     R: Threads + Wait + Sync,
     S: Shelf,
@@ -126,23 +129,21 @@ pub fn portable_stimulus<
     gate: &G,
 ) -> Answer
     // Each answer comes only where it is right, and its text was written and nothing else. What the
-    // first lane was called for is part of it.
+    // lanes were called for is part of it.
     ensures answer { Answers lines.All (min (vec_len lanes.old) 16) (map string_bytes words.now) (S.files shelf.old) (S.faults shelf.old) (S.faults shelf.new)
-        (lane_of (first_calls T.calls lanes.old.items) (first_calls T.calls lanes.new.items) (first_faults T.faults lanes.old.items) (first_faults T.faults lanes.new.items))
+        (lanes_told T.calls T.faults lanes.old.items lanes.new.items)
         (writing (K.written sink.old) (K.written sink.new) (K.faults sink.old) (K.faults sink.new)) result }
     ensures same_files { S.files shelf.new ≡ S.files shelf.old }
 
     // Words that are no line are refused before any file is opened.
     ensures unopened { ((command : Command) (arguments : List (List ℕ)) → IsLine lines.All (min (vec_len lanes.old) 16) (map string_bytes words.now) command arguments → ⊥) → S.rest shelf.new ≡ S.rest shelf.old }
 
-    // The other lanes are as they were.
-    ensures others { drop 1 lanes.new.items ≡ drop 1 lanes.old.items }
+    // The lanes beyond the sixteenth are as they were.
+    ensures others { drop 16 lanes.new.items ≡ drop 16 lanes.old.items }
     ensures as_many { length lanes.new.items ≡ length lanes.old.items }
 {
-    let (_runtime, _gate) = (rt, gate);
-    let have = most_lanes(lanes.len());
-    match lanes.first_mut() {
-        Some(lane) => answer(alloc, Lines::All, have, words, shelf, sink, lane),
-        None => answer_without_lanes(alloc, words, sink),
+    match reply_to_words_on(rt, alloc, words, shelf, lanes, gate) {
+        Ok(reply) => deliver(sink, reply),
+        Err(NoMemory) => Answer::NoMemory,
     }
 }

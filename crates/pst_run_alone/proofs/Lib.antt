@@ -1,5 +1,5 @@
 mod Calls
 mod Turns
 mod OneRun
-mod OneAnswer
+pub mod OneAnswer
 pub mod Shows

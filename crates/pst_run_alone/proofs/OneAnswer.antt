@@ -28,7 +28,7 @@ use Rattle.pst_run_alone.proofs.OneRun.{Goes, AreSame, one}
 
 -- ---- the width of a plan
 
-groups_same : (s : Scenario) (p q : Entries) → IsPlanOf s p → IsPlanOf s q → p.groups ≡ q.groups
+pub groups_same : (s : Scenario) (p q : Entries) → IsPlanOf s p → IsPlanOf s q → p.groups ≡ q.groups
 groups_same s p q first second =
     let many = first.entries.many in
     let others = second.entries.many in

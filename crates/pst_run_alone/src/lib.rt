@@ -7,4 +7,4 @@ mod run;
 
 pub use answer::{RunAnswer, ShownRun};
 pub use laws::{runs_are_one, traces_are_one};
-pub use run::{show_end, show_run};
+pub use run::{show_end, show_run, show_whole};

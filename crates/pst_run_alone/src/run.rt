@@ -41,8 +41,8 @@ fn trace_of(
     write_trace(alloc, names, model, scenario, book.trace(), last)
 }
 
-// The answer and the text of a run that was whole.
-fn show_whole(
+/// The answer of a run that was whole, and its text: the trace.
+pub fn show_whole(
     alloc: Global,
     names: &Names,
     model: &Model,

@@ -1,85 +1,54 @@
-//! The calls of the program.
-use crate::setting::Parts;
-use pst_outcome::Answer;
-use pst_portable::{portable_alone, portable_stimulus};
-use pst_target::{Call, OpenGate, ScriptTarget, SureTarget};
+//! Words on one lane.
+use pst_portable::portable_alone;
+use pst_target::{ScriptTarget, SureTarget};
+use pst_tests_settings::{Setting, add_calls, ends_of, judging_of, setting_of, shown};
 use std::alloc::{AllocError, Global};
-use std::sync::Wait;
-use std::thread::Threads;
 
-// The status of an answer and the text that was written.
-fn written(alloc: Global, answer: &Answer, bytes: &[u8]) -> Result<String, AllocError> {
-    let mut text = String::new(alloc);
-    write!(text, "{} ", answer.status())?;
-    for byte in bytes {
-        text.push(if *byte == b'\n' {
-            '/'
-        } else {
-            char::from(*byte)
-        })?;
-    }
-    Ok(text)
-}
-
-/// What words are answered on one lane.
-pub fn alone(alloc: Global, text: &str) -> Result<String, AllocError> {
-    let parts = Parts::of(text);
-    let words = parts.words(alloc)?;
-    let mut shelf = parts.shelf(alloc)?;
-    let mut sink = parts.sink(alloc)?;
+/// The status of the answer on a lane that doesn't fail, and the bytes that were written.
+pub fn written(alloc: Global, setting: Setting) -> Result<(u8, Vec<u8>), AllocError> {
+    let Setting {
+        words,
+        mut shelf,
+        mut sink,
+    } = setting;
     let mut lane = SureTarget::new(alloc, Vec::new(alloc));
     let answer = portable_alone(alloc, words.as_slice(), &mut shelf, &mut sink, &mut lane);
-    written(alloc, &answer, sink.bytes())
+    Ok((answer.status(), Vec::from_slice(alloc, sink.bytes())?))
 }
 
-// The calls of a lane behind a text: ` | `, and each function's number with its arguments.
-fn add_calls(text: &mut String, calls: &[Call]) -> Result<(), AllocError> {
-    text.push_str(" |")?;
-    for call in calls {
-        write!(text, " {}", call.function)?;
-        for argument in call.arguments.as_slice() {
-            write!(text, ":{argument}")?;
-        }
-    }
-    Ok(())
+/// The status of the answer, and the text.
+pub fn alone(alloc: Global, text: &str) -> Result<String, AllocError> {
+    let (status, bytes) = written(alloc, setting_of(alloc, text)?)?;
+    shown(alloc, status, bytes.as_slice())
 }
 
-/// What words are answered on a lane whose call of that number fails, and the lane's calls.
-pub fn on_failing(alloc: Global, failing: u32, text: &str) -> Result<String, AllocError> {
-    let parts = Parts::of(text);
-    let words = parts.words(alloc)?;
-    let mut shelf = parts.shelf(alloc)?;
-    let mut sink = parts.sink(alloc)?;
-    let mut lane = ScriptTarget::new(alloc, Vec::new(alloc), u64::from(failing));
-    let answer = portable_alone(alloc, words.as_slice(), &mut shelf, &mut sink, &mut lane);
-    let mut found = written(alloc, &answer, sink.bytes())?;
-    add_calls(&mut found, lane.calls())?;
+/// The status, how many lines were written, the second of them and the last.
+pub fn ends(alloc: Global, text: &str) -> Result<String, AllocError> {
+    let (status, bytes) = written(alloc, setting_of(alloc, text)?)?;
+    ends_of(alloc, status, bytes.as_slice())
+}
+
+/// What `check` answers to the text that was written.
+pub fn judged(alloc: Global, text: &str) -> Result<String, AllocError> {
+    let (_status, trace) = written(alloc, setting_of(alloc, text)?)?;
+    let (status, verdict) = written(alloc, judging_of(alloc, text, trace.as_slice())?)?;
+    let verdict = String::from_utf8_lossy(alloc, verdict.as_slice())?;
+    let mut found = String::new(alloc);
+    write!(found, "{status} {}", verdict.as_str().trim_end())?;
     Ok(found)
 }
 
-/// What words are answered on so many lanes.
-pub fn on_lanes<R: Threads + Wait + Sync + AllocGlobal>(
-    rt: &R,
-    count: u32,
-    text: &str,
-) -> Result<String, AllocError> {
-    let alloc = rt.alloc();
-    let parts = Parts::of(text);
-    let words = parts.words(alloc)?;
-    let mut shelf = parts.shelf(alloc)?;
-    let mut sink = parts.sink(alloc)?;
-    let mut lanes = Vec::new(alloc);
-    for _ in 0..count {
-        lanes.push(SureTarget::new(alloc, Vec::new(alloc)))?;
-    }
-    let answer = portable_stimulus(
-        rt,
-        alloc,
-        words.as_slice(),
-        &mut shelf,
-        &mut sink,
-        &mut lanes,
-        &OpenGate,
-    );
-    written(alloc, &answer, sink.bytes())
+/// What is answered on a lane whose call of that number fails, and the lane's calls.
+pub fn on_failing(alloc: Global, failing: u32, text: &str) -> Result<String, AllocError> {
+    let Setting {
+        words,
+        mut shelf,
+        mut sink,
+    } = setting_of(alloc, text)?;
+    let mut lane = ScriptTarget::new(alloc, Vec::new(alloc), u64::from(failing));
+    let answer = portable_alone(alloc, words.as_slice(), &mut shelf, &mut sink, &mut lane);
+    let mut found = shown(alloc, answer.status(), sink.bytes())?;
+    found.push_str(" |")?;
+    add_calls(&mut found, lane.calls())?;
+    Ok(found)
 }

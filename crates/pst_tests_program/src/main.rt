@@ -2,21 +2,24 @@
 //! and writes to the sink that fail, is compared with answers that were worked out by hand.
 //!
 //! `stdin` is the table, in the form that `pst_cases` describes. A case is `STATUS TEXT: WORDS =>
-//! NAMES => SHELF => SINK => TEXTS`: the text has a `/` for each line feed; `''` is a word without
-//! letters; the names and texts are those of the files; the shelf's calls with these numbers fail;
-//! the sink takes so many bytes a write, and the writes with the numbers behind fail. The calls:
+//! NAMES => SHELF => SINK => TEXTS`, as `pst_tests_settings` reads it: the text has a `/` for each line
+//! feed; `''` is a word without letters; the names and texts are those of the files; the shelf's calls
+//! with these numbers fail; the sink takes so many bytes a write, and the writes with the numbers
+//! behind fail. The calls:
 //!
 //! - `alone`: on one lane. `lanes`: on so many as `number` says.
 //! - `failing`: on a lane whose call of that number fails; behind the text ` |`, and the lane's calls.
 //! - `ends`: in place of the text how many lines it has, the second of them and the last.
 //! - `judged`: what `check` answers to the text.
+//! - `writes`: the status, and for how many writes of the text, where that one fails, the status isn't
+//!   7, or something else was written than what stands before it.
 //! - `cuts`: how many fronts of a source have another status than 1, and the status of the source.
 #![tactic(auto)]
 
 mod calls;
 mod cuts;
-mod setting;
-mod texts;
+mod lanes;
+mod writes;
 
 use pst_cases::{Heading, Score, framed, joined_lines, repeated};
 use std::alloc::AllocError;
@@ -37,10 +40,11 @@ fn answer<R: Threads + Wait + Sync + AllocGlobal>(
     let alloc = rt.alloc();
     match heading.call.as_str() {
         "alone" => calls::alone(alloc, text),
-        "lanes" => calls::on_lanes(rt, heading.number, text),
+        "lanes" => lanes::on_lanes(rt, heading.number, text),
         "failing" => calls::on_failing(alloc, heading.number, text),
-        "ends" => texts::ends(alloc, text),
-        "judged" => texts::judged(alloc, text),
+        "ends" => calls::ends(alloc, text),
+        "judged" => calls::judged(alloc, text),
+        "writes" => writes::breaks(alloc, text),
         _ => cuts::answers(alloc, text),
     }
 }

@@ -1,7 +1,7 @@
 use Rattle.std.proofs.Common.{refl, subst}
 use Rattle.pst_model.specs.ModelView.{view_model}
 use Rattle.pst_outcome.specs.Models.{IsSought}
-use Rattle.pst_model_answers.proofs.Runs.{solved_replied, check_replied, replied_as}
+use Rattle.pst_model_answers.proofs.Runs.{run_on_one, generated_on_one, solved_replied, check_replied, replied_as}
 use Rattle.pst_model_answers.proofs.found.reply_to_found.Goals as goal
 
 pub reply_to_solve-requires : goal.reply_to_solve-requires
@@ -12,7 +12,7 @@ unreachable-requires g c = subst IsSought c.in-Unbuilt.is c.requires.sought
 
 pub returns-in-Run : goal.returns-in-Run
 returns-in-Run g c =
-    replied_as c.args.names.now (view_model c.args.model.now) c.args.scenario.now c.args.plan.now _ c.args.trace.now c.args.work _ c.reply_to_run.result c.in-Run.is (c.reply_to_run.ensures c.args.trace.now)
+    run_on_one c.args.names.now (view_model c.args.model.now) c.args.scenario.now c.args.plan.now _ c.args.trace.now c.args.work _ c.reply_to_run.result c.in-Run.is c.requires.alone (c.reply_to_run.ensures c.args.trace.now)
 
 pub returns-in-Solve : goal.returns-in-Solve
 returns-in-Solve g c =
@@ -26,4 +26,4 @@ returns-in-Check g c =
 
 pub returns-in-Generate : goal.returns-in-Generate
 returns-in-Generate g c =
-    replied_as c.args.names.now (view_model c.args.model.now) c.args.scenario.now c.args.plan.now _ c.args.trace.now c.args.work _ c.reply_to_counts.result c.in-Generate.is (c.reply_to_counts.ensures c.args.trace.now)
+    generated_on_one c.args.names.now (view_model c.args.model.now) c.args.scenario.now c.args.plan.now _ c.args.trace.now c.args.work _ _ c.reply_to_counts.result c.in-Generate.is c.requires.alone (c.reply_to_counts.ensures c.args.trace.now)

@@ -1,12 +1,14 @@
-use Rattle.std.proofs.Common.{map, string_bytes, sym, subst}
+use Rattle.std.proofs.Common.{map, string_bytes, refl, sym, subst}
 use Rattle.pst_words.specs.declared.command.Command.{Command}
+use Rattle.pst_outcome.specs.declared.task.Work.TheVariants as work
 use Rattle.pst_outcome.specs.Tasks.{IsWork}
 use Rattle.pst_portable.proofs.task.work_of.Goals as goal
 
 pub returns-in-Run : goal.returns-in-Run
-returns-in-Run c = subst (λ (k : Command). IsWork k (map string_bytes c.args.line.now.arguments.now) c.on_lanes.result) (sym c.in-Run.is) (c.lanes_given.result, c.lanes_given.ensures, c.on_lanes.ensures)
+returns-in-Run c =
+    subst (λ (k : Command). IsWork k (map string_bytes c.args.line.now.arguments.now) (work.Run c.lanes_given-lanes.result)) (sym c.in-Run.is) (c.lanes_given-lanes.result, c.lanes_given-lanes.ensures, refl)
 
 pub returns-in-Gen : goal.returns-in-Gen
 returns-in-Gen c =
-    subst (λ (k : Command). IsWork k (map string_bytes c.args.line.now.arguments.now) c.on_lanes-in-Gen.result) (sym c.in-Gen.is)
-    (c.size_given-size.result, c.lanes_given-in-Gen.result, c.size_given-size.ensures, c.lanes_given-in-Gen.ensures, c.on_lanes-in-Gen.ensures)
+    subst (λ (k : Command). IsWork k (map string_bytes c.args.line.now.arguments.now) (work.Generate c.size_given-size.result c.lanes_given-lanes-in-Gen.result)) (sym c.in-Gen.is)
+    (c.size_given-size.result, c.lanes_given-lanes-in-Gen.result, c.size_given-size.ensures, c.lanes_given-lanes-in-Gen.ensures, refl)
