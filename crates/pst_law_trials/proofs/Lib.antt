@@ -1,0 +1,2 @@
+pub mod ReadTried
+pub mod PremisesTried

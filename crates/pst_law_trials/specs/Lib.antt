@@ -1,0 +1,4 @@
+pub mod Readings
+pub mod Models
+pub mod Read
+pub mod Premises
