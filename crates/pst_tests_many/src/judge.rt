@@ -23,12 +23,12 @@ fn count_of(counts: &[u32], action: u32) -> usize {
 }
 
 // Whether the call is one of the action's, answered with the lane's number.
-fn is_of(call: &Call, lane: usize, action: u32) -> bool {
-    call.answer == lane as i64 && call.arguments.as_slice() == [i64::from(action)].as_slice()
+fn is_of(call: &Call, lane: u32, action: u32) -> bool {
+    call.answer == i64::from(lane) && call.arguments.as_slice() == [i64::from(action)].as_slice()
 }
 
 // What stands behind so many calls of the action; none where others stand there.
-fn calls_behind(calls: &[Call], lane: usize, action: u32, count: usize) -> Option<&[Call]> {
+fn calls_behind(calls: &[Call], lane: u32, action: u32, count: usize) -> Option<&[Call]> {
     let (own, behind) = calls.split_at_checked(count)?;
     for call in own {
         if !is_of(call, lane, action) {
@@ -42,7 +42,7 @@ fn calls_behind(calls: &[Call], lane: usize, action: u32, count: usize) -> Optio
 // else behind so many, if any are named.
 fn body_behind(
     calls: &[Call],
-    lane: usize,
+    lane: u32,
     action: u32,
     count: usize,
     part: Option<usize>,
@@ -55,9 +55,9 @@ fn body_behind(
 }
 
 // The action that the event starts on the lane.
-fn started_on(event: Event, lane: usize) -> Option<u32> {
+fn started_on(event: Event, lane: u32) -> Option<u32> {
     match event {
-        Event::Start { act, lane: on, .. } if on as usize == lane => Some(act),
+        Event::Start { act, lane: on, .. } if on == lane => Some(act),
         _ => None,
     }
 }
@@ -66,7 +66,7 @@ fn started_on(event: Event, lane: usize) -> Option<u32> {
 // may be so many, if a number is named.
 fn are_calls(
     trace: &[Event],
-    lane: usize,
+    lane: u32,
     calls: &[Call],
     counts: &[u32],
     part: Option<usize>,
@@ -91,7 +91,7 @@ fn are_calls(
 }
 
 // How many calls of a body that broke off a lane may have: so many where it failed, and none elsewhere.
-fn part_on(lane: usize, failed: Option<(usize, usize)>) -> Option<usize> {
+fn part_on(lane: u32, failed: Option<(u32, usize)>) -> Option<usize> {
     let (on, made) = failed?;
     Some(if on == lane { made } else { 0 })
 }
@@ -102,9 +102,10 @@ pub fn have_calls(
     trace: &[Event],
     lanes: &[ScriptTarget],
     counts: &[u32],
-    failed: Option<(usize, usize)>,
+    failed: Option<(u32, usize)>,
 ) -> bool {
-    for (lane, target) in lanes.iter().enumerate() {
+    for (number, target) in lanes.iter().enumerate() {
+        let lane = u32::try_from(number).unwrap_or(u32::MAX);
         if !are_calls(trace, lane, target.calls(), counts, part_on(lane, failed)) {
             return false;
         }

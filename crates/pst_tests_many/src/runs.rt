@@ -76,7 +76,7 @@ fn fault_is(
     requires planned { IsPlanOf scenario.now plan.now }
 {
     let is_front = verdict(scenario, plan, book) == Verdict::Prefix;
-    let failed = Some((lane as usize, made as usize));
+    let failed = Some((lane, made as usize));
     let runs = book.running_on(lane) == Some(action);
     if is_front && runs && have_calls(book.trace(), lanes, counts, failed) {
         "fault"
