@@ -1,2 +1,5 @@
 pub mod ReadTried
 pub mod PremisesTried
+pub mod PlacesTried
+pub mod StepsTried
+pub mod AheadTried

@@ -8,3 +8,7 @@ pub mod NotedLemmas
 pub mod SettleLemmas
 mod LocalLemmas
 mod LogicLemmas
+mod DemandLemmas
+mod ElementLemmas
+mod SumLemmas
+mod WeightLemmas

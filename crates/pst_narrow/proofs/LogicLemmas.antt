@@ -26,7 +26,7 @@ mapped_is : (b : Option ℤ) → IsTruth (option_map truth_of b) → IsTruth b
 mapped_is None h = h
 mapped_is (Some y) h = truth_is y h
 
-true_number : (x : ℤ) → is_false x ≡ false → x ≢ pos 0
+pub true_number : (x : ℤ) → is_false x ≡ false → x ≢ pos 0
 true_number x e is = absurd (let k : is_false x ≡ true = ap is_false is in cc)
 
 -- ---- plain values
@@ -56,19 +56,19 @@ implied x b true e some h = absurd (some (zero_number x e))
 
 -- ---- expressions
 
-and_of : (a b : Option ℤ) → IsTruth (by_left a (option_map truth_of b) (Some (pos 0))) → IsTruth a × IsTruth b
+pub and_of : (a b : Option ℤ) → IsTruth (by_left a (option_map truth_of b) (Some (pos 0))) → IsTruth a × IsTruth b
 and_of None b h = absurd h
 and_of (Some x) b h = both_hold x b (is_false x) refl h
 
-or_right_of : (a b : Option ℤ) → IfSome a (λ v. v ≡ pos 0) → IsTruth (by_left a (Some (pos 1)) (option_map truth_of b)) → IsTruth b
+pub or_right_of : (a b : Option ℤ) → IfSome a (λ v. v ≡ pos 0) → IsTruth (by_left a (Some (pos 1)) (option_map truth_of b)) → IsTruth b
 or_right_of None b z h = absurd h
 or_right_of (Some x) b z h = either_right x b (is_false x) refl z h
 
-or_left_of : (a b : Option ℤ) → IfSome b (λ v. v ≡ pos 0) → IsTruth (by_left a (Some (pos 1)) (option_map truth_of b)) → IsTruth a
+pub or_left_of : (a b : Option ℤ) → IfSome b (λ v. v ≡ pos 0) → IsTruth (by_left a (Some (pos 1)) (option_map truth_of b)) → IsTruth a
 or_left_of None b z h = absurd h
 or_left_of (Some x) b z h = either_left x b (is_false x) refl z h
 
-implies_of : (a b : Option ℤ) → IfSome a (λ v. v ≢ pos 0) → IsTruth (by_left a (option_map truth_of b) (Some (pos 1))) → IsTruth b
+pub implies_of : (a b : Option ℤ) → IfSome a (λ v. v ≢ pos 0) → IsTruth (by_left a (option_map truth_of b) (Some (pos 1))) → IsTruth b
 implies_of None b s h = absurd h
 implies_of (Some x) b s h = implied x b (is_false x) refl s h
 
@@ -108,24 +108,24 @@ surely_under e bounds s t h values within = under s (value e values) t (h values
 
 -- ---- what is false, and what is true in a span
 
-abbrev nothing_true : Span
+abbrev pub nothing_true : Span
 nothing_true = record { low = pos 0; high = pos 0 }
 
-zero_in : (x : ℤ) → x ≡ pos 0 → IsInSpan x nothing_true
+pub zero_in : (x : ℤ) → x ≡ pos 0 → IsInSpan x nothing_true
 zero_in x e = (omega (arith, ints, e), omega (arith, ints, e))
 
 unimplied : (x : ℤ) (b : Option ℤ) (c : Bool) → is_false x ≡ c → IfSome b (λ v. v ≡ pos 0) → IsTruth (cond c (Some (pos 1)) (option_map truth_of b)) → IsInSpan x nothing_true
 unimplied x b true e z h = zero_in x ((Decides-int_eq x (pos 0)).0 e)
 unimplied x b false e z h = absurd (no_truth b z (mapped_is b h))
 
-implies_false_of : (a b : Option ℤ) → IfSome b (λ v. v ≡ pos 0) → IsTruth (by_left a (option_map truth_of b) (Some (pos 1))) → IsIn nothing_true a
+pub implies_false_of : (a b : Option ℤ) → IfSome b (λ v. v ≡ pos 0) → IsTruth (by_left a (option_map truth_of b) (Some (pos 1))) → IsIn nothing_true a
 implies_false_of None b z h = absurd h
 implies_false_of (Some x) b z h = unimplied x b (is_false x) refl z h
 
 pub implies_left : (p q : Expression) (a b : List (Option Span)) (t u : List Former) (r : Result Bool NoMemory) → IsNeverTrue q a → IsStep (GivesIn p (record { low = pos 0; high = pos 0 })) a b t u r → IsStep (IsMet (Binary Implies p q)) a b t u r
 implies_left p q a b t u r never h = step_from (IsMet (Binary Implies p q)) (GivesIn p (record { low = pos 0; high = pos 0 })) a b t u r h (λ values met within. implies_false_of (value p values) (value q values) (never values within) met)
 
-not_false : (x : ℤ) → x ≢ pos 0 → is_false x ≡ false
+pub not_false : (x : ℤ) → x ≢ pos 0 → is_false x ≡ false
 not_false x h = go (is_false x) refl
   where
     go : (c : Bool) → is_false x ≡ c → c ≡ false

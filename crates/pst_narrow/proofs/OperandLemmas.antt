@@ -12,10 +12,8 @@ use Rattle.pst_domain.specs.Laws.{HoldsValues}
 use Rattle.pst_operands.specs.declared.operands.Operands.{Operands}
 use Rattle.pst_operands.specs.Keeps.{KeepsOperand}
 use Rattle.pst_operands.specs.Operands.{KeepOperands, applied}
-use Rattle.pst_narrow.specs.declared.parts.Parts.{Parts}
 use Rattle.pst_narrow.specs.Narrowing.{IsIn}
 use Rattle.pst_narrow.specs.Operands.{needs_both, GiveOperands, GivesOperand}
-use Rattle.pst_narrow.specs.Parts.{AreBoth}
 
 nothing_left : (op : BinaryOp) (b : Option ℤ) → binary_value op None b ≡ None
 nothing_left Mul b = refl
@@ -72,9 +70,9 @@ module _ (op : BinaryOp) (s t w : Span) (new : Operands) (strict : needs_both op
       let found = there w (binary_value op (Some x) (Some y)) given in
       (keeps.left x y found.0 h k found.2 found.1, keeps.right x y found.0 h k found.2 found.1)
 
-pub operands_give : (op : BinaryOp) (p q : Expression) (bounds : List (Option Span)) (spans : Parts) (w : Span) (new : Operands) → needs_both op ≡ true → AreBoth p q bounds spans → KeepOperands (applied op) (record { left = spans.left; right = spans.right }) w new → GiveOperands op p q w (record { left = new.left; right = new.right }) bounds
-operands_give op p q bounds spans w new strict both keeps values within given =
-    of_values op spans.left spans.right w new strict keeps (value p values) (value q values) (both.left values within) (both.right values within) given
+pub operands_give : (op : BinaryOp) (p q : Expression) (bounds : List (Option Span)) (s t w : Span) (new : Operands) → needs_both op ≡ true → HoldsValues (Some s) p bounds → HoldsValues (Some t) q bounds → KeepOperands (applied op) (record { left = s; right = t }) w new → GiveOperands op p q w (record { left = new.left; right = new.right }) bounds
+operands_give op p q bounds s t w new strict left right keeps values within given =
+    of_values op s t w new strict keeps (value p values) (value q values) (left values within) (right values within) given
 
 of_value : (op : UnaryOp) (s w new : Span) → KeepsOperand (unary_value op) s w new → (a : Option ℤ) → Holds (Some s) a → IsIn w (option_and_then (unary_value op) a) → IsIn new a
 of_value op s w new keeps None h given = absurd given

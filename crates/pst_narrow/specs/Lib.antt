@@ -9,3 +9,7 @@ pub mod Watch
 pub mod Settled
 pub mod Local
 pub mod Logic
+pub mod Demands
+pub mod Elements
+pub mod Sums
+pub mod Chains

@@ -3,8 +3,11 @@
 //! Narrowing never loses a solution: values within the bounds under which every constraint holds stay within them.
 #![tactic(auto)]
 
+mod chain;
 mod compare;
 mod demand;
+mod element;
+mod logic;
 mod meet;
 mod mentions;
 mod narrowing;
@@ -13,7 +16,9 @@ mod parts;
 mod require;
 mod revise;
 mod settle;
+mod sums;
 mod trail;
+mod truth;
 mod watch;
 
 pub use mentions::{narrowing_is_local, others_dont_matter};

@@ -1,10 +1,11 @@
 // The spans of the operands of an operator, from the span that the whole is to lie in.
 ghost use Rattle.std.specs.Prelude.{◌≡◌, ◌<◌, ℤ, length, IfSome};
-ghost use Rattle.pst_expr.specs.Tree.{view};
+ghost use Rattle.pst_expr.specs.Tree.{Expression, view};
 ghost use Rattle.pst_domain.specs.Bounds.{AreUpright, AreWithin, HasVariablesBelow};
+ghost use Rattle.pst_domain.specs.Laws.{HoldsValues};
 ghost use Rattle.pst_narrow.specs.Operands.{needs_both, GiveOperands, GivesOperand};
 
-use crate::parts::{Parts, spans_of};
+use crate::parts::Parts;
 use pst_domain::{Bounds, span_of};
 use pst_expr::{BinaryOp, Expr, Span, UnaryOp};
 use pst_operands::{Operands, operand_of, operands_of};
@@ -22,25 +23,27 @@ fn needs_both(op: BinaryOp) -> bool
 }
 
 /// The spans of the operands under which the value of an operator can lie in `wanted`, `None` where nothing is known.
+/// `left` is the left operand's span.
 pub fn operand_spans(
     op: BinaryOp,
-    left: &Expr,
+    left: Option<Span>,
     right: &Expr,
     wanted: Span,
     bounds: &Bounds,
 ) -> Option<Parts>
     requires upright { AreUpright bounds.now }
-    requires left { HasVariablesBelow (length bounds.now) (view left.now) }
     requires right { HasVariablesBelow (length bounds.now) (view right.now) }
-    ensures { IfSome result (λ parts. GiveOperands op (view left.now) (view right.now) wanted parts bounds.now) }
+    ensures { (p : Expression) → HoldsValues left p bounds.now → IfSome result (λ parts. GiveOperands op p (view right.now) wanted parts bounds.now) }
 {
     if !needs_both(op) {
         return None;
     }
-    let Some(spans) = spans_of(left, right, bounds) else {
+    let Some(left) = left else {
         return None;
     };
-    let Parts { left, right } = spans;
+    let Some(right) = span_of(right, bounds) else {
+        return None;
+    };
     let Operands { left, right } = operands_of(op, Operands { left, right }, wanted);
     Some(Parts { left, right })
 }

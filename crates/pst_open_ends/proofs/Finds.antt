@@ -1,7 +1,7 @@
 -- What is found first in lists one behind another.
 use Rattle.std.proofs.Common.{◌≡◌, ℕ, zero, suc, ◌+◌, ◌<◌, ◌≤◌, List, [], ◌∷◌, ◌++◌, map, length, get_or, drop, drop-cons, add-one, Bool, true, false, ◌||◌, nat_lt, Option, Some, None, refl, sym, ap, ◌∙◌, subst, arith}
 use Rattle.std.specs.Prelude.{if◌then◌else◌, slice_get}
-use Rattle.std.specs.List.{find, filter, list_any}
+use Rattle.std.specs.List.{find, filter}
 use Rattle.std.specs.Option.{option_map}
 use Rattle.std.proofs.lemmas.Bool.{ltb-true, ltb-false}
 use Rattle.std.proofs.lemmas.Option.{none-some}
@@ -9,10 +9,9 @@ use Rattle.std.proofs.lemmas.List.{map-append, drop_all}
 use Rattle.std.proofs.lemmas.List.Elements.{filter-append}
 use Rattle.pst_scen.specs.declared.act.Act.{Act}
 use Rattle.pst_legal.specs.Binds.{Bound}
-use Rattle.pst_legal.specs.SupplyReading.{Spot, spots_in, spots, source_of, is_candidate}
+use Rattle.pst_legal.specs.SupplyReading.{Spot, spots_in, spots}
 use Rattle.pst_open_ends.specs.declared.spot.Spot.{Spot as Kept}
 use Rattle.pst_open_ends.specs.Spots.{kept_spot, spots_of, spots_from}
-use Rattle.pst_open_ends.specs.Options.{old_among, is_fixed, fixed_among}
 use Rattle.pst_open_ends.specs.Turns.{turns, AreDone}
 
 abbrev pub or_else : {A : Type 0} → Option A → Option A → Option A
@@ -46,48 +45,12 @@ acts_from acts i x l e =
     ∙ ap (λ y. spots_of i 0 y.references ++ spots_from (i + 1) (drop (suc i) acts)) (sym e)
     ∙ ap (λ n. spots_of i 0 x.references ++ spots_from (i + 1) (drop n acts)) (sym (add-one i))
 
-any_append : {A : Type 0} (t : A → Bool) (xs ys : List A) → list_any t (xs ++ ys) ≡ (list_any t xs || list_any t ys)
-any_append t [] ys = refl
-any_append {A = A} t (x ∷ xs) ys = go (t x) (any_append t xs ys)
-  where
-    go : (b : Bool) → list_any t (xs ++ ys) ≡ (list_any t xs || list_any t ys) → (b || list_any t (xs ++ ys)) ≡ ((b || list_any t xs) || list_any t ys)
-    go true e = refl
-    go false e = e
-
 pub or_assoc : (a b c : Bool) → ((a || b) || c) ≡ (a || (b || c))
 or_assoc true b c = refl
 or_assoc false b c = refl
 
--- in this action, or in a later one
-pub any_step : (t : Spot → Bool) (acts : List Act) (i : ℕ) (x : Act) → i < length acts → x ≡ get_or acts i x → list_any t (spots_from i (drop i acts)) ≡ (list_any t (spots_of i 0 x.references) || list_any t (spots_from (i + 1) (drop (i + 1) acts)))
-any_step t acts i x l e = ap (list_any t) (acts_from acts i x l e) ∙ any_append t (spots_of i 0 x.references) (spots_from (i + 1) (drop (i + 1) acts))
-
--- it is found in this action
-pub any_here : (t : Spot → Bool) (acts : List Act) (i : ℕ) (x : Act) → i < length acts → x ≡ get_or acts i x → list_any t (spots_of i 0 x.references) ≡ true → true ≡ list_any t (spots_from i (drop i acts))
-any_here t acts i x l e h =
-    sym (
-    ap (list_any t) (acts_from acts i x l e)
-    ∙ any_append t (spots_of i 0 x.references) (spots_from (i + 1) (drop (i + 1) acts))
-    ∙ ap (λ b. b || list_any t (spots_from (i + 1) (drop (i + 1) acts))) h
-    )
-
--- it isn't
-pub any_later : (t : Spot → Bool) (acts : List Act) (i : ℕ) (x : Act) → i < length acts → x ≡ get_or acts i x → list_any t (spots_of i 0 x.references) ≡ false → list_any t (spots_from (i + 1) (drop (i + 1) acts)) ≡ list_any t (spots_from i (drop i acts))
-any_later t acts i x l e h =
-    sym (
-    ap (list_any t) (acts_from acts i x l e)
-    ∙ any_append t (spots_of i 0 x.references) (spots_from (i + 1) (drop (i + 1) acts))
-    ∙ ap (λ b. b || list_any t (spots_from (i + 1) (drop (i + 1) acts))) h
-    )
-
-kept_append : {A B : Type 0} (f : A → B) (t : A → Bool) (xs ys : List A) → map f (filter t (xs ++ ys)) ≡ map f (filter t xs) ++ map f (filter t ys)
+pub kept_append : {A B : Type 0} (f : A → B) (t : A → Bool) (xs ys : List A) → map f (filter t (xs ++ ys)) ≡ map f (filter t xs) ++ map f (filter t ys)
 kept_append f t xs ys = ap (map f) (filter-append t xs ys) ∙ map-append f (filter t xs) (filter t ys)
-
-pub old_next : (acts : List Act) (need : Spot) (k : ℕ) (x : Act) (xs : List Act) → old_among acts need (spots_from k (x ∷ xs)) ≡ old_among acts need (spots_of k 0 x.references) ++ old_among acts need (spots_from (k + 1) xs)
-old_next acts need k x xs = kept_append source_of (is_candidate acts need) (spots_of k 0 x.references) (spots_from (k + 1) xs)
-
-pub fixed_next : (acts : List Act) (need : Spot) (source : ℕ × ℕ) (k : ℕ) (x : Act) (xs : List Act) → fixed_among acts need source (spots_from k (x ∷ xs)) ≡ fixed_among acts need source (spots_of k 0 x.references) ++ fixed_among acts need source (spots_from (k + 1) xs)
-fixed_next acts need source k x xs = kept_append source_of (is_fixed acts need source) (spots_of k 0 x.references) (spots_from (k + 1) xs)
 
 -- ---- whose turn it is
 

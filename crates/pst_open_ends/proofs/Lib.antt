@@ -2,3 +2,6 @@ pub mod Alters
 pub mod Finds
 pub mod Supplies
 pub mod Rows
+pub mod Lookups
+pub mod Rising
+pub mod Writers

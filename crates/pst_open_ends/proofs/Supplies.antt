@@ -1,5 +1,5 @@
 -- What linking a need changes.
-use Rattle.std.proofs.Common.{◌≡◌, ℕ, zero, suc, ◌<◌, ◌≤◌, List, [], ◌∷◌, ◌++◌, length, take, Bool, true, false, ◌&&◌, nat_lt, if◌then◌else◌, min, None, refl, sym, ap, ◌∙◌, subst, arith}
+use Rattle.std.proofs.Common.{◌≡◌, ℕ, zero, suc, ◌<◌, ◌≤◌, List, [], ◌∷◌, ◌++◌, length, take, Bool, true, false, ◌&&◌, nat_lt, if◌then◌else◌, min, None, refl, sym, ap, ◌∙◌, subst, arith, length-append}
 use Rattle.std.specs.Prelude.{slice_get}
 use Rattle.std.proofs.lemmas.List.{take_all}
 use Rattle.std.proofs.lemmas.Bool.{ltb-true, ltb-false}
@@ -13,11 +13,28 @@ use Rattle.pst_legal.specs.SupplyReading.{Spot, Initially, From, New, is_stream,
 use Rattle.pst_open_ends.specs.declared.links.Change.{Change}
 use Rattle.pst_open_ends.specs.Changes.{ends_undone, StaysDone, lowest_of, Joins, Supplies}
 use Rattle.pst_open_ends.specs.Turns.{AreDone}
-use Rattle.pst_open_ends.proofs.Alters.{alter_other}
+use Rattle.pst_open_ends.proofs.Alters.{alter_other, alter_length}
 
 -- as many actions as before are all of them
 all_taken : (old mid : List Act) (count : ℕ) → count ≡ length old → old ≡ mid → old ≡ take count mid
 all_taken old mid count n e = let w : length old ≡ length mid = ap length e in e ∙ sym (take_all count mid (omega arith))
+
+length_put : (acts : List Act) (a r : ℕ) (to : Link) → length (put_link a r to acts) ≡ length acts
+length_put acts a r to = alter_length (act_with_link r to) a acts
+
+-- linking makes no action
+length_linked : (acts : List Act) (need : Spot) (b q : ℕ) → length (linked_to need b q acts) ≡ length acts
+length_linked acts need b q = go (is_stream need.filled.flow)
+  where
+    one : List Act
+    one = put_link need.act need.reference (link.Act b q) acts
+
+    first : length one ≡ length acts
+    first = length_put acts need.act need.reference (link.Act b q)
+
+    go : (s : Bool) → length (if s then put_link b q (link.Act need.act need.reference) one else one) ≡ length acts
+    go true = length_put one b q (link.Act need.act need.reference) ∙ first
+    go false = first
 
 stays_put : (acts : List Act) (a r : ℕ) (to : Link) (n low : ℕ) → low ≤ a → low ≤ n → StaysDone n low acts (put_link a r to acts)
 stays_put acts a r to n low la ln = λ bounds h k act l s.
@@ -41,6 +58,7 @@ first_supplied m need change old new e back n low = record {
   supplied = e;
   back = all_taken old (ends_undone change.ends new) change.count n back;
   done = subst (StaysDone need.act change.lowest old) (sym e) (stays_put old need.act need.reference link.Initial need.act change.lowest (omega arith) (omega arith));
+  few = let l : length new ≡ length old = ap length e ∙ length_put old need.act need.reference link.Initial in omega arith;
 }
 
 lowest_is : (need : Spot) (b : ℕ) → (lowest_of need b ≤ need.act) × (is_stream need.filled.flow ≡ true → lowest_of need b ≤ b)
@@ -59,6 +77,7 @@ old_supplied m need b q change old new j n low =
       back = all_taken old (ends_undone change.ends new) change.count n j.back;
       done = subst (StaysDone need.act change.lowest old) (sym j.linked)
           (subst (λ k. StaysDone need.act k old (linked_to need b q old)) (sym low) (stays_linked old need b q need.act (lowest_of need b) l.0 l.0 l.1));
+      few = let k : length new ≡ length old = ap length j.linked ∙ length_linked old need b q in omega arith;
     }
 
 got_before : (xs : List Act) (x : Act) (k : ℕ) → k < length xs → slice_get (xs ++ x ∷ []) k ≡ slice_get xs k
@@ -76,4 +95,5 @@ new_supplied m need action instance q change old new x e j n low =
       done = λ bounds h. subst (λ xs. AreDone bounds xs change.lowest) (sym j.linked)
           (stays_linked wide need (length old) q change.lowest change.lowest lower.1 (omega arith) (λ s. lower.0) bounds
           (λ k act l s. h k act (omega arith) (sym (got_before old x k (omega arith)) ∙ s)));
+      few = let k : length new ≡ length wide = ap length j.linked ∙ length_linked wide need (length old) q in let w = length-append old (x ∷ []) in omega arith;
     }

@@ -1,5 +1,5 @@
 -- What a source makes of the actions, and how that is taken back.
-use Rattle.std.specs.Prelude.{◌≡◌, ℕ, List, [], ◌∷◌, ◌++◌, length, take, flat_map, nat_lt, ◌&&◌, Bool, true, false, if◌then◌else◌, Option, Some, None}
+use Rattle.std.specs.Prelude.{◌≡◌, ◌≤◌, ℕ, ◌+◌, List, [], ◌∷◌, ◌++◌, length, take, flat_map, nat_lt, ◌&&◌, Bool, true, false, if◌then◌else◌, Option, Some, None}
 use Rattle.std.specs.List.{enumerate_from}
 use Rattle.pst_model.specs.ModelTree.{ModelTree}
 use Rattle.pst_scen.specs.declared.tree.Node.{Node}
@@ -84,3 +84,4 @@ pub record Supplies (m : ModelTree) (need : Spot) (source : Source) (change : Ch
   pub supplied : new ≡ supplied_acts m old need source
   pub back : old ≡ undone change new
   pub done : StaysDone need.act change.lowest old new
+  pub few : length new ≤ change.count + 1

@@ -2,3 +2,4 @@ pub mod Spots
 pub mod Options
 pub mod Turns
 pub mod Changes
+pub mod Places

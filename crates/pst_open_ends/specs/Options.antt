@@ -1,7 +1,6 @@
 -- The sources of a need, with what the program knows beside the actions: the bind of the need, and whether one more action
 -- may be inferred.
-use Rattle.std.specs.Prelude.{◌≡◌, is_some, ℕ, List, [], ◌∷◌, ◌++◌, map, Bool, true, ◌&&◌, nat_eq, if◌then◌else◌, Option, Some, None, flat_map}
-use Rattle.std.specs.HashMap.{HashMap, get}
+use Rattle.std.specs.Prelude.{◌≡◌, ◌<◌, ℕ, List, [], ◌∷◌, ◌++◌, map, length, get_or, Bool, true, false, ◌&&◌, nat_eq, if◌then◌else◌, Option, Some, None, flat_map}
 use Rattle.std.specs.List.{enumerate_from, filter}
 use Rattle.pst_base.specs.declared.table.NameId.{NameId}
 use Rattle.pst_model.specs.declared.action.Reference.{Reference}
@@ -14,7 +13,7 @@ use Rattle.pst_legal.specs.Growing.{open_reference}
 use Rattle.pst_scen.specs.declared.act.Link.{Link}
 use Rattle.pst_scen.specs.declared.act.Link.TheVariants as link
 use Rattle.pst_ties.specs.declared.tied.End.{End}
-use Rattle.pst_ties.specs.Tieds.{same_end}
+use Rattle.pst_open_ends.specs.Spots.{spot_at}
 use Rattle.pst_legal.specs.SupplyReading.{Spot, Source, Initially, New, same_link, is_writer, is_previous, spots, is_open, fits, is_candidate, source_of, initial_sources, old_sources, sources_of_type}
 
 -- the first object, or a reference
@@ -22,20 +21,34 @@ abbrev pub link_of : Option End → Link
 link_of None = link.Initial
 link_of (Some end) = link.Act end.act end.reference
 
--- a writer of the pool that has that as its previous writer
-abbrev pub is_previous_at : ℕ → Link → Spot → Bool
-is_previous_at pool to spot = is_writer spot.filled.flow && (nat_eq spot.filled.pool pool && same_link spot.filled.link to)
+-- the reference has that link
+abbrev pub has_link : Link → Option Spot → Bool
+has_link to None = false
+has_link to (Some spot) = same_link spot.filled.link to
 
--- the reference is kept
-abbrev pub is_taken : {S : Type 0} → HashMap End Bool S → End → Bool
-is_taken taken q = is_some (get same_end taken q)
+-- the reference at an end has that link
+abbrev pub links_from : List Act → Link → End → Bool
+links_from acts to end = has_link to (spot_at acts end)
 
--- for a writer, those that are the previous writer of another are kept
-abbrev pub KnowsTaken : {S : Type 0} → HashMap End Bool S → List Act → Filled → Type 0
-KnowsTaken taken acts need = is_writer need.flow ≡ true → (q : End) → is_taken taken q ≡ is_previous acts need.pool (link_of (Some q))
+-- what is kept of the reference of that place
+abbrev pub is_taken : List Bool → ℕ → Bool
+is_taken taken place = get_or taken place false
+
+-- for a writer, that says whether the reference is the previous writer of another
+abbrev pub IsKnown : List Act → Filled → End → Bool → Type 0
+IsKnown acts need end taken = is_writer need.flow ≡ true → taken ≡ is_previous acts need.pool (link_of (Some end))
+
+-- for a writer, that is kept of each of these references
+abbrev pub AreKnown : List Act → Filled → List End → List Bool → Type 0
+AreKnown acts need ends taken = (place : ℕ) (d : End) → place < length ends → IsKnown acts need (get_or ends place d) (is_taken taken place)
 
 abbrev pub initially_if : Bool → List Source
 initially_if b = if b then Initially ∷ [] else []
+
+-- the reference, where it may be the source
+abbrev pub source_at : List Act → Spot → Option Spot → List Source
+source_at acts need None = []
+source_at acts need (Some spot) = if is_candidate acts need spot then source_of spot ∷ [] else []
 
 -- the sources among the actions that there are, of these references
 abbrev pub old_among : List Act → Spot → List Spot → List Source

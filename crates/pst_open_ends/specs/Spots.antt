@@ -1,9 +1,11 @@
 -- References and sources, as the definitions see what the program keeps of them.
-use Rattle.std.specs.Prelude.{ℕ, List, [], map, flat_map}
+use Rattle.std.specs.Prelude.{ℕ, List, [], map, flat_map, Option, slice_get}
 use Rattle.std.specs.List.{enumerate_from}
+use Rattle.std.specs.Option.{option_map, option_and_then}
 use Rattle.pst_scen.specs.declared.act.Act.{Act}
 use Rattle.pst_scen.specs.declared.act.Filled.{Filled}
 use Rattle.pst_legal.specs.SupplyReading.{Spot as Read, Source as Given, Initially, From, New, spots_in}
+use Rattle.pst_ties.specs.declared.tied.End.{End}
 use Rattle.pst_open_ends.specs.declared.spot.Spot.{Spot}
 use Rattle.pst_open_ends.specs.declared.spot.Source.{Source}
 use Rattle.pst_open_ends.specs.declared.spot.Source.TheVariants as source
@@ -32,3 +34,7 @@ spots_from number acts = flat_map spots_in (enumerate_from number acts)
 -- what the sources are, as the definitions see them
 abbrev pub given_sources : List Source → List Given
 given_sources found = map given_source found
+
+-- the reference at an end
+abbrev pub spot_at : List Act → End → Option Read
+spot_at acts end = option_and_then (λ act. option_map (λ filled. record { act = end.act; reference = end.reference; filled = filled }) (slice_get act.references end.reference)) (slice_get acts end.act)

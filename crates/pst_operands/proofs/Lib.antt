@@ -7,6 +7,7 @@ mod Dividends
 mod Residues
 mod Shifted
 mod Digits
+mod Fields
 mod Summands
 mod Compared
 mod Masks

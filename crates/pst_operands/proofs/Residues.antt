@@ -1,9 +1,14 @@
 -- Numbers that leave a wanted residue, and remainders.
-use Rattle.std.proofs.Common.{◌≡◌, ◌⊎◌, ⊎_elim, ℕ, zero, suc, ◌%◌, ◌<◌, ◌≤◌, ℤ, pos, negsuc, neg_ℤ, nat_abs, ◌+ℤ◌, ◌-ℤ◌, ◌*ℤ◌, ◌≤ℤ◌, ◌<ℤ◌, int_div, int_rem, arith, refl, subst}
+use Rattle.std.proofs.Common.{◌≡◌, ◌⊎◌, ⊎_elim, ℕ, zero, suc, ◌%◌, ◌<◌, ◌≤◌, ℤ, pos, negsuc, neg_ℤ, nat_abs, ◌+ℤ◌, ◌-ℤ◌, ◌*ℤ◌, ◌≤ℤ◌, ◌<ℤ◌, int_div, int_rem, Option, Some, None, IfSome, arith, refl, sym, ap, subst, ◌∙◌}
 use Rattle.std.proofs.lemmas.Int.{ints, rem_below}
-use Rattle.std.proofs.Math.Nat.{mod-le}
-use Rattle.pst_num.specs.Laws.{IsTruncated}
-use Rattle.pst_operands.specs.Residues.{IsResidue}
+use Rattle.std.proofs.Math.Nat.{mod-le, zero-mod}
+use Rattle.std.proofs.Math.IntN.{neg_ℤ-neg_ℤ}
+use Rattle.pst_num.specs.Arithmetic.{negation_of}
+use Rattle.pst_num.specs.Laws.{IsTruncated, RoundsTowardsZero}
+use Rattle.pst_expr.specs.declared.ranges.Span.{Span}
+use Rattle.pst_expr.specs.Spans.{IsInSpan}
+use Rattle.pst_operands.specs.Residues.{IsResidue, IsMirrored, IsDistance}
+use Rattle.pst_operands.proofs.Exactly.{exact}
 use Rattle.pst_operands.proofs.Products.{weaker, up_left, more_times, less_times}
 use Rattle.pst_operands.proofs.Divisions.{near_positive, at_most_or_more, at_most_less_or}
 
@@ -45,7 +50,7 @@ module _ (m end r x z : ℤ) (g : pos 0 <ℤ m) (k : IsResidue m end r) (d : IsR
   abbrev q0 : ℤ
   q0 = k.multiple
 
-  not_earlier : end ≤ℤ x → q0 ≤ℤ q
+  pub not_earlier : end ≤ℤ x → q0 ≤ℤ q
   not_earlier h =
       ⊎_elim
       (λ l.
@@ -57,7 +62,7 @@ module _ (m end r x z : ℤ) (g : pos 0 <ℤ m) (k : IsResidue m end r) (d : IsR
       more_or_at_most : (a b : ℤ) → ((b +ℤ pos 1) ≤ℤ a) ⊎ (a ≤ℤ b)
       more_or_at_most a b = grind (arith, ints)
 
-  not_later : x ≤ℤ end → q ≤ℤ q0
+  pub not_later : x ≤ℤ end → q ≤ℤ q0
   not_later h =
       ⊎_elim (λ l. l)
       (λ l.
@@ -128,3 +133,64 @@ under_rest x y l some h k = before (int_rem x y) y l (rem_below x y (distant y s
 
     before : (r y l : ℤ) → nat_abs r < nat_abs y → y ≤ℤ pos 0 → l ≤ℤ r → y <ℤ neg_ℤ l
     before r y l s h k = omega (arith, ints)
+
+-- ---- residues by the distance of a divisor from 0, on either side of 0
+
+by_distance : (x d m : ℤ) → nat_abs d ≡ nat_abs m → int_rem x d ≡ int_rem x m
+by_distance (pos n) d m e = ap (λ k. pos (n % k)) e
+by_distance (negsuc n) d m e = ap (λ k. neg_ℤ (pos (suc n % k))) e
+
+same_distance : (d m : ℤ) → m ≡ pos (nat_abs d) → nat_abs d ≡ nat_abs m
+same_distance d m e = sym (ap nat_abs e)
+
+turned_rest : (x m : ℤ) → x ≤ℤ pos 0 → int_rem (neg_ℤ x) m ≡ neg_ℤ (int_rem x m)
+turned_rest (pos zero) m h = zero_rest m
+  where
+    no_rest : (k : ℕ) → neg_ℤ (pos (zero % k)) ≡ pos (zero % k)
+    no_rest k = let e : zero % k ≡ zero = zero-mod k in ap (λ n. neg_ℤ (pos n)) e ∙ sym (ap pos e)
+
+    zero_rest : (m : ℤ) → pos (zero % nat_abs m) ≡ neg_ℤ (pos (zero % nat_abs m))
+    zero_rest m = sym (no_rest (nat_abs m))
+turned_rest (pos (suc n)) m h = absurd (omega (arith, ints))
+turned_rest (negsuc n) m h = sym (neg_ℤ-neg_ℤ (pos (suc n % nat_abs m)))
+
+some_positive : (m : ℤ) → pos 0 <ℤ m → m ≡ pos 0 → ⊥
+some_positive m h e = omega (arith, ints)
+
+turned_up : (x : ℤ) → x ≤ℤ pos 0 → pos 0 ≤ℤ neg_ℤ x
+turned_up x h = omega (arith, ints)
+
+module _ (law : RoundsTowardsZero) (x d m : ℤ) (g : pos 0 <ℤ m) (e : m ≡ pos (nat_abs d)) where
+  pub residue_by : pos 0 ≤ℤ x → IsResidue m x (int_rem x d)
+  residue_by h = subst (IsResidue m x) (sym (by_distance x d m (same_distance d m e))) (residue_of x m (law x m (some_positive m g)) h g)
+
+  pub turned_residue_by : x ≤ℤ pos 0 → IsResidue m (neg_ℤ x) (neg_ℤ (int_rem x d))
+  turned_residue_by h =
+      subst (IsResidue m (neg_ℤ x)) (turned_rest x m h ∙ sym (ap neg_ℤ (by_distance x d m (same_distance d m e))))
+      (residue_of (neg_ℤ x) m (law (neg_ℤ x) m (some_positive m g)) (turned_up x h) g)
+
+-- ---- spans on the other side of 0
+
+pub turned_in : (s t : Span) (x : ℤ) → IsMirrored s t → IsInSpan x s → IsInSpan (neg_ℤ x) t
+turned_in s t x m h = let a = m.low in let b = m.high in (omega (arith, ints, a, h.1), omega (arith, ints, b, h.0))
+
+pub turned_back : (s t : Span) (x : ℤ) → IsMirrored s t → IsInSpan (neg_ℤ x) s → IsInSpan x t
+turned_back s t x m h = let a = m.low in let b = m.high in (omega (arith, ints, a, h.1), omega (arith, ints, b, h.0))
+
+pub either_side : (x : ℤ) → (x ≤ℤ pos 0) ⊎ (pos 0 ≤ℤ x)
+either_side x = grind (arith, ints)
+
+-- ---- the distance from 0
+
+pub distance_above : (n : ℤ) → pos 0 <ℤ n → IsDistance n n
+distance_above n h = record { positive = h; distance = abs_is n h }
+  where
+    abs_is : (n : ℤ) → pos 0 <ℤ n → n ≡ pos (nat_abs n)
+    abs_is n h = omega (arith, ints)
+
+pub distance_below : (n : ℤ) (r : Option ℤ) → n <ℤ pos 0 → r ≡ negation_of n → IfSome r (λ m. IsDistance n m)
+distance_below n None h e = tt
+distance_below n (Some m) h e = at (exact (neg_ℤ n) m (sym e))
+  where
+    at : neg_ℤ n ≡ m → IsDistance n m
+    at is = record { positive = omega (arith, ints, is, h); distance = omega (arith, ints, is, h) }

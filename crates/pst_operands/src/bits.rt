@@ -1,17 +1,20 @@
 // The operands of operations on bits, where none is negative.
-ghost use Rattle.std.specs.Prelude.{◌≡◌, ℤ, pos, ◌≤ℤ◌, IfSome, Some};
+ghost use Rattle.std.specs.Prelude.{◌≡◌, ℤ, pos, ◌≤ℤ◌, ◌<ℤ◌, IfSome, Some};
 ghost use Rattle.pst_num.specs.Bits.{bits_and, bits_or, bits_xor};
 ghost use Rattle.pst_expr.specs.Spans.{IsInSpan};
 ghost use Rattle.pst_operands.specs.Keeps.{KeepsLeft};
 ghost use Rattle.pst_operands.specs.Operands.{KeepOperands};
-ghost use Rattle.pst_operands.specs.Powers.{IsMask};
+ghost use Rattle.pst_operands.specs.Powers.{IsMask, IsField, IsRoundedDown, KeepsField};
 
-use crate::cuts::{at_least, at_most};
-use crate::exact::{minus, plus};
+use crate::cuts::{NOTHING, at_least, at_most, not_negative};
+use crate::exact::{minus, moved, plus};
 use crate::operands::Operands;
-use crate::remainder::residues;
+use crate::remainder::{residue, residues};
 use pst_expr::Span;
-use pst_num::{add, shl};
+use pst_num::{add, div, mul, shl, sub};
+
+// The number 0 alone.
+const ZERO: Span = Span { low: 0, high: 0 };
 
 // One more than a mask, where that is a power of 2: the mask's digits are the residue of it.
 fn modulus_of(mask: i64) -> Option<i64>
@@ -23,13 +26,67 @@ fn modulus_of(mask: i64) -> Option<i64>
     if next == power { Some(power) } else { None }
 }
 
+// Digits of a mask that stand side by side: the power of 2 of the lowest one, and that of the next one above them.
+#[derive(Clone, Copy)]
+struct Field {
+    unit: i64,
+    modulus: i64,
+}
+
+// The digits of a mask, where they stand side by side.
+fn field_of(mask: i64) -> Option<Field>
+    ensures { IfSome result (λ field. IsField mask field.unit field.modulus) }
+{
+    let unit = shl(1, i64::from(mask.trailing_zeros()))?;
+    let digits = div(mask, unit)?;
+    let count = modulus_of(digits)?;
+    let modulus = mul(count, unit)?;
+    let top = sub(modulus, unit)?;
+    if top == mask {
+        Some(Field { unit, modulus })
+    } else {
+        None
+    }
+}
+
+// The multiple of a power of 2 that is no greater than a number.
+fn rounded_down(number: i64, unit: i64) -> i64
+    requires number { pos 0 ≤ℤ number }
+    requires unit { pos 0 <ℤ unit }
+    ensures { IsRoundedDown unit number result }
+{
+    number - residue(number, unit)
+}
+
+// The numbers whose digits under a mask may be wanted.
+fn by_field(span: Span, field: Field, wanted: Span) -> Span
+    requires low { pos 0 ≤ℤ span.low }
+    requires high { pos 0 ≤ℤ span.high }
+    requires unit { pos 0 <ℤ field.unit }
+    requires modulus { pos 0 <ℤ field.modulus }
+    ensures { KeepsField field.unit field.modulus span wanted result }
+{
+    let wanted = residues(not_negative(wanted), field.unit, ZERO);
+    if wanted.high < wanted.low {
+        return NOTHING;
+    }
+    let whole = Span {
+        low: rounded_down(span.low, field.unit),
+        high: rounded_down(span.high, field.unit),
+    };
+    let multiples = residues(whole, field.modulus, wanted);
+    let end = moved(multiples.high, 1, field.unit);
+    at_most(end, at_least(i128::from(multiples.low), span))
+}
+
 // The numbers whose digits under a mask may be wanted.
 fn by_mask(span: Span, mask: i64, wanted: Span) -> Span
-    requires { pos 0 ≤ℤ span.low }
+    requires low { pos 0 ≤ℤ span.low }
+    requires high { pos 0 ≤ℤ span.high }
     ensures { (x z : ℤ) → IsInSpan x span → IsInSpan z wanted → bits_and x mask ≡ Some z → IsInSpan x result }
 {
-    match modulus_of(mask) {
-        Some(modulus) => residues(span, modulus, wanted),
+    match field_of(mask) {
+        Some(field) => by_field(span, field, wanted),
         None => span,
     }
 }
@@ -46,6 +103,9 @@ fn masked(span: Span, mask: Span, wanted: Span) -> Span
         return cut;
     }
     if cut.low < 0 {
+        return cut;
+    }
+    if cut.high < 0 {
         return cut;
     }
     by_mask(cut, mask.low, wanted)

@@ -95,6 +95,28 @@ pub fn common(left: Span, right: Span) -> Span
     )
 }
 
+/// The numbers of a span that aren't negative.
+pub fn not_negative(span: Span) -> Span
+    ensures low { pos 0 ≤ℤ result.low }
+    ensures kept { Keeps (λ x. pos 0 ≤ℤ x) span result }
+{
+    Span {
+        low: span.low.max(0),
+        high: span.high,
+    }
+}
+
+/// The numbers of a span that aren't positive.
+pub fn not_positive(span: Span) -> Span
+    ensures high { result.high ≤ℤ pos 0 }
+    ensures kept { Keeps (λ x. x ≤ℤ pos 0) span result }
+{
+    Span {
+        low: span.low,
+        high: span.high.min(0),
+    }
+}
+
 /// Whether a span certainly lacks a number.
 pub fn lacks(span: Span, number: i64) -> bool
     ensures { result ≡ true → IsInSpan number span → ⊥ }

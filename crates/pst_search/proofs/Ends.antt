@@ -18,7 +18,8 @@ use Rattle.pst_list_walk.specs.Walks.{answer}
 use Rattle.pst_list_walk.specs.Made.{kept_at}
 use Rattle.pst_search.specs.declared.first.SearchEnd.{SearchEnd}
 use Rattle.pst_search.specs.declared.first.SearchEnd.TheVariants as search_end
-use Rattle.pst_search.specs.Readings.{kept_of, IsFound}
+use Rattle.pst_list_values.specs.Walked.{kept_of}
+use Rattle.pst_search.specs.Readings.{IsFound}
 use Rattle.pst_search.specs.Searches.{Searches, IsSpentAt}
 
 whole_here : (a : Answer) (s : Scenario) → a ≡ Whole s → IsWhole a

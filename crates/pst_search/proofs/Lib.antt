@@ -1,10 +1,5 @@
 pub mod Looks
 pub mod Short
-pub mod Values
-pub mod Opens
-pub mod Ties
-pub mod OpenHere
-pub mod Skips
-pub mod Steps
+pub mod Grounds
 pub mod Plans
 pub mod Ends

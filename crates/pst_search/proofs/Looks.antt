@@ -1,9 +1,11 @@
 -- What the walker shows and judges.
-use Rattle.std.proofs.Common.{◌≡◌, ℕ, [], ◌∷◌, length, Bool, true, false, refl, sym, ap, ◌∙◌, subst, append-nil}
+use Rattle.std.proofs.Common.{◌≡◌, ℕ, [], ◌∷◌, length, Bool, true, false, Option, None, Some, is_some, refl, sym, ap, ◌∙◌, subst, append-nil}
 use Rattle.pst_model.specs.ModelView.{view_model}
 use Rattle.pst_model.specs.Sound.{IsSound}
 use Rattle.pst_scen.specs.declared.next.Next.TheVariants as next
 use Rattle.pst_scen.specs.declared.scenario.Scenario.{Scenario}
+use Rattle.pst_scen.specs.Plan.{Entries}
+use Rattle.pst_scen.specs.Plans.{IsPlanOf}
 use Rattle.pst_scen.specs.Refusals.{IsUnrefused}
 use Rattle.pst_legal.specs.Constraints.{Holds}
 use Rattle.pst_legal.specs.First.{NoneRefused}
@@ -25,11 +27,13 @@ use Rattle.pst_search_loop.specs.declared.conflict.Conflict.{Conflict}
 use Rattle.pst_search_places.specs.Laws.{IsOfPlaces, BarrenListsConflict, PlacesRestOnEarlierOnes, PlacesRestOnTheSources}
 use Rattle.pst_search_loop.specs.declared.walker.Look.{Look}
 use Rattle.pst_search_loop.specs.declared.walker.Look.TheVariants as look
-use Rattle.pst_search.specs.Readings.{kept_of, barren_at, IsAnswer}
+use Rattle.pst_list_values.specs.Walked.{kept_of}
+use Rattle.pst_search.specs.Readings.{barren_at, IsAnswer, HasPlan, IsPlanned}
 use Rattle.pst_plan_so_far.specs.Laws.{ReadsSources, PlansRefuseLists, SourcesAreBuilt}
 use Rattle.pst_order_ahead.specs.LaidOut.{IsLaidOut, ReadsTree}
 use Rattle.pst_order_ahead.specs.Ahead.{IsRefusedAhead}
 use Rattle.pst_order_ahead.specs.Laws.{TreesAreLaidOut, RefusalsAheadStay}
+use Rattle.pst_open_needs.specs.Needs.{IsLacking, UnservedNeedsRefuseLists}
 use Rattle.pst_search.specs.Judging.{TellsPlan, TellsLegal}
 
 next_dead : (a : Answer) → next_of a ≡ next.Dead → a ≡ Dead
@@ -107,6 +111,16 @@ module _ (k : Kept) where
   pub order_barren : RefusalsAheadStay → IsRead (answer k) → (s : Scenario) → IfRead (answer k) (λ t. s ≡ t) → IsRefusedAhead s → barren_at k
   order_barren law is s same refused = ordered_by law (answer k) refl is s same refused
 
+  -- ---- needs that no action serves
+
+  needs_by : UnservedNeedsRefuseLists → (a : Answer) → answer k ≡ a → IsRead a → ReadsTree (view_model k.model) k.root k.seed k.level k.choices → (s : Scenario) → IfRead a (λ t. s ≡ t) → IsLacking s → barren_at k
+  needs_by law (Options t n) e is tree s same lacks = law (view_model k.model) k.root k.seed k.level k.choices s tree (subst (λ a. HasRead a s) (sym e) (sym same)) lacks
+  needs_by law (Whole t) e is tree s same lacks = law (view_model k.model) k.root k.seed k.level k.choices s tree (subst (λ a. HasRead a s) (sym e) (sym same)) lacks
+  needs_by law Dead e is tree s same lacks = absurd is
+
+  pub needs_barren : UnservedNeedsRefuseLists → IsRead (answer k) → ReadsTree (view_model k.model) k.root k.seed k.level k.choices → (s : Scenario) → IfRead (answer k) (λ t. s ≡ t) → IsLacking s → barren_at k
+  needs_barren law is tree s same lacks = needs_by law (answer k) refl is tree s same lacks
+
   -- ---- whole scenarios
 
   pub whole_at : (a : Answer) → answer k ≡ a → IsWhole a → (s : Scenario) × (answer k ≡ Whole s)
@@ -154,6 +168,16 @@ module _ (k : Kept) where
   pub whole_sought : PlannedReadingsAreLegal → IsSound (view_model k.model) → IsConcreteRoot (view_model k.model) k.root → (r : Scenario) (b : Bool) → IsWhole (answer k) → IfRead (answer k) (λ s. r ≡ s) → b ≡ true → TellsLegal (view_model k.model) r b
       → Sought (kept_of k) k.level k.choices
   whole_sought law sound concrete r b is same on told = whole_legal law sound concrete r (whole_is r is same) (subst (TellsLegal (view_model k.model) r) on told)
+
+  whole_same : (s r : Scenario) → answer k ≡ Whole s → answer k ≡ Whole r → s ≡ r
+  whole_same s r e f = let both : Whole s ≡ Whole r = sym e ∙ f in cc
+
+  pub has_plan : (p : Entries) (r : Scenario) → IsWhole (answer k) → IfRead (answer k) (λ s. r ≡ s) → HasPlan k p → IsPlanOf r p
+  has_plan p r is same has = subst (λ s. IsPlanOf s p) (whole_same has.0 r has.1 (whole_is r is same)) has.2
+
+  pub known_plan : (o : Option Entries) (b : Bool) (r : Scenario) → IsWhole (answer k) → IfRead (answer k) (λ s. r ≡ s) → IsPlanned k o → b ≡ is_some o → b ≡ true → (p : Entries) × IsPlanOf r p
+  known_plan None b r is same planned told on = absurd cc
+  known_plan (Some p) b r is same planned told on = (p, has_plan p r is same planned)
 
   -- ---- what is shown
 

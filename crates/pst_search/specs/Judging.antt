@@ -1,5 +1,5 @@
 -- What is told of a scenario that is judged.
-use Rattle.std.specs.Prelude.{◌≡◌, Bool, true, false, Some}
+use Rattle.std.specs.Prelude.{◌≡◌, Bool, true, false, Option, None, Some}
 use Rattle.pst_model.specs.ModelTree.{ModelTree}
 use Rattle.pst_scen.specs.declared.scenario.Scenario.{Scenario}
 use Rattle.pst_scen.specs.Plan.{Entries}
@@ -23,6 +23,11 @@ TellsHolding m s false = Holds m s → ⊥
 abbrev pub TellsPlan : Scenario → Bool → Type 0
 TellsPlan s true = (p : Entries) × IsPlanOf s p
 TellsPlan s false = ((r : Refusal) × IsRefused s r) × (IsUnrefused s → ⊥)
+
+-- a plan of the scenario, or it refuses the scenario
+abbrev pub TellsPlanned : Scenario → Option Entries → Type 0
+TellsPlanned s (Some p) = IsPlanOf s p
+TellsPlanned s None = ((r : Refusal) × IsRefused s r) × (IsUnrefused s → ⊥)
 
 -- every constraint holds and there is a plan, or one of these isn't so
 abbrev pub TellsLegal : ModelTree → Scenario → Bool → Type 0

@@ -1,5 +1,5 @@
--- The walker through whole lists of choices, as the search over any walker sees it.
-use Rattle.std.specs.Prelude.{◌≡◌}
+-- What whole lists of choices come to.
+use Rattle.std.specs.Prelude.{◌≡◌, Option, None, Some}
 use Rattle.pst_model.specs.ModelView.{view_model}
 use Rattle.pst_scen.specs.declared.scenario.Scenario.{Scenario}
 use Rattle.pst_scen.specs.Plan.{Entries}
@@ -8,13 +8,12 @@ use Rattle.pst_legal.specs.ValueReading.{Answer, Options, Whole}
 use Rattle.pst_built.specs.OrderStaysLaws.{IsBarren}
 use Rattle.pst_link_walk.specs.Walks.{Kept}
 use Rattle.pst_list_walk.specs.Walks.{answer}
-use Rattle.pst_search_loop.specs.Kept.{Kept as Walked}
 use Rattle.pst_search_loop.specs.declared.walker.Look.{Look}
 use Rattle.pst_search_loop.specs.declared.walker.Look.TheVariants as look
-use Rattle.pst_search_places.specs.Facts.{place_facts}
-
-abbrev pub kept_of : Kept → Walked
-kept_of k = record { model = view_model k.model; root = k.root; seed = k.seed; facts = place_facts (view_model k.model) k.root k.seed; level = k.level; choices = k.choices }
+use Rattle.pst_search_loop.specs.Kept.{IsConflict}
+use Rattle.pst_list_values.specs.Walked.{kept_of}
+use Rattle.pst_search.specs.declared.planned.Planned.{Planned}
+use Rattle.pst_search.specs.declared.planned.Planned.TheVariants as planned
 
 -- no list that begins with these choices reads a legal scenario
 abbrev pub barren_at : Kept → Type 0
@@ -25,6 +24,19 @@ abbrev pub IsAnswer : Answer → Look → Type 0
 IsAnswer (Options s n) (look.Options count) = n ≡ count
 IsAnswer (Whole s) look.Whole = Unit {0}
 IsAnswer _ _ = ⊥
+
+-- a plan of the whole scenario of the list
+abbrev pub HasPlan : Kept → Entries → Type 0
+HasPlan k p = (s : Scenario) × (answer k ≡ Whole s) × IsPlanOf s p
+
+abbrev pub IsPlanned : Kept → Option Entries → Type 0
+IsPlanned k (Some p) = HasPlan k p
+IsPlanned k None = Unit {0}
+
+-- such a plan, or a conflict of the list
+abbrev pub PlansWhole : Kept → Planned → Type 0
+PlansWhole k (planned.There p) = HasPlan k p
+PlansWhole k (planned.Refused c) = IsConflict (kept_of k) c
 
 -- the whole scenario of the list, and its plan
 abbrev pub IsFound : Kept → Scenario × Entries → Type 0

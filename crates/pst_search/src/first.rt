@@ -1,8 +1,9 @@
 //! The first legal scenario.
-ghost use Rattle.std.specs.Prelude.{◌≡◌, ◌<◌};
+ghost use Rattle.std.specs.Prelude.{◌≡◌, ◌<◌, []};
 ghost use Rattle.pst_model.specs.ModelView.{view_model};
 ghost use Rattle.pst_model.specs.Sound.{IsSound};
 ghost use Rattle.pst_built.specs.Laws.{IsConcreteRoot};
+ghost use Rattle.pst_list_walk.specs.Made.{kept_at};
 ghost use Rattle.pst_search.specs.declared.first.SearchEnd.TheVariants as end;
 ghost use Rattle.pst_search.specs.Searches.{Searches, IsSpentAt};
 
@@ -56,6 +57,30 @@ fn spent(budget: u64, level: u32) -> SearchEnd
     SearchEnd::Budget { level }
 }
 
+// The first legal scenario and its plan, by a walker at the empty list of the level without inferred actions.
+fn search_by(
+    alloc: Global,
+    reading: &mut Reading<'_>,
+    infer: u32,
+    budget: u64,
+) -> Result<(Scenario, Plan), SearchEnd>
+    requires begun { reading.old ≡ kept_at reading.old.model reading.old.root reading.old.seed 0 [] }
+    requires sound { IsSound (view_model reading.old.model) }
+    ensures { Searches (view_model reading.old.model) reading.old.root reading.old.seed infer budget result }
+{
+    place_facts_hold();
+    let most = some_lists(budget);
+    let outcome = search_levels(alloc, reading, infer, most)?;
+    match outcome {
+        Outcome::NoScenario => Err(SearchEnd::NoScenario),
+        Outcome::Budget { level } => Err(spent(budget, level)),
+        Outcome::Found => {
+            let found = reading.found()?;
+            Ok(found)
+        }
+    }
+}
+
 /// The first legal scenario of the model that fills the root, and its plan: the one with the fewest inferred
 /// actions, at most `infer`, and among those the first in the seed's order. The root is an action type that
 /// isn't abstract.
@@ -74,16 +99,6 @@ pub fn search(
     requires root { IsConcreteRoot (view_model model.now) root }
     ensures { Searches (view_model model.now) root seed infer budget result }
 {
-    place_facts_hold();
-    let most = some_lists(budget);
     let mut reading = Reading::new(alloc, model, root, seed)?;
-    let outcome = search_levels(alloc, &mut reading, infer, most)?;
-    match outcome {
-        Outcome::NoScenario => Err(SearchEnd::NoScenario),
-        Outcome::Budget { level } => Err(spent(budget, level)),
-        Outcome::Found => {
-            let found = reading.found()?;
-            Ok(found)
-        }
-    }
+    search_by(alloc, &mut reading, infer, budget)
 }

@@ -2,13 +2,12 @@
 //! first in the order of the seed.
 #![tactic(auto)]
 
-mod behind;
-mod copies;
 mod first;
+mod given;
 mod judging;
 mod looking;
+mod planned;
 mod reading;
 mod shortage;
-mod skipping;
 
 pub use first::{SearchEnd, search};

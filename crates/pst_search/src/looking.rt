@@ -9,16 +9,19 @@ ghost use Rattle.pst_shape.specs.Walks.{next_of, IfRead};
 ghost use Rattle.pst_list_walk.specs.Walks.{answer, IsRead};
 ghost use Rattle.pst_search_loop.specs.Kept.{Shows, IsConflict, IsWhole, Judges, HasOptions, Rests};
 ghost use Rattle.pst_search_loop.specs.Conflicts.{IsEarlier};
-ghost use Rattle.pst_search.specs.Readings.{kept_of, barren_at, IsAnswer, IsFound};
+ghost use Rattle.pst_list_values.specs.Walked.{kept_of};
+ghost use Rattle.pst_search.specs.Readings.{barren_at, IsAnswer, IsFound, HasPlan, IsPlanned, PlansWhole};
 
-use crate::copies::copy_scenario;
-use crate::judging::{has_plan, judge};
-use crate::shortage::is_short;
+use crate::judging::{has_plan, judge, plan_if_any};
+use crate::planned::Planned;
+use crate::shortage::{is_just_behind, is_short};
 use pst_base::NoMemory;
 use pst_built::{dead_stays_dead, whole_lists_end, whole_readings_are_built};
 use pst_graph::plan_of;
 use pst_link_order::is_refused_ahead;
+use pst_list_values::copy_scenario;
 use pst_list_walk::ListWalk;
+use pst_open_needs::{has_unserved_need, unserved_needs_refuse_lists};
 use pst_order_ahead::{refusals_ahead_stay, trees_are_laid_out};
 use pst_plan_so_far::{plans_refuse_lists, sources_are_built};
 use pst_read_domains::{nodes_stand_for_pieces, refused_lists_are_barren};
@@ -49,6 +52,18 @@ fn closed(alloc: Global, lists: &ListWalk<'_>) -> Result<Conflict, NoMemory>
     Ok(all)
 }
 
+// Whether the sources, or the claims behind them, have just been read through, and more is to be read.
+fn is_time_to_plan(lists: &ListWalk<'_>) -> Result<bool, NoMemory> {
+    if let Next::Whole = lists.next() {
+        return Ok(false);
+    }
+    let behind = is_just_behind(lists)?;
+    if behind {
+        return Ok(true);
+    }
+    Ok(lists.is_to_be_planned() && lists.domain().is_some())
+}
+
 // Whether the plan refuses what is read, or there are too few instances for its claims, where that may just have become
 // known.
 fn plan_refuses(alloc: Global, lists: &ListWalk<'_>) -> Result<bool, NoMemory>
@@ -60,7 +75,7 @@ fn plan_refuses(alloc: Global, lists: &ListWalk<'_>) -> Result<bool, NoMemory>
     if is_short(alloc, lists)? {
         return Ok(true);
     }
-    if !lists.is_to_be_planned() {
+    if !is_time_to_plan(lists)? {
         return Ok(false);
     }
     let Some(scenario) = lists.scenario() else {
@@ -70,17 +85,23 @@ fn plan_refuses(alloc: Global, lists: &ListWalk<'_>) -> Result<bool, NoMemory>
     Ok(!planned)
 }
 
-// Whether the order of what is linked so far refuses it, where it is to be judged.
+// Whether a need is left that no action serves, or the order of what is linked so far refuses it, where that is to be
+// judged.
 fn order_refuses(alloc: Global, lists: &ListWalk<'_>) -> Result<bool, NoMemory>
     requires { IsRead (answer lists.now) }
     ensures { IfOk result (λ r. r ≡ true → barren_at lists.now) }
 {
     trees_are_laid_out();
     refusals_ahead_stay();
+    unserved_needs_refuse_lists();
     let linking = lists.linking()?;
     let Some(scenario) = linking else {
         return Ok(false);
     };
+    let lacking = has_unserved_need(&scenario);
+    if lacking {
+        return Ok(true);
+    }
     let refused = is_refused_ahead(alloc, &scenario)?;
     Ok(refused)
 }
@@ -183,11 +204,34 @@ pub(crate) fn rests_on(
     Ok(last)
 }
 
-/// Whether the whole scenario of the list is legal.
-pub(crate) fn judge_at(alloc: Global, lists: &ListWalk<'_>) -> Result<Judged, NoMemory>
+/// The plan of the whole scenario of the list.
+pub(crate) fn plan_whole(alloc: Global, lists: &ListWalk<'_>) -> Result<Planned, NoMemory>
+    requires { IsWhole (answer lists.now) }
+    ensures { IfOk result (λ planned. PlansWhole lists.now planned) }
+{
+    whole_readings_are_built();
+    legal_is_unrefused();
+    whole_lists_end();
+    let Some(scenario) = lists.scenario() else {
+        return Err(NoMemory);
+    };
+    let plan = plan_if_any(alloc, scenario)?;
+    match plan {
+        Some(plan) => Ok(Planned::There(plan)),
+        None => Ok(Planned::Refused(closed(alloc, lists)?)),
+    }
+}
+
+/// Whether the whole scenario of the list is legal. Its plan may be known.
+pub(crate) fn judge_at(
+    alloc: Global,
+    lists: &ListWalk<'_>,
+    plan: &Option<Plan>,
+) -> Result<Judged, NoMemory>
     requires sound { IsSound (view_model lists.now.model) }
     requires concrete { IsConcreteRoot (view_model lists.now.model) lists.now.root }
     requires whole { IsWhole (answer lists.now) }
+    requires planned { IsPlanned lists.now plan.now }
     ensures { IfOk result (λ judged. Judges (kept_of lists.now) judged) }
 {
     nodes_stand_for_pieces();
@@ -198,12 +242,30 @@ pub(crate) fn judge_at(alloc: Global, lists: &ListWalk<'_>) -> Result<Judged, No
     let Some(scenario) = lists.scenario() else {
         return Err(NoMemory);
     };
-    let legal = judge(alloc, lists.model(), scenario)?;
+    let known = plan.is_some();
+    let legal = judge(alloc, lists.model(), scenario, known)?;
     if legal {
         return Ok(Judged::Legal);
     }
     let conflict = closed(alloc, lists)?;
     Ok(Judged::Refused(conflict))
+}
+
+/// The whole scenario of the list, and its plan, which is known.
+pub(crate) fn found_with(
+    alloc: Global,
+    lists: &ListWalk<'_>,
+    plan: Plan,
+) -> Result<(Scenario, Plan), NoMemory>
+    requires whole { IsWhole (answer lists.now) }
+    requires plan { HasPlan lists.now plan }
+    ensures { IfOk result (λ found. IsFound lists.now found) }
+{
+    let Some(scenario) = lists.scenario() else {
+        return Err(NoMemory);
+    };
+    let copy = copy_scenario(alloc, scenario)?;
+    Ok((copy, plan))
 }
 
 /// The whole scenario of the list, which has a plan, and that plan.

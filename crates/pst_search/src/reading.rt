@@ -1,17 +1,20 @@
 //! The walker of whole lists of choices.
-ghost use Rattle.std.specs.Prelude.{◌≡◌, IfOk, []};
+ghost use Rattle.std.specs.Prelude.{◌≡◌, IfOk, OnOk, []};
 ghost use Rattle.pst_model.specs.ModelView.{view_model};
 ghost use Rattle.pst_model.specs.Sound.{IsSound};
 ghost use Rattle.pst_built.specs.Laws.{IsConcreteRoot};
 ghost use Rattle.pst_list_walk.specs.Walks.{answer};
 ghost use Rattle.pst_list_walk.specs.Made.{kept_at};
-ghost use Rattle.pst_search_loop.specs.Kept.{IsWhole};
+ghost use Rattle.pst_search_loop.specs.Kept.{IsWhole, Shows};
+ghost use Rattle.pst_search_loop.specs.declared.walker.Look.TheVariants as look;
+ghost use Rattle.pst_list_values.specs.Walked.{kept_of};
 ghost use Rattle.pst_search.specs.Readings.{IsFound};
 
-use crate::behind::{Behind, back_at, choose_at, look_behind};
-use crate::looking::{found_at, judge_at, rests_on};
-use crate::skipping::skip_at;
+use crate::given::look_behind;
+use crate::looking::{found_at, found_with, judge_at, plan_whole, rests_on};
+use crate::planned::Planned;
 use pst_base::NoMemory;
+use pst_list_values::{Behind, back_at, choose_at, skip_at};
 use pst_list_walk::ListWalk;
 use pst_model::Model;
 use pst_scen::{Plan, Scenario};
@@ -26,6 +29,7 @@ pub(crate) struct Reading<'a> {
     alloc: Global,
     lists: ListWalk<'a>,
     behind: Option<Behind>,
+    plan: Option<Plan>,
 }
 
 impl<'a> std::marker::Model for Reading<'a> {
@@ -63,25 +67,50 @@ impl<'a> Reading<'a> {
             alloc,
             lists,
             behind: None,
+            plan: None,
         })
     }
 
     /// The whole scenario of the list, which has a plan, and that plan.
-    pub(crate) fn found(&self) -> Result<(Scenario, Plan), NoMemory>
-        requires { IsWhole (answer self.now) }
-        ensures { IfOk result (λ found. IsFound self.now found) }
+    pub(crate) fn found(&mut self) -> Result<(Scenario, Plan), NoMemory>
+        requires { IsWhole (answer self.old) }
+        ensures { IfOk result (λ found. IsFound self.old found) }
     {
-        found_at(self.alloc, &self.lists)
+        let plan = self.plan.take();
+        match plan {
+            Some(plan) => found_with(self.alloc, &self.lists, plan),
+            None => found_at(self.alloc, &self.lists),
+        }
+    }
+
+    // A whole list, which keeps its plan, unless it has none.
+    fn planned(&mut self) -> Result<Look, NoMemory>
+        requires { Shows (kept_of self.old) look.Whole }
+        ensures same { OnOk result (self.new ≡ self.old) }
+        ensures shows { IfOk result (λ shown. Shows (kept_of self.old) shown) }
+    {
+        let planned = plan_whole(self.alloc, &self.lists)?;
+        match planned {
+            Planned::There(plan) => {
+                self.plan = Some(plan);
+                Ok(Look::Whole)
+            }
+            Planned::Refused(conflict) => Ok(Look::Closed(conflict)),
+        }
     }
 }
 
 impl Walker for Reading<'_> {
-    ghost use Rattle.pst_search.specs.Readings.{kept_of};
+    ghost use Rattle.pst_list_values.specs.Walked.{kept_of};
 
     ghost kept = { kept_of };
 
-    fn look(&self) -> Result<Look, NoMemory> {
-        look_behind(self.alloc, &self.lists, &self.behind)
+    fn look(&mut self) -> Result<Look, NoMemory> {
+        let shown = look_behind(self.alloc, &self.lists, &self.behind)?;
+        match shown {
+            Look::Whole => self.planned(),
+            shown => Ok(shown),
+        }
     }
 
     fn rests(&self, count: u64) -> Result<Conflict, NoMemory> {
@@ -93,22 +122,25 @@ impl Walker for Reading<'_> {
     }
 
     fn choose(&mut self, digit: u64) -> Result<(), NoMemory> {
+        self.plan = None;
         let behind = self.behind.take();
         self.behind = choose_at(self.alloc, &mut self.lists, behind, digit)?;
         Ok(())
     }
 
     fn back(&mut self) {
+        self.plan = None;
         let behind = self.behind.take();
         self.behind = back_at(&mut self.lists, behind);
     }
 
     fn judge(&self) -> Result<Judged, NoMemory> {
-        judge_at(self.alloc, &self.lists)
+        judge_at(self.alloc, &self.lists, &self.plan)
     }
 
     fn begin(&mut self, level: u32) -> Result<(), NoMemory> {
         self.behind = None;
+        self.plan = None;
         self.lists.restart(level)?;
         Ok(())
     }

@@ -9,8 +9,8 @@ use pst_list_walk::ListWalk;
 use pst_plan_so_far::sources_are_built;
 use std::alloc::Global;
 
-// Whether the sources have just been read through.
-fn is_just_behind(lists: &ListWalk<'_>) -> Result<bool, NoMemory> {
+/// Whether the sources have just been read through.
+pub(crate) fn is_just_behind(lists: &ListWalk<'_>) -> Result<bool, NoMemory> {
     let Some(front) = lists.front()? else {
         return Ok(false);
     };

@@ -59,6 +59,10 @@ facts_same : (k l : Kept) → SameKept k l → FactsHold k.facts → FactsHold l
 facts_same k l same facts = subst FactsHold (sym same.facts) facts
 
 -- the next live list
+-- Looking changes nothing.
+pub searching_begun : (k l : Kept) (shown : Look) → l ≡ k → k.choices ≡ [] → Shows k shown → Searching k l [] shown 0
+searching_begun k l shown same start shows = subst (λ (x : Kept). Searching k x [] shown 0) (sym same) (searching_first k shown start shows)
+
 pub searching_on : LiveListsRise → (k l n : Kept) (frames later : List Frame) (shown next : Look) (count : ℕ) → Searching k l frames shown count → Further l n later next → Searching k n later next (count + 1)
 searching_on rise k l n frames later shown next count s f =
     let same = same_then k l n s.same f.same in

@@ -71,7 +71,8 @@ fn go_on<W: Walker>(walker: &mut W, frames: &mut Vec<Frame>, frame: Frame) -> Re
     let mut frame = skip_options(walker, frame, at)?;
     if frame.digit < frame.count {
         take(walker, frames, frame)?;
-        return walker.look();
+        let shown = walker.look()?;
+        return Ok(shown);
     }
     let rests = walker.rests(frame.count)?;
     frame.reasons.join(&rests, at)?;

@@ -53,8 +53,9 @@ pub trait Walker: Drop {
     ghost kept: { Self → Kept };
 
     /// What the list comes to.
-    fn look(&self) -> Result<Look, NoMemory>
-        ensures { IfOk result (λ shown. Shows (kept self.now) shown) };
+    fn look(&mut self) -> Result<Look, NoMemory>
+        ensures same { OnOk result (kept self.new ≡ kept self.old) }
+        ensures shows { IfOk result (λ shown. Shows (kept self.old) shown) };
 
     /// What a place rests on: where a legal scenario agrees with these choices, one of the place's
     /// options holds of it.

@@ -1,10 +1,10 @@
 -- A place without an option reads nothing.
-use Rattle.std.proofs.Common.{◌≡◌, ◌⊎◌, inl, inr, ℕ, zero, suc, ◌<◌, ◌≤◌, List, Bool, true, false, refl, sym, ap, ◌∙◌, subst, arith}
+use Rattle.std.proofs.Common.{◌≡◌, ℕ, zero, suc, ◌<◌, List, Bool, true, false, subst, arith}
 use Rattle.std.specs.Prelude.{nat_le, if◌then◌else◌, slice_get, length, map}
 use Rattle.pst_model.specs.ModelTree.{ModelTree}
 use Rattle.pst_scen.specs.declared.scenario.Scenario.{Scenario}
 use Rattle.pst_model.specs.ModelView.{view_action}
-use Rattle.pst_legal.specs.Menus.{Menu, Place, join_menu, instance_menu, branch_menu}
+use Rattle.pst_legal.specs.Menus.{Menu, join_menu, instance_menu, branch_menu}
 use Rattle.pst_legal.specs.Reading.{Reader, Stops, then_read, read_menu, read_pieces, read_piece}
 use Rattle.pst_shape.specs.declared.pending.At.{At}
 use Rattle.pst_shape.specs.declared.pending.At.TheVariants as at

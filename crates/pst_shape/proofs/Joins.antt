@@ -1,8 +1,8 @@
 -- The places of the branches that a block waits for.
-use Rattle.std.proofs.Common.{◌≡◌, ◌⊎◌, inl, inr, ℕ, zero, suc, ◌+◌, ◌-◌, ◌<◌, ◌≤◌, List, [], ◌∷◌, ◌++◌, Bool, true, false, refl, sym, ap, ◌∙◌, arith}
+use Rattle.std.proofs.Common.{◌≡◌, ◌⊎◌, inl, inr, ℕ, zero, suc, ◌-◌, ◌<◌, ◌≤◌, List, [], ◌∷◌, ◌++◌, Bool, true, false, refl, ap, ◌∙◌, arith}
 use Rattle.std.specs.Prelude.{nat_le, nat_lt, if◌then◌else◌}
 use Rattle.std.proofs.lemmas.Bool.{le-leb, lt-leb, lt-ltb, le-ltb}
-use Rattle.pst_legal.specs.Menus.{Menu, Way, Place, Weighted, Closed, join_menu}
+use Rattle.pst_legal.specs.Menus.{Menu, Place, join_menu}
 use Rattle.pst_shape.specs.Pending.{options_of, menu_after}
 
 module _ (after : List Bool → Menu) where

@@ -1,5 +1,5 @@
 -- What stands below a node, with its levels; a digit at a place.
-use Rattle.std.proofs.Common.{◌≡◌, ℕ, zero, suc, ◌+◌, ◌-◌, ◌<◌, ◌≤◌, ℤ, List, [], ◌∷◌, ◌++◌, length, map, Bool, true, false, Option, Some, None, refl, sym, ap, ap₂, ◌∙◌, subst, arith, drop}
+use Rattle.std.proofs.Common.{◌≡◌, ℕ, zero, suc, ◌+◌, ◌-◌, ◌<◌, ℤ, List, [], ◌∷◌, ◌++◌, length, map, Bool, true, false, Option, Some, None, refl, sym, ap, ◌∙◌, subst, arith, drop}
 use Rattle.std.specs.Prelude.{MatchBool, ◌&&◌, nat_le, nat_lt, if◌then◌else◌, slice_get}
 use Rattle.std.proofs.lemmas.Bool.{le-leb, lt-ltb, le-ltb}
 use Rattle.std.proofs.lemmas.List.{length-map, map-append}
@@ -17,9 +17,9 @@ use Rattle.pst_legal.specs.Growing.{Look, Inner, Leaf, with_look, is_within, not
 use Rattle.pst_model.specs.ActivityTree.{StepTree, ActivityTree}
 use Rattle.pst_legal.specs.Types.{type_of}
 use Rattle.pst_legal.specs.Pieces.{Context, Piece, Action, Turning, turns, statements}
-use Rattle.pst_legal.specs.Menus.{Menu, Way, Place, Weighted, Closed, plain, menu, action_menu, content_menu}
-use Rattle.pst_legal.specs.Reading.{Reading, Wants, Stops, Reads, Reader, then_read, read_place, option_at, read_menu, read_fields, read_pieces, read_way, read_piece, put_value, value_number, read_tree}
-use Rattle.pst_shape_parts.specs.Trees.{Tree, scenario_of, opened, grown_by, is_small, IsGrown, put, values_at}
+use Rattle.pst_legal.specs.Menus.{Menu, Way, Place, Weighted, Closed, menu, action_menu, content_menu}
+use Rattle.pst_legal.specs.Reading.{Reading, Wants, Stops, Reads, Reader, then_read, read_place, option_at, read_menu, read_fields, read_pieces, read_piece, put_value, value_number, read_tree}
+use Rattle.pst_shape_parts.specs.Trees.{Tree, scenario_of, opened, grown_by, is_small, IsGrown, values_at}
 use Rattle.pst_shape.specs.declared.pending.Stack.{Stack, Empty}
 use Rattle.pst_shape.specs.declared.pending.Fields.{Fields}
 use Rattle.pst_shape.specs.declared.pending.At.{At}

@@ -4,3 +4,4 @@ pub mod Joins
 pub mod Closed
 pub mod Statements
 pub mod Stands
+pub mod Added

@@ -1,6 +1,6 @@
 -- What a walk's invariant says of its answers.
-use Rattle.std.proofs.Common.{◌≡◌, ℕ, zero, suc, ◌+◌, ◌<◌, ◌≤◌, List, [], ◌∷◌, ◌++◌, length, take, map, Option, Some, None, Bool, true, false, refl, sym, ap, ◌∙◌, subst, arith, append_assoc, length-append}
-use Rattle.std.specs.Prelude.{nat_lt, if◌then◌else◌, reverse}
+use Rattle.std.proofs.Common.{◌≡◌, ℕ, ◌+◌, ◌<◌, List, [], ◌∷◌, ◌++◌, length, map, Option, refl, sym, ap, ◌∙◌, subst, arith, append_assoc, length-append}
+use Rattle.std.specs.Prelude.{if◌then◌else◌}
 use Rattle.std.proofs.lemmas.Bool.{lt-ltb}
 use Rattle.std.proofs.lemmas.List.{append-nil}
 use Rattle.pst_model.specs.declared.action.Field.{Field}
@@ -11,14 +11,14 @@ use Rattle.pst_expr.specs.Spans.{size_of}
 use Rattle.pst_legal.specs.Growing.{Look, nothing_yet}
 use Rattle.pst_legal.specs.Pieces.{Piece}
 use Rattle.pst_legal.specs.Menus.{Menu, Way, Place, Weighted, Closed}
-use Rattle.pst_legal.specs.Reading.{Reading, Wants, Stops, Reads, Reader, then_read, read_menu, read_fields, read_tree}
-use Rattle.pst_legal.specs.ValueReading.{Answer, Options, Dead, Whole, answer_of}
+use Rattle.pst_legal.specs.Reading.{Wants, Stops, Reader, then_read, read_menu, read_fields, read_tree}
+use Rattle.pst_legal.specs.ValueReading.{Answer, Options, answer_of}
 use Rattle.pst_shape.specs.declared.pending.At.{At}
 use Rattle.pst_shape.specs.declared.pending.At.TheVariants as at
 use Rattle.pst_shape.specs.declared.walk.Made.{Made}
-use Rattle.pst_shape_parts.specs.Trees.{Tree, scenario_of, opened, bare, IsGrown, Extends, put, cut_to, taken_back}
-use Rattle.pst_shape.specs.Pending.{spot_menu, read_stack, read_on, below_fields, options_of, first_size, way_at, IsReady, IsOpen, IsDigit, shown_at, valued, Grows, IsCompound}
-use Rattle.pst_shape.specs.Walks.{HasDigit, IfRead, next_of}
+use Rattle.pst_shape_parts.specs.Trees.{Tree, scenario_of, opened, bare, IsGrown, cut_to}
+use Rattle.pst_shape.specs.Pending.{spot_menu, read_stack, read_on, options_of, first_size, way_at, IsReady, IsOpen, IsDigit, shown_at, valued, Grows}
+use Rattle.pst_shape.specs.Walks.{HasDigit, IfRead}
 use Rattle.pst_shape.specs.Choices.{digits_of, at_after, node_count, leaf_count, undone}
 use Rattle.pst_shape.specs.Made.{Stands, AllStand}
 use Rattle.pst_shape_parts.proofs.Placed.{cut_back}
@@ -30,7 +30,7 @@ module _ (m : ModelTree) (root seed : ℕ) where
   standing start [] t h = h.0
   standing start (x ∷ older) t h = h.0
 
-  sizes : (start : At) (made : List Made) (t : Tree) → AllStand m root seed start made t → (length t.nodes ≡ node_count made) × (length t.leaves ≡ leaf_count made)
+  pub sizes : (start : At) (made : List Made) (t : Tree) → AllStand m root seed start made t → (length t.nodes ≡ node_count made) × (length t.leaves ≡ leaf_count made)
   sizes start [] t h = (h.1, h.2)
   sizes start (x ∷ older) t h = (h.1, h.2)
 

@@ -1,24 +1,24 @@
 -- The places of each kind of statement.
-use Rattle.std.proofs.Common.{◌≡◌, ℕ, ◌≤◌, List, [], ◌∷◌, map, length, Bool, true, false, Option, Some, None, refl, sym, ap, ◌∙◌, subst}
-use Rattle.std.specs.Prelude.{nat_le, if◌then◌else◌, slice_get}
+use Rattle.std.proofs.Common.{◌≡◌, ℕ, ◌≤◌, List, [], map, length, Bool, Option, sym, ap, ◌∙◌, subst}
+use Rattle.std.specs.Prelude.{if◌then◌else◌, slice_get}
 use Rattle.std.specs.Global.{Vec, Box}
 use Rattle.std.proofs.lemmas.Bool.{le-leb}
 use Rattle.pst_model.specs.declared.activity.Step.{Step}
 use Rattle.pst_model.specs.declared.activity.Step.TheVariants as the_step
 use Rattle.pst_model.specs.declared.activity.Join.{Join}
-use Rattle.pst_model.specs.declared.activity.Join.TheVariants.{Fixed, Choose}
+use Rattle.pst_model.specs.declared.activity.Join.TheVariants.{Choose}
 use Rattle.pst_model.specs.declared.activity.Branch.{Branch}
 use Rattle.pst_model.specs.declared.activity.Arm.{Arm}
 use Rattle.pst_model.specs.declared.constraint.Constraint.{Constraint}
 use Rattle.pst_model.specs.ConstraintTree.{view_constraint}
-use Rattle.pst_model.specs.ActivityTree.{StepTree, BranchTree, ArmTree, step_of}
+use Rattle.pst_model.specs.ActivityTree.{StepTree, BranchTree, step_of}
 use Rattle.pst_model.specs.ModelTree.{ModelTree}
 use Rattle.pst_model.specs.ModelView.{view_step, view_branch, view_arm, maybe_step}
 use Rattle.pst_scen.specs.declared.tree.Fill.TheVariants as fill
 use Rattle.pst_legal.specs.Pieces.{Context, statements, mask, value_in}
 use Rattle.pst_shape_parts.specs.declared.branches.Branches.{Branches}
 use Rattle.pst_shape_parts.specs.Contexts.{view_numbered}
-use Rattle.pst_legal.specs.Menus.{Menu, Weighted, branch_menu, Closed, plain, statement_menu, join_menu, block_menu, branches_menu, available, repeat_menu, if_menu, match_menu}
+use Rattle.pst_legal.specs.Menus.{Weighted, branch_menu, Closed, plain, statement_menu, join_menu, block_menu, branches_menu, available, if_menu, match_menu}
 use Rattle.pst_sound_parts.proofs.Rows.{steps_of_row, branches_of_row, arms_of_row, sequence_is, parallel_is, schedule_is, joined_is, select_is, if_is, match_is}
 
 module _ (m : ModelTree) (c : Context) (s : Step) where

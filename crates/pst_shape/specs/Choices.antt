@@ -2,6 +2,7 @@
 use Rattle.std.specs.Prelude.{ℕ, List, [], ◌∷◌, ◌++◌, Option, None, Some}
 use Rattle.pst_shape.specs.declared.pending.At.{At}
 use Rattle.pst_shape.specs.declared.walk.Made.{Made}
+use Rattle.pst_shape.specs.declared.walk.Growth.{Growth}
 use Rattle.pst_shape_parts.specs.Trees.{Tree, taken_back}
 
 abbrev pub digits_of : List Made → List ℕ
@@ -25,3 +26,8 @@ leaf_count (h ∷ older) = h.leaves
 abbrev pub undone : Option ℕ → Tree → Tree
 undone None t = t
 undone (Some n) t = taken_back t n
+
+-- what the last of them added
+abbrev pub growth_after : List Made → Option Growth
+growth_after [] = None
+growth_after (h ∷ older) = Some (record { nodes = node_count older; leaves = leaf_count older; value = h.value })

@@ -10,7 +10,7 @@ use Rattle.pst_shape.specs.declared.walk.Walk.TheInside.{Inside}
 use Rattle.pst_shape_parts.specs.Trees.{Tree, tree_of, scenario_of, cut_to, IsGrown}
 use Rattle.pst_shape.specs.Pending.{read_on, IsReady, IsOpen}
 use Rattle.pst_shape.specs.Walks.{Kept}
-use Rattle.pst_shape.specs.Choices.{digits_of, at_after, node_count, leaf_count, undone}
+use Rattle.pst_shape.specs.Choices.{digits_of, node_count, leaf_count, undone}
 
 -- after these choices the reading goes on from there
 pub record Stands (m : ModelTree) (root seed : ℕ) (choices : List ℕ) (at : At) (t : Tree) : Type 0 where

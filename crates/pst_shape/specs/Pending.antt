@@ -1,21 +1,19 @@
 -- What is still to be read, as pieces and places.
-use Rattle.std.specs.Prelude.{◌≡◌, ℕ, zero, suc, ◌+◌, ◌*◌, ◌-◌, ◌<◌, ◌≤◌, ℤ, pos, List, [], ◌∷◌, ◌++◌, drop, map, length, All, Bool, Option, Some, None, slice_get}
+use Rattle.std.specs.Prelude.{◌≡◌, ℕ, zero, suc, ◌+◌, ◌*◌, ◌-◌, ◌<◌, ℤ, pos, List, [], ◌∷◌, ◌++◌, drop, map, length, Bool, Option, Some, None, slice_get}
 use Rattle.pst_rng.specs.Words.{start_of}
-use Rattle.pst_rng.specs.Weights.{IsWeight, weighted_start_of}
+use Rattle.pst_rng.specs.Weights.{weighted_start_of}
 use Rattle.pst_expr.specs.Spans.{size_of}
 use Rattle.pst_model.specs.declared.action.Field.{Field}
-use Rattle.pst_model.specs.ActivityTree.{StepTree, BranchTree}
 use Rattle.pst_model.specs.ModelTree.{ModelTree}
 use Rattle.pst_model.specs.ModelView.{view_step, view_action}
 use Rattle.pst_scen.specs.declared.tree.Node.{Node}
 use Rattle.pst_scen.specs.declared.tree.Fill.TheVariants as fill
 use Rattle.pst_scen.specs.declared.scenario.Scenario.{Scenario}
 use Rattle.pst_legal.specs.Pieces.{Context, Piece, statements, turns, mask}
-use Rattle.pst_legal.specs.Growing.{Look, Inner}
+use Rattle.pst_legal.specs.Growing.{Look}
 use Rattle.pst_legal.specs.Menus.{Menu, Way, Place, Weighted, Closed, plain, type_menu, branch_menu, join_menu}
-use Rattle.pst_legal.specs.Reading.{Reading, Wants, Stops, Reads, Reader, then_read, read_fields, read_menu, read_pieces, read_way, read_piece, value_number}
+use Rattle.pst_legal.specs.Reading.{Stops, Reads, Reader, then_read, read_fields, read_menu, read_pieces, read_way, read_piece, value_number}
 use Rattle.pst_legal.specs.ValueReading.{Answer, Options, Dead as Dead_answer, Whole as Whole_answer}
-use Rattle.pst_shape.specs.declared.pending.Turns.{Turns}
 use Rattle.pst_shape.specs.declared.pending.Parts.{Parts}
 use Rattle.pst_shape.specs.declared.pending.Parts.TheVariants as parts
 use Rattle.pst_shape.specs.declared.pending.Stack.{Stack, Empty, Over'}

@@ -6,4 +6,4 @@ mod pick;
 mod step;
 mod walk;
 
-pub use walk::Walk;
+pub use walk::{Growth, Walk};

@@ -3,8 +3,8 @@ ghost use Rattle.std.specs.Prelude.{◌≡◌, ℕ, IfOk, OnOk, OnErr, ◌<◌, 
 ghost use Rattle.pst_scen.specs.declared.scenario.Scenario.{Scenario};
 ghost use Rattle.pst_shape_parts.specs.Trees.{bare};
 ghost use Rattle.pst_shape.specs.Pending.{shown_at, valued};
-ghost use Rattle.pst_shape.specs.Choices.{at_after, node_count, leaf_count};
-ghost use Rattle.pst_shape.specs.Walks.{Kept, with_choice, answer, next_of, IfRead, HasDigit};
+ghost use Rattle.pst_shape.specs.Choices.{at_after, node_count, leaf_count, growth_after};
+ghost use Rattle.pst_shape.specs.Walks.{Kept, with_choice, answer, next_of, IfRead, HasDigit, IsGrowth};
 
 use crate::pending::At;
 use crate::pick::{choice, first};
@@ -26,6 +26,18 @@ struct Made<'a> {
     value: Option<u32>,
 }
 
+/// What a choice added to a filled-in activity: the nodes and leaves behind so many, and a value of the
+/// action of a node.
+#[derive(Clone, Copy, Debug, PartialEq, Eq)]
+pub struct Growth {
+    /// How many nodes there were before.
+    pub nodes: usize,
+    /// How many leaves there were before.
+    pub leaves: usize,
+    /// The compound action's node that got a value, as the last of its action's values.
+    pub value: Option<u32>,
+}
+
 // Where reading stands after the last of these choices.
 fn at_of<'a, 'b>(made: &'b [Made<'a>], start: &'b At<'a>) -> &'b At<'a>
     ensures { result.now ≡ at_after start.now (reverse made.now) }
@@ -44,6 +56,23 @@ fn sizes_of(made: &[Made<'_>]) -> (usize, usize)
     match made.last() {
         Some(made) => (made.nodes, made.leaves),
         None => (0, 0),
+    }
+}
+
+// What the last of these choices added.
+fn growth_of(made: &[Made<'_>]) -> Option<Growth>
+    ensures { result ≡ growth_after (reverse made.now) }
+{
+    match made.split_last() {
+        None => None,
+        Some((last, before)) => {
+            let (nodes, leaves) = sizes_of(before);
+            Some(Growth {
+                nodes,
+                leaves,
+                value: last.value,
+            })
+        }
     }
 }
 
@@ -136,6 +165,13 @@ impl<'a> Walk<'a> {
         ensures { (level : ℕ) → IfRead (answer self.now level) (λ s. result.now ≡ map bare s.actions) }
     {
         &self.grown.leaves
+    }
+
+    /// What the last choice added, and nothing where there is no choice. All else stands as it stood.
+    pub fn growth(&self) -> Option<Growth>
+        ensures { IsGrowth self.now result }
+    {
+        growth_of(&self.made)
     }
 
     /// Makes a choice at the place where the walk stands.

@@ -7,6 +7,7 @@ use Rattle.pst_scen.specs.declared.tree.Node.{Node}
 use Rattle.pst_scen.specs.Scenarios.{leaves_of}
 use Rattle.pst_legal.specs.Binds.{bounds_of}
 use Rattle.pst_legal.specs.SupplyReading.{read_supply}
+use Rattle.pst_pool_sources.specs.Offers.{AreSources}
 use Rattle.pst_open_ends.specs.Changes.{opened, undone}
 use Rattle.pst_supply.specs.declared.walk.Made.{Made}
 use Rattle.pst_supply.specs.declared.walk.Stop.{Stop}
@@ -50,4 +51,5 @@ kept_by w = kept_with w (reverse w.made.items)
 pub record IsKept (w : Inside) : Type 0 where
   pub count : w.count ≡ length (leaves_of w.nodes.items)
   pub ties : w.ties ≡ bounds_of (view_model w.model.now) w.nodes.items
+  pub among : AreSources w.among w.acts.items
   pub stands : AllStand (ground_of w) w.first (reverse w.made.items) w.acts.items

@@ -1,11 +1,13 @@
 //! Walks through the choices of sources.
-ghost use Rattle.std.specs.Prelude.{◌≡◌, ℕ, ◌+◌, ◌<◌, IfOk, OnOk, OnErr, length, reverse, slice_get, Some, []};
+ghost use Rattle.std.specs.Prelude.{◌≡◌, ℕ, ◌+◌, ◌<◌, ◌≤◌, IfOk, OnOk, OnErr, length, take, reverse, slice_get, Some, []};
 ghost use Rattle.pst_rng.specs.Words.{start_of};
 ghost use Rattle.std.specs.Option.{option_map};
 ghost use Rattle.pst_model.specs.ModelView.{view_model};
 ghost use Rattle.pst_legal.specs.SupplyReading.{next_need};
 ghost use Rattle.pst_legal.specs.Reading.{option_at};
+ghost use Rattle.pst_pool_sources.specs.Offers.{AreSources};
 ghost use Rattle.pst_open_ends.specs.Spots.{read_spot, kept_spot, given_source, given_sources};
+ghost use Rattle.pst_open_ends.specs.Changes.{undone};
 ghost use Rattle.pst_open_ends.specs.Turns.{AreDone};
 ghost use Rattle.pst_supply.specs.Walks.{with_choice, answer, next_of, IfRead, HasDigit, IsChange};
 ghost use Rattle.pst_supply.specs.Stops.{options_at, IsStop, stop_after, may_infer, shown_at};
@@ -17,6 +19,7 @@ use pst_model::Model;
 use pst_open_ends::{
     Change, Source, Spot, leaf_count, next_need, open_acts, sources, supply, take_back,
 };
+use pst_pool_sources::PoolSources;
 use pst_rng::start;
 use pst_scen::{Act, Next, Node};
 use pst_ties::Ties;
@@ -59,15 +62,17 @@ fn options(
     model: &Model,
     ties: &Ties,
     acts: &[Act],
+    among: &PoolSources,
     leaves: usize,
     level: u32,
     need: &Spot,
 ) -> Result<Vec<Source>, NoMemory>
+    requires { AreSources among.now acts.now }
     ensures { IfOk result (λ found. given_sources found.items ≡ options_at (view_model model.now) ties.now acts.now leaves level need.now) }
 {
     let more = may_infer(acts.len(), leaves, level);
     let fixed = ties.fixed(need.act, need.reference, need.flow);
-    sources(alloc, model, acts, more, need, fixed)
+    sources(alloc, model, acts, among, more, need, fixed)
 }
 
 // Looks where reading stands, where no action below `from` has a turn.
@@ -76,11 +81,13 @@ fn look(
     model: &Model,
     ties: &Ties,
     acts: &[Act],
+    among: &PoolSources,
     leaves: usize,
     level: u32,
     from: usize,
 ) -> Result<Stop, NoMemory>
-    requires { AreDone ties.now acts.now from }
+    requires done { AreDone ties.now acts.now from }
+    requires among { AreSources among.now acts.now }
     ensures { IfOk result (λ stop. IsStop (view_model model.now) ties.now acts.now leaves level stop) }
 {
     match next_need(ties, acts, from) {
@@ -89,7 +96,7 @@ fn look(
             count: 0,
         }),
         Some(need) => {
-            let found = options(alloc, model, ties, acts, leaves, level, &need)?;
+            let found = options(alloc, model, ties, acts, among, leaves, level, &need)?;
             Ok(Stop {
                 need: Some(need),
                 count: found.len() as u64,
@@ -172,6 +179,7 @@ fn pick(
     model: &Model,
     ties: &Ties,
     acts: &[Act],
+    among: &PoolSources,
     leaves: usize,
     level: u32,
     need: &Spot,
@@ -180,12 +188,51 @@ fn pick(
     made: usize,
     digit: u64,
 ) -> Result<Source, NoMemory>
-    requires { digit < length (options_at (view_model model.now) ties.now acts.now leaves level need.now) }
+    requires among { AreSources among.now acts.now }
+    requires digit { digit < length (options_at (view_model model.now) ties.now acts.now leaves level need.now) }
     ensures { IfOk result (λ source. NamesSource seed (place + made) (options_at (view_model model.now) ties.now acts.now leaves level need.now) digit (given_source source)) }
 {
-    let found = options(alloc, model, ties, acts, leaves, level, need)?;
+    let found = options(alloc, model, ties, acts, among, leaves, level, need)?;
     let place = place_after(place, made)?;
     Ok(named(found.as_slice(), seed, place, digit))
+}
+
+// Adds what a source made to the references that may be sources, and looks where reading stands then.
+// Without memory they are those of the actions before.
+fn look_behind(
+    alloc: Global,
+    model: &Model,
+    ties: &Ties,
+    acts: &[Act],
+    among: &mut PoolSources,
+    leaves: usize,
+    level: u32,
+    change: &Change,
+) -> Result<Stop, NoMemory>
+    requires done { AreDone ties.now acts.now change.now.lowest }
+    requires known { AreSources among.old (take change.now.count acts.now) }
+    requires few { length acts.now ≤ change.now.count + 1 }
+    ensures stop { IfOk result (λ stop. IsStop (view_model model.now) ties.now acts.now leaves level stop) }
+    ensures ok { OnOk result (AreSources among.new acts.now) }
+    ensures err { OnErr result (AreSources among.new (take change.now.count acts.now)) }
+{
+    among.grow(acts, change.count)?;
+    match look(
+        alloc,
+        model,
+        ties,
+        acts,
+        among,
+        leaves,
+        level,
+        change.lowest,
+    ) {
+        Ok(stop) => Ok(stop),
+        Err(error) => {
+            among.shrink(acts, change.count);
+            Err(error)
+        }
+    }
 }
 
 // Links a need to a source, and looks where reading stands then.
@@ -194,23 +241,36 @@ fn go_on(
     model: &Model,
     ties: &Ties,
     acts: &mut Vec<Act>,
+    among: &mut PoolSources,
     leaves: usize,
     level: u32,
     need: &Spot,
     source: Source,
 ) -> Result<Went, NoMemory>
-    requires { AreDone ties.now acts.old.items need.now.act }
+    requires done { AreDone ties.now acts.old.items need.now.act }
+    requires among { AreSources among.old acts.old.items }
     ensures gone { IfOk result (λ went. Advances (view_model model.now) ties.now leaves level (read_spot need.now) (given_source source) went acts.old.items acts.new.items) }
+    ensures among { AreSources among.new acts.new.items }
     ensures err { OnErr result (acts.new.items ≡ acts.old.items) }
 {
     let change = supply(alloc, model, acts, need, source)?;
-    match look(alloc, model, ties, acts, leaves, level, change.lowest) {
+    match look_behind(alloc, model, ties, acts, among, leaves, level, &change) {
         Ok(stop) => Ok(Went { change, stop }),
         Err(error) => {
             take_back(alloc, acts, &change);
             Err(error)
         }
     }
+}
+
+// Takes a source back, with what it made.
+fn go_back(alloc: Global, acts: &mut Vec<Act>, among: &mut PoolSources, change: &Change)
+    requires { AreSources among.old acts.old.items }
+    ensures undone { acts.new.items ≡ undone change.now acts.old.items }
+    ensures among { AreSources among.new acts.new.items }
+{
+    among.shrink(acts, change.count);
+    take_back(alloc, acts, change);
 }
 
 /// A walk through the lists of choices that give the needs their sources, behind a list that fills
@@ -230,6 +290,7 @@ pub struct SupplyWalk<'a> {
     first: Stop,
     made: Vec<Made>,
     acts: Vec<Act>,
+    among: PoolSources,
 }
 
 impl<'a> std::marker::Model for SupplyWalk<'a> {
@@ -268,7 +329,8 @@ impl<'a> SupplyWalk<'a> {
         let count = leaf_count(nodes);
         let ties = Ties::new(alloc, model, nodes)?;
         let acts = open_acts(alloc, model, leaves)?;
-        let first = look(alloc, model, &ties, &acts, count, level, 0)?;
+        let among = PoolSources::new(alloc, model.pools.len(), &acts)?;
+        let first = look(alloc, model, &ties, &acts, &among, count, level, 0)?;
         let nodes = copy_nodes(alloc, nodes)?;
         let leaves = copy_acts(alloc, leaves)?;
         Ok(SupplyWalk {
@@ -284,6 +346,7 @@ impl<'a> SupplyWalk<'a> {
             first,
             made: Vec::new(alloc),
             acts,
+            among,
         })
     }
 
@@ -336,6 +399,7 @@ impl<'a> SupplyWalk<'a> {
             self.model,
             &self.ties,
             &self.acts,
+            &self.among,
             self.count,
             self.level,
             &need,
@@ -349,6 +413,7 @@ impl<'a> SupplyWalk<'a> {
             self.model,
             &self.ties,
             &mut self.acts,
+            &mut self.among,
             self.count,
             self.level,
             &need,
@@ -370,7 +435,7 @@ impl<'a> SupplyWalk<'a> {
         ensures { (digit : ℕ) × (self.old ≡ with_choice self.new digit) }
     {
         if let Some(last) = self.made.pop() {
-            take_back(self.alloc, &mut self.acts, &last.change);
+            go_back(self.alloc, &mut self.acts, &mut self.among, &last.change);
         }
     }
 }

@@ -3,74 +3,14 @@ ghost use Rattle.pst_scen.specs.Plans.{IsPlanOf};
 ghost use Rattle.pst_order.specs.Built.{IsBuilt};
 
 use crate::runs::write_trace;
-use pst_base::{NameId, NoMemory};
 use pst_book::Book;
 use pst_exec::{RunEnd, run_one};
-use pst_model::{ActionType, Activity, Content, Model, Part};
 use pst_scen::{Plan, Scenario};
 use pst_sound::sound;
 use pst_target::{Call, ScriptTarget};
-use pst_tests_bodies::{Numbers, functions, has_types, read_steps};
+use pst_tests_bodies::has_types;
+use pst_tests_scenarios::model_of;
 use std::alloc::{AllocError, Global};
-
-fn action(alloc: Global, content: Content) -> ActionType {
-    ActionType {
-        name: NameId(0),
-        component: NameId(0),
-        is_abstract: false,
-        fields: Vec::new(alloc),
-        references: Vec::new(alloc),
-        claims: Vec::new(alloc),
-        constraints: Vec::new(alloc),
-        content,
-    }
-}
-
-// The type of a body that is written as numbers.
-fn atomic(alloc: Global, body: &str) -> Result<ActionType, NoMemory> {
-    let mut numbers = Vec::new(alloc);
-    for word in body.split_whitespace() {
-        numbers.push(word.parse::<i64>().unwrap_or(0))?;
-    }
-    let mut left = Numbers {
-        left: numbers.as_slice(),
-    };
-    let steps = read_steps(alloc, &mut left, 8)?;
-    Ok(action(alloc, Content::Atomic(steps)))
-}
-
-// A type with an empty activity, and one for each body.
-fn types(alloc: Global, bodies: &str) -> Result<Vec<ActionType>, NoMemory> {
-    let mut types = Vec::new(alloc);
-    let empty = Content::Compound(Activity {
-        handles: Vec::new(alloc),
-        steps: Vec::new(alloc),
-        binds: Vec::new(alloc),
-    });
-    types.push(action(alloc, empty))?;
-    for body in bodies.split(';') {
-        types.push(atomic(alloc, body)?)?;
-    }
-    Ok(types)
-}
-
-fn model(alloc: Global, bodies: &str) -> Result<Model, NoMemory> {
-    let actions = types(alloc, bodies)?;
-    let top = Part {
-        name: NameId(0),
-        component: NameId(0),
-        parent: None,
-        last: 0,
-    };
-    Ok(Model {
-        actions,
-        objects: Vec::new(alloc),
-        instances: Vec::from_slice(alloc, &[top])?,
-        pools: Vec::new(alloc),
-        functions: functions(alloc)?,
-        served: Vec::new(alloc),
-    })
-}
 
 // Writes how a run ended, and its trace.
 fn write_end(answer: &mut String, end: Result<Book<'_>, RunEnd<'_>>) -> Result<(), AllocError> {
@@ -139,7 +79,7 @@ pub fn answer(
     requires built { IsBuilt scenario.now }
     requires planned { IsPlanOf scenario.now plan.now }
 {
-    let Ok(model) = model(alloc, bodies) else {
+    let Ok(model) = model_of(alloc, bodies) else {
         return String::from_str(alloc, "no memory");
     };
     if !sound(&model) || !has_types(&model, scenario) {

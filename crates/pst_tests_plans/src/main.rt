@@ -6,14 +6,12 @@
 #![tactic(auto)]
 
 mod alone;
-mod built;
 mod plans;
 mod runs;
-mod scenarios;
 
-use crate::scenarios::{end_of, planned, scenario_of};
 use pst_cases::{Heading, Score, framed, joined_lines, repeated};
 use pst_scen::Scenario;
+use pst_tests_scenarios::{end_of, planned, scenario_of};
 use std::alloc::{AllocError, Global};
 use std::io;
 use std::io::Read;

@@ -2,9 +2,9 @@
 ghost use Rattle.pst_scen.specs.Plans.{IsPlanOf};
 ghost use Rattle.pst_order.specs.Built.{IsBuilt};
 
-use crate::scenarios::number;
 use pst_book::{Book, Opened};
 use pst_scen::{Event, Plan, Scenario};
+use pst_tests_scenarios::number;
 use std::alloc::{AllocError, Global};
 
 // Ends the least running action.

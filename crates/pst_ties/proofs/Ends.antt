@@ -1,8 +1,8 @@
 -- The ends that are kept are those of the definitions.
-use Rattle.std.proofs.Common.{◌≡◌, ℕ, List, [], ◌∷◌, map, Bool, true, false, if◌then◌else◌, Option, Some, None, refl}
+use Rattle.std.proofs.Common.{◌≡◌, List, [], ◌∷◌, map, Bool, true, false, if◌then◌else◌, Some, refl}
 use Rattle.std.specs.List.{find}
 use Rattle.std.specs.Option.{option_map}
-use Rattle.pst_legal.specs.Binds.{Bound, is_to, is_from, from_of, to_of}
+use Rattle.pst_legal.specs.Binds.{is_to, is_from, from_of, to_of}
 use Rattle.pst_ties.specs.declared.tied.Tied.{Tied}
 use Rattle.pst_ties.specs.declared.tied.End.{End}
 use Rattle.pst_ties.specs.Tieds.{bound_of, fixed_of, same_end, output_to, input_from}

@@ -1,3 +1,4 @@
 pub mod Ways
 pub mod Tieds
 pub mod Kept
+pub mod Children

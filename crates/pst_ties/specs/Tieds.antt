@@ -1,5 +1,5 @@
 -- Joined references, as the definitions see them.
-use Rattle.std.specs.Prelude.{ℕ, List, [], ◌∷◌, map, Bool, ◌&&◌, nat_eq, if◌then◌else◌, Option, Some, None, flat_map, option_to_list}
+use Rattle.std.specs.Prelude.{ℕ, List, [], ◌∷◌, Bool, ◌&&◌, nat_eq, if◌then◌else◌, Option, Some, None, flat_map, option_to_list}
 use Rattle.std.specs.List.{enumerate_from}
 use Rattle.std.specs.Option.{option_map, option_and_then, option_or}
 use Rattle.pst_model.specs.declared.activity.Tie.{Tie}

@@ -5,28 +5,32 @@ ghost use Rattle.std.specs.Option.{option_map};
 ghost use Rattle.pst_model.specs.ModelView.{view_model};
 ghost use Rattle.pst_legal.specs.Binds.{bound_by, bounds_of, ties_at};
 ghost use Rattle.pst_ties.specs.Tieds.{bound_of, binds_of, binds_in};
+ghost use Rattle.pst_ties.specs.Children.{are_behind};
 
-use crate::handles::act_behind;
+use crate::handles::{act_behind, are_behind};
 use crate::tied::{End, Tied};
 use pst_base::NoMemory;
 use pst_model::{Content, Model, Tie};
 use pst_scen::{Fill, Node};
 use std::alloc::Global;
 
-// What a bind joins in the activity of the compound action of a node.
+// What a bind joins in the activity of the compound action of a node. `behind`: each node stands
+// behind its parent.
 fn tied_by(
     alloc: Global,
     model: &Model,
     nodes: &[Node],
+    behind: bool,
     top: usize,
     tie: &Tie,
 ) -> Result<Option<Tied>, NoMemory>
+    requires { behind ≡ are_behind 0 nodes.now }
     ensures { IfOk result (λ tied. option_map bound_of tied ≡ bound_by (view_model model.now) nodes.now top tie.now) }
 {
-    let Some(from) = act_behind(alloc, model, nodes, top, tie.from_handle)? else {
+    let Some(from) = act_behind(alloc, model, nodes, behind, top, tie.from_handle)? else {
         return Ok(None);
     };
-    let Some(to) = act_behind(alloc, model, nodes, top, tie.to_handle)? else {
+    let Some(to) = act_behind(alloc, model, nodes, behind, top, tie.to_handle)? else {
         return Ok(None);
     };
     Ok(Some(Tied {
@@ -47,13 +51,15 @@ fn add_ties(
     found: &mut Vec<Tied>,
     model: &Model,
     nodes: &[Node],
+    behind: bool,
     top: usize,
     ties: &[Tie],
 ) -> Result<(), NoMemory>
+    requires { behind ≡ are_behind 0 nodes.now }
     ensures { OnOk result (map bound_of found.new.items ≡ map bound_of found.old.items ++ flat_map (λ tie. option_to_list (bound_by (view_model model.now) nodes.now top tie)) ties.now) }
 {
     for tie in ties {
-        if let Some(tied) = tied_by(alloc, model, nodes, top, tie)? {
+        if let Some(tied) = tied_by(alloc, model, nodes, behind, top, tie)? {
             found.push(tied)?;
         }
     }
@@ -97,10 +103,11 @@ fn ties_at<'a>(model: &'a Model, nodes: &[Node], top: usize) -> &'a [Tie]
 pub(crate) fn all_ties(alloc: Global, model: &Model, nodes: &[Node]) -> Result<Vec<Tied>, NoMemory>
     ensures { IfOk result (λ found. map bound_of found.items ≡ bounds_of (view_model model.now) nodes.now) }
 {
+    let behind = are_behind(nodes);
     let mut found = Vec::new(alloc);
     for top in 0..nodes.len() {
         let ties = ties_at(model, nodes, top);
-        add_ties(alloc, &mut found, model, nodes, top, ties)?;
+        add_ties(alloc, &mut found, model, nodes, behind, top, ties)?;
     }
     Ok(found)
 }

@@ -1,5 +1,5 @@
 //! The nodes of handles.
-ghost use Rattle.std.specs.Prelude.{◌≡◌, IfOk, map, slice_get};
+ghost use Rattle.std.specs.Prelude.{◌≡◌, ◌≤◌, IfOk, map, drop, length, slice_get};
 ghost use Rattle.std.specs.Option.{option_map};
 ghost use Rattle.pst_model.specs.ModelView.{view_model, view_step};
 ghost use Rattle.pst_legal.specs.Statements.{children_of, node_on, way_in, way_in_step};
@@ -7,6 +7,7 @@ ghost use Rattle.pst_legal.specs.Slots.{node_behind};
 ghost use Rattle.pst_legal.specs.Binds.{act_in, act_behind};
 ghost use Rattle.pst_scen.specs.Tree.{is_parent};
 ghost use Rattle.pst_ties.specs.Ways.{Leads, items_of, way_to};
+ghost use Rattle.pst_ties.specs.Children.{children_from, names_lower, are_behind};
 
 use pst_base::NoMemory;
 use pst_model::{Content, Model, Step};
@@ -57,31 +58,68 @@ fn is_in(node: &Node, parent: usize) -> bool
     }
 }
 
-// The child of that place.
-fn child(nodes: &[Node], parent: usize, index: usize) -> Option<usize>
-    ensures { result ≡ slice_get (children_of nodes.now parent) index }
+// Whether a node of that number names a node before it as its parent, or none.
+fn names_lower(node: &Node, number: usize) -> bool
+    ensures { result ≡ names_lower number node.now.parent }
 {
-    let mut left = index;
+    match node.parent {
+        Some(parent) => (parent as usize) < number,
+        None => true,
+    }
+}
+
+/// Whether each node stands behind its parent.
+pub(crate) fn are_behind(nodes: &[Node]) -> bool
+    ensures { result ≡ are_behind 0 nodes.now }
+{
     let mut number = 0;
     for node in nodes {
-        if is_in(node, parent) {
+        if !names_lower(node, number) {
+            return false;
+        }
+        number += 1;
+    }
+    true
+}
+
+// The number from which on the children of a node stand.
+fn first_place(nodes: &[Node], behind: bool, parent: usize) -> usize
+    requires { behind ≡ are_behind 0 nodes.now }
+    ensures within { result ≤ length nodes.now }
+    ensures children { children_from parent result (drop result nodes.now) ≡ children_of nodes.now parent }
+{
+    if behind && parent < nodes.len() {
+        return parent + 1;
+    }
+    0
+}
+
+// The child of that place. `behind`: each node stands behind its parent.
+fn child(nodes: &[Node], behind: bool, parent: usize, index: usize) -> Option<usize>
+    requires { behind ≡ are_behind 0 nodes.now }
+    ensures { result ≡ slice_get (children_of nodes.now parent) index }
+{
+    let first = first_place(nodes, behind, parent);
+    let mut left = index;
+    for number in first..nodes.len() {
+        if is_in(&nodes[number], parent) {
             if left == 0 {
                 return Some(number);
             }
             left -= 1;
         }
-        number += 1;
     }
     None
 }
 
 // The node at the end of a way down from a node.
-fn node_on(nodes: &[Node], top: usize, way: &[usize]) -> Option<usize>
+fn node_on(nodes: &[Node], behind: bool, top: usize, way: &[usize]) -> Option<usize>
+    requires { behind ≡ are_behind 0 nodes.now }
     ensures { result ≡ node_on nodes.now top way.now }
 {
     let mut node = top;
     for index in way {
-        match child(nodes, node, *index) {
+        match child(nodes, behind, node, *index) {
             Some(below) => node = below,
             None => return None,
         }
@@ -113,14 +151,16 @@ fn way_of(
     }
 }
 
-// The node of a handle of the compound action of a node.
+// The node of a handle of the compound action of a node. `behind`: each node stands behind its parent.
 fn node_behind(
     alloc: Global,
     model: &Model,
     nodes: &[Node],
+    behind: bool,
     top: usize,
     handle: u32,
 ) -> Result<Option<usize>, NoMemory>
+    requires { behind ≡ are_behind 0 nodes.now }
     ensures { IfOk result (λ node. node ≡ node_behind (view_model model.now) nodes.now top handle) }
 {
     let Some(node) = nodes.get(top) else {
@@ -129,7 +169,7 @@ fn node_behind(
     match &node.fill {
         Fill::Compound { action, .. } => match way_of(alloc, model, *action as usize, handle)? {
             None => Ok(None),
-            Some(way) => Ok(node_on(nodes, top, way.as_slice())),
+            Some(way) => Ok(node_on(nodes, behind, top, way.as_slice())),
         },
         _ => Ok(None),
     }
@@ -144,17 +184,20 @@ fn act_in(fill: &Fill) -> Option<usize>
     }
 }
 
-/// The atomic action behind a handle of the compound action of a node.
+/// The atomic action behind a handle of the compound action of a node. `behind`: each node stands
+/// behind its parent.
 pub(crate) fn act_behind(
     alloc: Global,
     model: &Model,
     nodes: &[Node],
+    behind: bool,
     top: usize,
     handle: u32,
 ) -> Result<Option<usize>, NoMemory>
+    requires { behind ≡ are_behind 0 nodes.now }
     ensures { IfOk result (λ act. act ≡ act_behind (view_model model.now) nodes.now top handle) }
 {
-    match node_behind(alloc, model, nodes, top, handle)? {
+    match node_behind(alloc, model, nodes, behind, top, handle)? {
         None => Ok(None),
         Some(number) => match nodes.get(number) {
             None => Ok(None),

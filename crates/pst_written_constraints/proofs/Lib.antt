@@ -3,3 +3,4 @@ pub mod Sites
 pub mod Hulls
 pub mod Opens
 pub mod Whole
+mod Folds

@@ -17,6 +17,7 @@ use Rattle.pst_domain.specs.Element.{joined_all, elements, element_span}
 use Rattle.pst_domain.specs.Interval.{interval, unary_span, binary_span}
 use Rattle.pst_written_constraints.specs.declared.term.Term.{Term}
 use Rattle.pst_written_constraints.specs.declared.term.Term.TheVariants as term
+use Rattle.pst_written_constraints.specs.Alike.{AreAlike}
 use Rattle.pst_written_constraints.specs.Terms.{HasTerm, Agree, HasBound, AgreeWithin, IsMirror, AreInRow, without_value, term_or_unknown}
 
 by_le : (a b : ℤ) → int_le a b ≡ true → a ≤ℤ b
@@ -73,6 +74,13 @@ module _ (terms : List Term) where
     values = λ values slots agree. ap₂ (λ x y. binary_value op x y) (m.values values slots agree) (n.values values slots agree);
     spans = λ bounds slots agree. ap₂ (λ x y. binary_span op x y) (m.spans bounds slots agree) (n.spans bounds slots agree);
     variables = λ k below. (m.variables k below, n.variables k below);
+  }
+
+  pub alike_mirror : (e w v : Expression) → AreAlike w v → IsMirror terms e w → IsMirror terms e v
+  alike_mirror e w v alike m = record {
+    values = λ values slots agree. sym (alike.values values) ∙ m.values values slots agree;
+    spans = λ bounds slots agree. sym (alike.spans bounds) ∙ m.spans bounds slots agree;
+    variables = λ k below. alike.variables k (m.variables k below);
   }
 
   module _ (first count start : ℕ) (row : AreInRow terms first count start) where

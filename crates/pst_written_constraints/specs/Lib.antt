@@ -1,4 +1,5 @@
 pub mod Terms
+pub mod Alike
 pub mod Written
 pub mod Spans
 pub mod Open

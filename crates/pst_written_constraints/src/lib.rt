@@ -7,6 +7,7 @@
 
 mod bare;
 mod constraints;
+mod folding;
 mod numbers;
 mod spans;
 mod term;

@@ -6,6 +6,7 @@ ghost use Rattle.pst_written_constraints.specs.declared.term.Term.{Term as TheTe
 ghost use Rattle.pst_written_constraints.specs.declared.term.Term.TheVariants as term;
 ghost use Rattle.pst_written_constraints.specs.Terms.{IsMirror, Mirrors, AreInRow, without_value, term_or_unknown};
 
+use crate::folding::{element_at, folded};
 use crate::term::Term;
 use pst_base::NoMemory;
 use pst_expr::{BinaryOp, Expr, UnaryOp};
@@ -90,6 +91,16 @@ fn write_unary(alloc: Global, op: UnaryOp, operand: Option<Expr>) -> Result<Opti
     }
 }
 
+// An element of an array whose first variable is this: its variable, where the index is a constant.
+fn place_element(alloc: Global, start: u32, count: u32, index: Expr) -> Result<Expr, NoMemory>
+    ensures { IfOk result (λ written. (terms : List TheTerm) (first : ℕ) (e : Expression) → AreInRow terms first count start → IsMirror terms e (view index) → IsMirror terms (Element first count e) (view written)) }
+{
+    match element_at(start, count, &index) {
+        Some(variable) => Ok(Expr::Variable(variable)),
+        None => Ok(Expr::Element(start, count, Box::new(alloc, index)?)),
+    }
+}
+
 // An element of an array whose first variable is this.
 fn write_element(
     alloc: Global,
@@ -101,7 +112,32 @@ fn write_element(
 {
     match index {
         None => Ok(None),
-        Some(index) => Ok(Some(Expr::Element(start, count, Box::new(alloc, index)?))),
+        Some(index) => {
+            let written = place_element(alloc, start, count, index)?;
+            Ok(Some(written))
+        }
+    }
+}
+
+// An operator between two operands that aren't folded.
+fn write_operands(alloc: Global, op: BinaryOp, left: Expr, right: Expr) -> Result<Expr, NoMemory>
+    ensures { IfOk result (λ written. view written ≡ Binary op (view left) (view right)) }
+{
+    let left = Box::new(alloc, left)?;
+    let right = Box::new(alloc, right)?;
+    Ok(Expr::Binary(op, left, right))
+}
+
+// An operator between two operands, folded where these are constants.
+fn join_operands(alloc: Global, op: BinaryOp, left: Expr, right: Expr) -> Result<Expr, NoMemory>
+    ensures { IfOk result (λ written. (terms : List TheTerm) (a b : Expression) → IsMirror terms a (view left) → IsMirror terms b (view right) → IsMirror terms (Binary op a b) (view written)) }
+{
+    match folded(op, &left, &right) {
+        Some(number) => Ok(Expr::Constant(number)),
+        None => {
+            let written = write_operands(alloc, op, left, right)?;
+            Ok(written)
+        }
     }
 }
 
@@ -117,9 +153,8 @@ fn write_binary(
     match right {
         None => Ok(None),
         Some(right) => {
-            let left = Box::new(alloc, left)?;
-            let right = Box::new(alloc, right)?;
-            Ok(Some(Expr::Binary(op, left, right)))
+            let written = join_operands(alloc, op, left, right)?;
+            Ok(Some(written))
         }
     }
 }

@@ -25,6 +25,16 @@ returns-then-cut-lt0 c =
     let cut = masked_cut c.args.span c.args.mask c.args.wanted c.at_least-cut.result c.from.result (omega (arith, ints, c.if-span-lt0.false)) (omega (arith, ints)) e0 (simp to_z-of_z at c.at_least-cut.ensures) in
     cut
 
+pub returns-then-cut-lt0-2 : goal.returns-then-cut-lt0-2
+returns-then-cut-lt0-2 c =
+    let f0 : FitsSigned w64 c.args.span.low = search rules in
+    let f1 : FitsSigned w64 c.args.span.high = search rules in
+    let f2 : FitsSigned w64 c.args.wanted.low = search rules in
+    let g0 : FitsSigned w128 c.from.result = search rules in
+    let e0 : c.from.result ≡ c.args.wanted.low = omega (arith, ints, c.from.ensures) in
+    let cut = masked_cut c.args.span c.args.mask c.args.wanted c.at_least-cut.result c.from.result (omega (arith, ints, c.if-span-lt0.false)) (omega (arith, ints)) e0 (simp to_z-of_z at c.at_least-cut.ensures) in
+    cut
+
 pub returns : goal.returns
 returns c x y z h k l e =
     let f0 : FitsSigned w64 c.args.span.low = search rules in

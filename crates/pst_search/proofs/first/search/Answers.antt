@@ -1,28 +1,16 @@
-use Rattle.std.proofs.Common.{sym, subst}
+use Rattle.std.proofs.Common.{◌≡◌, [], refl, sym, subst}
 use Rattle.pst_model.specs.ModelView.{view_model}
 use Rattle.pst_model.specs.Sound.{IsSound}
-use Rattle.pst_search.proofs.Ends.{none_told, budget_told, found_whole, found_first}
+use Rattle.pst_link_walk.specs.Walks.{Kept}
+use Rattle.pst_list_walk.specs.Made.{kept_at}
+use Rattle.pst_search.specs.Searches.{Searches}
 use Rattle.pst_search.proofs.first.search.Goals as goal
 
-pub search_levels-requires-clause-facts : goal.search_levels-requires-clause-facts
-search_levels-requires-clause-facts c = c.place_facts_hold.ensures (view_model c.in_ok-reading.reading.model) c.in_ok-reading.reading.root c.in_ok-reading.reading.seed
+pub search_by-requires-clause-begun : goal.search_by-requires-clause-begun
+search_by-requires-clause-begun c = subst (λ (k : Kept). k ≡ kept_at k.model k.root k.seed 0 []) (sym c.in_ok-reading.ensures) refl
 
-pub search_levels-requires-clause-sound : goal.search_levels-requires-clause-sound
-search_levels-requires-clause-sound c = subst (λ k. IsSound (view_model k.model)) (sym c.in_ok-reading.ensures) c.requires.sound
-
-pub returns-in-NoScenario : goal.returns-in-NoScenario
-returns-in-NoScenario c =
-    none_told c.args.model.now c.args.root c.args.seed c.args.infer c.some_lists-most.result c.in_ok-reading.reading c.search_levels.new.walker c.in_ok-outcome.outcome c.in_ok-reading.ensures c.in_ok-outcome.ensures c.in-NoScenario.is
-
-pub returns-in-Budget : goal.returns-in-Budget
-returns-in-Budget c =
-    budget_told c.args.model.now c.args.root c.args.seed c.args.infer c.some_lists-most.result c.in_ok-reading.reading c.search_levels.new.walker c.in_ok-outcome.outcome c.in_ok-reading.ensures c.in_ok-outcome.ensures
-    c.in-Budget.level c.args.budget c.spent.result c.in-Budget.is c.some_lists-most.ensures.same c.spent.ensures
-
-pub found-requires : goal.found-requires
-found-requires c =
-    found_whole c.args.model.now c.args.root c.args.seed c.args.infer c.some_lists-most.result c.in_ok-reading.reading c.search_levels.new.walker c.in_ok-outcome.outcome c.in_ok-reading.ensures c.in_ok-outcome.ensures c.in-Found.is
+pub search_by-requires-clause-sound : goal.search_by-requires-clause-sound
+search_by-requires-clause-sound c = subst (λ (k : Kept). IsSound (view_model k.model)) (sym c.in_ok-reading.ensures) c.requires.sound
 
 pub returns : goal.returns
-returns c =
-    found_first c.args.model.now c.args.root c.args.seed c.args.infer c.some_lists-most.result c.in_ok-reading.reading c.search_levels.new.walker c.in_ok-outcome.outcome c.in_ok-reading.ensures c.in_ok-outcome.ensures c.args.budget c.in_ok-found-in-Found.found c.in-Found.is c.in_ok-found-in-Found.ensures
+returns c = subst (λ (k : Kept). Searches (view_model k.model) k.root k.seed c.args.infer c.args.budget c.search_by.result) c.in_ok-reading.ensures c.search_by.ensures

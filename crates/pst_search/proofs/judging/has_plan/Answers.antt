@@ -1,8 +1,9 @@
-use Rattle.pst_search.proofs.Plans.{refused_told}
+use Rattle.std.proofs.Common.{subst}
+use Rattle.pst_search.specs.Judging.{TellsPlanned}
 use Rattle.pst_search.proofs.judging.has_plan.Goals as goal
 
-pub returns-in-Ok : goal.returns-in-Ok
-returns-in-Ok c = (c.in-Ok._plan, c.in-Ok.ensures.answers)
+pub returns-in-Some : goal.returns-in-Some
+returns-in-Some c = (c.in-Some._plan, subst (TellsPlanned c.args.scenario.now) c.in-Some.is c.in_ok-plan.ensures)
 
-pub returns-then-refused : goal.returns-then-refused
-returns-then-refused c = refused_told c.args.scenario.now c.in-Err.end c.is_refusal-refused.result c.if-refused.true c.is_refusal-refused.ensures c.in-Err.ensures.answers c.in-Err.ensures.unrefused
+pub returns-in-None : goal.returns-in-None
+returns-in-None c = subst (TellsPlanned c.args.scenario.now) c.in-None.is c.in_ok-plan.ensures

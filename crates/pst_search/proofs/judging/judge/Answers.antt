@@ -15,5 +15,8 @@ both m s b false on held planned = λ holds unrefused. planned.1 unrefused
 pub returns-then-not-hold : goal.returns-then-not-hold
 returns-then-not-hold c = not_held (view_model c.args.model.now) c.args.scenario.now c.in_ok-hold.hold c.if-not-hold.true c.in_ok-hold.ensures
 
+pub returns-then-known : goal.returns-then-known
+returns-then-known c = both (view_model c.args.model.now) c.args.scenario.now c.in_ok-hold.hold true c.if-not-hold.false c.in_ok-hold.ensures (c.requires.known c.if-known.true)
+
 pub returns : goal.returns
 returns c = both (view_model c.args.model.now) c.args.scenario.now c.in_ok-hold.hold c.in_ok-planned.planned c.if-not-hold.false c.in_ok-hold.ensures c.in_ok-planned.ensures

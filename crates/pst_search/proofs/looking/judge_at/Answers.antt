@@ -3,7 +3,7 @@ use Rattle.pst_model.specs.ModelView.{view_model}
 use Rattle.pst_model.specs.Sound.{IsSound}
 use Rattle.pst_list_walk.proofs.Refusing.{earlier_of}
 use Rattle.pst_search.specs.Judging.{TellsLegal}
-use Rattle.pst_search.proofs.Looks.{whole_read, whole_built, whole_refused, whole_sought}
+use Rattle.pst_search.proofs.Looks.{known_plan, whole_read, whole_built, whole_refused, whole_sought}
 use Rattle.pst_search.proofs.looking.judge_at.Goals as goal
 
 pub judge-requires-clause-sound : goal.judge-requires-clause-sound
@@ -16,6 +16,10 @@ judge-requires-clause-earlier c =
 
 pub judge-requires-clause-built : goal.judge-requires-clause-built
 judge-requires-clause-built c = whole_built c.args.lists.now c.whole_readings_are_built.ensures.built c.in-Some.scenario.now c.requires.whole c.in-Some.ensures.read
+
+pub judge-requires-clause-known : goal.judge-requires-clause-known
+judge-requires-clause-known c =
+    λ on. known_plan c.args.lists.now c.args.plan.now c.is_some-known.result c.in-Some.scenario.now c.requires.whole c.in-Some.ensures.read c.requires.planned c.is_some-known.ensures on
 
 pub closed-requires : goal.closed-requires
 closed-requires c =

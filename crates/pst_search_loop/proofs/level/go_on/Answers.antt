@@ -1,8 +1,8 @@
 use Rattle.std.proofs.Common.{◌≡◌, sym, ◌∙◌, subst, arith}
-use Rattle.std.proofs.lemmas.Result.{IfOk-weaker}
 use Rattle.pst_search_loop.specs.Conflicts.{IsJoined}
 use Rattle.pst_search_loop.specs.Kept.{Kept}
 use Rattle.pst_search_loop.specs.Stack.{ArePassed, Stands}
+use Rattle.pst_search_loop.specs.Search.{Went}
 use Rattle.pst_search_loop.proofs.Stack.{length_stands}
 use Rattle.pst_search_loop.proofs.Turns.{options_same, has_options, went_on, went_out}
 use Rattle.pst_search_loop.proofs.level.go_on.Goals as goal
@@ -37,7 +37,10 @@ returns-then-frame g c =
     let k : Kept = g.W.Walker.kept c.args.walker.now in
     let l : Kept = g.W.Walker.kept c.skip_options.new.walker in
     let n : Kept = g.W.Walker.kept c.take.new.walker in
-    IfOk-weaker c.look.result _ _ (λ shown h. went_on k l n c.take.new.frames.items c.args.frame.digit c.in_ok-frame.frame.digit shown c.in_ok-frame.ensures.same c.in_ok-frame.ensures.onward.least c.in_ok-take.ensures h) c.look.ensures
+    let shown = c.in_ok-shown.shown in
+    let later = c.take.new.frames.items in
+    subst (λ (x : Kept). Went k x later c.args.frame.digit shown) (sym c.in_ok-shown.ensures.same)
+    (went_on k l n later c.args.frame.digit c.in_ok-frame.frame.digit shown c.in_ok-frame.ensures.same c.in_ok-frame.ensures.onward.least c.in_ok-take.ensures c.in_ok-shown.ensures.shows)
 
 pub returns : goal.returns
 returns g c =

@@ -1,10 +1,17 @@
-use Rattle.std.proofs.Common.{◌≡◌, ◌∙◌, ap, subst, arith}
+use Rattle.std.proofs.Common.{◌≡◌, ◌∙◌, ap, sym, subst, arith}
 use Rattle.std.specs.Prelude.{Option, Some}
 use Rattle.pst_search_loop.specs.declared.walker.Look.{Look}
 use Rattle.pst_search_loop.specs.Kept.{Kept}
 use Rattle.pst_search_loop.specs.Search.{Says}
-use Rattle.pst_search_loop.proofs.Searching.{Searching, searching_on, says_further, searching_here, searching_empty, searching_spent}
+use Rattle.pst_search_loop.proofs.Searching.{Searching, searching_begun, searching_on, says_further, searching_here, searching_empty, searching_spent}
 use Rattle.pst_search_loop.proofs.level.search_level.Goals as goal
+
+pub loop-spent-init : goal.loop-spent-init
+loop-spent-init g c =
+    let k : Kept = g.W.Walker.kept c.args.walker.now in
+    let l : Kept = g.W.Walker.kept c.look.new.self in
+    let shown = c.in_ok-shown.shown in
+    subst (λ fs. Searching k l fs shown 0) (sym c.new-frames.ensures.items) (searching_begun k l shown c.in_ok-shown.ensures.same c.requires.start c.in_ok-shown.ensures.shows)
 
 pub returns-in-None : goal.returns-in-None
 returns-in-None g c =

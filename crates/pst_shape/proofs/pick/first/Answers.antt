@@ -1,4 +1,4 @@
-use Rattle.std.proofs.Common.{◌≡◌, ◌∙◌, []}
+use Rattle.std.proofs.Common.{◌∙◌, []}
 use Rattle.pst_model.specs.ModelView.{view_model}
 use Rattle.pst_legal.specs.Growing.{nothing_yet}
 use Rattle.pst_shape_parts.specs.Trees.{Tree}

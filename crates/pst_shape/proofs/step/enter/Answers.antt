@@ -1,8 +1,7 @@
-use Rattle.std.proofs.Common.{◌≡◌, ◌∙◌, map, ap, sym, Some}
+use Rattle.std.proofs.Common.{◌∙◌, map, ap, sym, Some}
 use Rattle.std.proofs.lemmas.Result.{IfOk-weaker}
 use Rattle.pst_model.specs.ModelView.{view_model, view_step, view_branch, view_arm, maybe_step}
 use Rattle.pst_model.specs.ActivityTree.{step_of}
-use Rattle.pst_scen.specs.declared.tree.Fill.TheVariants as fill
 use Rattle.pst_model.specs.ConstraintTree.{view_constraint}
 use Rattle.pst_legal.specs.Types.{type_of}
 use Rattle.pst_legal.specs.Pieces.{value_in}

@@ -1,4 +1,4 @@
-use Rattle.std.proofs.Common.{◌≡◌, ◌∙◌, map, ap}
+use Rattle.std.proofs.Common.{◌∙◌, map, ap}
 use Rattle.pst_model.specs.ModelView.{view_branch}
 use Rattle.pst_legal.specs.Menus.{available}
 use Rattle.pst_legal.specs.Reading.{then_read, read_menu}

@@ -1,4 +1,4 @@
-use Rattle.std.proofs.Common.{◌≡◌, ◌∙◌, ◌+◌, ◌-◌, ◌<◌, map, ap, subst, Some, arith}
+use Rattle.std.proofs.Common.{◌∙◌, ◌+◌, ◌-◌, ◌<◌, map, ap, subst, Some, arith}
 use Rattle.std.proofs.lemmas.Result.{IfOk-weaker}
 use Rattle.pst_model.specs.ModelView.{view_model, view_step}
 use Rattle.pst_legal.specs.Pieces.{Statement, Turning, statements, turns}

@@ -1,4 +1,4 @@
-use Rattle.std.proofs.Common.{◌≡◌, ◌∙◌, ℕ, List}
+use Rattle.std.proofs.Common.{◌∙◌}
 use Rattle.pst_model.specs.ModelView.{view_model}
 use Rattle.pst_shape_parts.specs.Trees.{tree_of, scenario_of}
 use Rattle.pst_shape.proofs.Closed.{open_placed, closed_stops}

@@ -1,8 +1,8 @@
-use Rattle.std.proofs.Common.{◌≡◌, map, drop}
+use Rattle.std.proofs.Common.{◌≡◌, drop}
 use Rattle.std.specs.Prelude.{slice_get}
-use Rattle.std.specs.List.{enumerate_from, filter}
-use Rattle.pst_scen.specs.Tree.{is_parent}
+use Rattle.pst_legal.specs.Statements.{children_of}
+use Rattle.pst_ties.specs.Children.{children_from}
 use Rattle.pst_ties.proofs.handles.child.Given as goal
 
-abbrev pub invariant-loop-node : goal.invariant-loop-node
-invariant-loop-node l = (l.number ≡ l.node-index) × (slice_get (map (λ e. e.0) (filter (λ e. is_parent l.parent e.1.parent) (enumerate_from l.node-index (drop l.node-index l.nodes)))) l.left ≡ slice_get (map (λ e. e.0) (filter (λ e. is_parent l.parent e.1.parent) (enumerate_from 0 l.nodes))) l.index)
+abbrev pub invariant-loop-number : goal.invariant-loop-number
+invariant-loop-number l = slice_get (children_from l.parent l.number (drop l.number l.nodes)) l.left ≡ slice_get (children_of l.nodes l.parent) l.index

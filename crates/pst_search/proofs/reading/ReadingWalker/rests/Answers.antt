@@ -2,7 +2,7 @@ use Rattle.std.proofs.Common.{sym, subst}
 use Rattle.std.specs.Prelude.{IfOk}
 use Rattle.pst_list_walk.specs.Walks.{answer}
 use Rattle.pst_search_loop.specs.Kept.{HasOptions, Rests}
-use Rattle.pst_search.specs.Readings.{kept_of}
+use Rattle.pst_list_values.specs.Walked.{kept_of}
 use Rattle.pst_search.proofs.reading.ReadingWalker.rests.Goals as goal
 
 pub rests_on-requires : goal.rests_on-requires

@@ -8,6 +8,7 @@ use Rattle.pst_scen.specs.declared.act.Act.{Act}
 use Rattle.pst_scen.specs.Scenarios.{leaves_of}
 use Rattle.pst_legal.specs.Binds.{Bound, bounds_of}
 use Rattle.pst_legal.specs.SupplyReading.{Source}
+use Rattle.pst_pool_sources.specs.Offers.{AreSources}
 use Rattle.pst_open_ends.specs.declared.spot.Spot.{Spot}
 use Rattle.pst_open_ends.specs.Spots.{given_source}
 use Rattle.pst_supply.specs.declared.walk.Made.{Made}
@@ -22,8 +23,11 @@ same_options : (m : ModelTree) (a b : List Bound) (acts more : List Act) (j k le
 same_options m a b acts more j k level need e f g =
     ap (λ x. options_at m x acts j level need) e ∙ ap (λ x. options_at m b x j level need) f ∙ ap (λ x. options_at m b more x level need) g
 
-pub pick-requires : goal.pick-requires
-pick-requires c =
+pub pick-requires-clause-among : goal.pick-requires-clause-among
+pick-requires-clause-among c = subst (AreSources c.self.inside.among) (sym c.deref-2.ensures.value) c.self.invariant.among
+
+pub pick-requires-clause-digit : goal.pick-requires-clause-digit
+pick-requires-clause-digit c =
     let w = c.self.inside in
     let m = view_model w.model.now in
     let made = reverse w.made.items in
@@ -60,6 +64,7 @@ invariant_of-self-2 c =
     record {
       count = c.self.invariant.count;
       ties = c.self.invariant.ties;
+      among = c.go_on.ensures.among;
       stands = subst (λ l. AllStand g w.first l new) (sym all)
           (one_more g w.first made w.acts.items new x need (given_source c.in_ok-source.source) c.self.invariant.stands turn below named c.in_ok-went.ensures.gone.supplies stop);
     }

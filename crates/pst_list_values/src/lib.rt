@@ -1,0 +1,11 @@
+//! The values behind the sources of a list of choices: one more is given with each choice and taken back with it, and
+//! they tell why a list can't be gone on with, and which options of the next place needn't be tried.
+#![tactic(auto)]
+
+mod behind;
+mod copies;
+mod skipping;
+
+pub use behind::{Behind, back_at, choose_at, refusal_at};
+pub use copies::copy_scenario;
+pub use skipping::skip_at;

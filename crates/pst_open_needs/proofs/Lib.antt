@@ -1,0 +1,3 @@
+pub mod Counted
+pub mod Stays
+pub mod Unserved

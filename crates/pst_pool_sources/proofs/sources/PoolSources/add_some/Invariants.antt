@@ -1,0 +1,7 @@
+use Rattle.std.proofs.Common.{◌≡◌, ℕ, ◌++◌, take}
+use Rattle.pst_scen.specs.declared.act.Flow.{Flow}
+use Rattle.pst_pool_sources.specs.Offers.{ends_at, fitting_in}
+use Rattle.pst_pool_sources.proofs.sources.PoolSources.add_some.Given as goal
+
+abbrev pub invariant-loop-filled : goal.invariant-loop-filled
+invariant-loop-filled l = (l.count ≡ l.filled-index) × ((need : Flow) (p : ℕ) → ends_at need p l.self ≡ ends_at need p l.initial.self ++ fitting_in need p l.act 0 (take l.filled-index l.references))

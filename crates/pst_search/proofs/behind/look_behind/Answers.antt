@@ -1,6 +1,0 @@
-use Rattle.std.proofs.Common.{subst}
-use Rattle.pst_search.specs.Tied.{IsTied}
-use Rattle.pst_search.proofs.behind.look_behind.Goals as goal
-
-pub look_given-requires-clause-given : goal.look_given-requires-clause-given
-look_given-requires-clause-given c = subst (IsTied c.args.lists.now) c.in-Some.is c.requires.tied

@@ -1,7 +1,0 @@
-use Rattle.std.proofs.Common.{◌≡◌, ◌<◌, ℕ, slice_get, Some}
-use Rattle.pst_scen.specs.declared.act.Act.{Act}
-use Rattle.pst_tests_plans.specs.Checked.{AreReferencesLinked}
-use Rattle.pst_tests_plans.proofs.built.are_acts_linked.Given as goal
-
-abbrev pub invariant-loop-a : goal.invariant-loop-a
-invariant-loop-a l = (k : ℕ) (y : Act) → k < l.a → slice_get l.scenario.actions k ≡ Some y → AreReferencesLinked l.scenario k y.references

@@ -1,5 +1,0 @@
-use Rattle.std.proofs.Common.{refl}
-use Rattle.pst_tests_plans.proofs.built.has_links.Goals as goal
-
-pub returns : goal.returns
-returns c = λ t. (c.if-not-are_acts_linked.ensures refl, c.has_no_rivals.ensures t)
