@@ -14,3 +14,4 @@ pub mod InheritedTried
 pub mod Needed
 pub mod InheritedFound
 pub mod KeptSites
+pub mod PassedOn
