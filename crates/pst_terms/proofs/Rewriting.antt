@@ -5,7 +5,7 @@ use Rattle.std.specs.Option.{option_and_then}
 use Rattle.pst_ast.specs.ExpressionTree.{ExprTree, ExprUnary, ExprBinary, ExprIn, UnaryTree, UnaryPrefix, UnaryPrimary, PrimaryTree, PrimaryNumber, PrimaryTrue, PrimaryFalse, PrimaryPath, PrimaryGroup, PathTree, RangesTree, MakeRanges, NextRangeTree, MakeNextRange, RangeTree, RangeSingle, RangeBetween, NextRangeRow, NoNextRangeRow, MoreNextRangeRow}
 use Rattle.pst_expr.specs.declared.tree.BinaryOp.TheVariants.{LessOrEqual, GreaterOrEqual, Equal, And, Or}
 use Rattle.pst_expr.specs.Value.{unary_value, binary_value}
-use Rattle.pst_tree.specs.PassedOn.{unary_of, binary_of, value_under, unary_under, primary_under, in_ranges, in_one, or_in_rest, in_next}
+use Rattle.pst_type_rules.specs.Values.{unary_of, binary_of, value_under, unary_under, primary_under, in_ranges, in_one, or_in_rest, in_next}
 use Rattle.pst_terms.specs.Terms.{Term, Infix, Reading, term_of, unary_term, primary_term, ranges_term, or_ranges, next_range_term, range_term}
 use Rattle.pst_terms.specs.Values.{term_value, path_value}
 

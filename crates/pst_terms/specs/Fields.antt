@@ -3,7 +3,7 @@ use Rattle.std.specs.Prelude.{ℕ, zero, suc, ◌+◌, List, [], ◌∷◌, Opti
 use Rattle.std.specs.Option.{option_map, option_and_then}
 use Rattle.pst_ast.specs.declared.scope_declaration.Declaration.{Declaration}
 use Rattle.pst_ast.specs.Sorts.{same_place}
-use Rattle.pst_tree.specs.PassedOn.{field_at}
+use Rattle.pst_type_rules.specs.Sites.{field_at}
 use Rattle.pst_tree.specs.Bases.{fields_of}
 use Rattle.pst_terms.specs.Sources.{Sources, declared_in, amount_of}
 

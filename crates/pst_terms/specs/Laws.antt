@@ -6,7 +6,7 @@ use Rattle.pst_expr.specs.Value.{value}
 use Rattle.pst_model.specs.Limits.{most_elements}
 use Rattle.pst_model.specs.SoundConstraint.{IsBelow}
 use Rattle.pst_model.specs.ConstraintTree.{SlotTree}
-use Rattle.pst_tree.specs.PassedOn.{value_under}
+use Rattle.pst_type_rules.specs.Values.{value_under}
 use Rattle.pst_terms.specs.Terms.{Term, Number, Leaf, Prefix, Infix, Indexed, Reading, term_of}
 use Rattle.pst_terms.specs.Slots.{same_slot, slots_of, slot_number, first_number, numbered}
 use Rattle.pst_terms.specs.Values.{term_value, path_value}

@@ -9,9 +9,9 @@ use Rattle.pst_num.specs.Arithmetic.{sum_of}
 use Rattle.pst_ast.specs.declared.scope_declaration.Declaration.{Declaration}
 use Rattle.pst_ast.specs.Declarations.{declarations}
 use Rattle.pst_ast.specs.Sorts.{same_place}
-use Rattle.pst_tree.specs.PassedOn.{DeclaredItem, enums}
-use Rattle.pst_tree.specs.PassedOn.{ConstantValue}
-use Rattle.pst_tree.specs.PassedOn.{expr_place}
+use Rattle.pst_type_rules.specs.Enums.{DeclaredItem, enums}
+use Rattle.pst_type_rules.specs.declared.typed.ConstantValue.{ConstantValue}
+use Rattle.pst_type_rules.specs.Places.{expr_place}
 
 -- the trees of the sources, the texts of their names, and the values of their constant expressions
 pub record Sources : Type 0 where

@@ -4,7 +4,7 @@ use Rattle.pst_ast.specs.ExpressionTree.{ExprTree, ExprUnary, ExprBinary, ExprIn
 use Rattle.pst_expr.specs.declared.tree.UnaryOp.{UnaryOp}
 use Rattle.pst_expr.specs.declared.tree.BinaryOp.{BinaryOp}
 use Rattle.pst_expr.specs.declared.tree.BinaryOp.TheVariants.{LessOrEqual, GreaterOrEqual, Equal, And, Or}
-use Rattle.pst_tree.specs.PassedOn.{unary_of, binary_of}
+use Rattle.pst_type_rules.specs.Values.{unary_of, binary_of}
 
 -- an array is the list of its elements
 pub data Term (X : Type 0) : Type 0 where

@@ -14,4 +14,3 @@ pub mod InheritedTried
 pub mod Needed
 pub mod InheritedFound
 pub mod KeptSites
-pub mod PassedOn
