@@ -23,9 +23,11 @@ use Rattle.pst_reasons.specs.declared.step.Given.{Given}
 use Rattle.pst_reasons.specs.declared.step.Mark.{Mark}
 use Rattle.pst_reasons.specs.declared.step.Step.{Step}
 use Rattle.pst_reasons.specs.Explained.{AreExplained}
+use Rattle.pst_reasons.specs.Firsts.{AreFirsts}
 use Rattle.pst_reasons.specs.Reasons.{AreReasons}
 use Rattle.pst_reasons.specs.Giving.{with_given, IsState, IsMark, AreStates, AreKept, IsKept, start_of, given_too, IsAt, Gives, IsTakenBack, IsNotedGiven, IsSame, IsUnsettled, IsNarrower, IsSettledNow, Settles, CanGoBack, IsBack}
 use Rattle.pst_reasons.proofs.BackLemmas.{put_back-append}
+use Rattle.pst_reasons.proofs.FirstLemmas.{lower_firsts, forgotten_firsts, cut_firsts}
 use Rattle.pst_reasons.proofs.NoteLemmas.{back_at, front_at}
 use Rattle.pst_reasons.proofs.GiveLemmas.{given_quiet, given_below, given_room, given_upright, given_explained}
 
@@ -105,17 +107,18 @@ can_go s h m older turned =
 
 -- ---- the start
 
-first_kept : (es : List Expression) (w : Watch) (b : List (Option Span)) → IsWatch es (length b) w → HaveVariablesBelow (length b) es → AreUpright b → AreOpen es b → AreKept es w b [] [] [] []
-first_kept es w b watch variables upright unrefused = record {
+first_kept : (es : List Expression) (w : Watch) (b : List (Option Span)) (firsts : List ℕ) → IsWatch es (length b) w → HaveVariablesBelow (length b) es → AreUpright b → AreOpen es b → AreKept es w b [] [] [] [] firsts
+first_kept es w b firsts watch variables upright unrefused = record {
   watch = watch;
   variables = variables;
   number = refl;
   states = record { upright = upright; unrefused = unrefused; inside = λ i. inside_self (bound_of b i); from_start = refl; explained = refl };
+  firsts_are = λ i d small. absurd (omega arith);
 }
 
-pub begun : (es : List Expression) (w : Watch) (b : List (Option Span)) (t : List Former) (steps : List Step) (given : List Given) (marks : List Mark) → IsWatch es (length b) w → HaveVariablesBelow (length b) es → AreUpright b → AreOpen es b → t ≡ [] → steps ≡ [] → given ≡ [] → marks ≡ [] → AreKept es w b t steps given marks
-begun es w b t steps given marks watch variables upright unrefused p q r v =
-    subst (λ z. AreKept es w b z steps given marks) (sym p) (subst (λ z. AreKept es w b [] z given marks) (sym q) (subst (λ z. AreKept es w b [] [] z marks) (sym r) (subst (λ z. AreKept es w b [] [] [] z) (sym v) (first_kept es w b watch variables upright unrefused))))
+pub begun : (es : List Expression) (w : Watch) (b : List (Option Span)) (t : List Former) (steps : List Step) (given : List Given) (marks : List Mark) (firsts : List ℕ) → IsWatch es (length b) w → HaveVariablesBelow (length b) es → AreUpright b → AreOpen es b → t ≡ [] → steps ≡ [] → given ≡ [] → marks ≡ [] → AreKept es w b t steps given marks firsts
+begun es w b t steps given marks firsts watch variables upright unrefused p q r v =
+    subst (λ z. AreKept es w b z steps given marks firsts) (sym p) (subst (λ z. AreKept es w b [] z given marks firsts) (sym q) (subst (λ z. AreKept es w b [] [] z marks firsts) (sym r) (subst (λ z. AreKept es w b [] [] [] z firsts) (sym v) (first_kept es w b firsts watch variables upright unrefused))))
 
 -- ---- a span is noted
 
@@ -151,6 +154,7 @@ unsettled law s n i span mark at h below order noted =
       quiet = subst (λ c. QuietAreOpen c (drop mark n.trail) n.bounds) (sym ces) (subst (λ m. QuietAreOpen es (drop m n.trail) n.bounds) (sym at) (given_quiet law es i span s.trail n.trail s.bounds n.bounds noted.trail noted.bounds st.unrefused));
       explained = subst (λ c. AreExplained c n.given.items (reverse n.steps.items) n.trail n.bounds) (sym ces)
           (given_explained es s.given.items n.given.items s.steps.items n.steps.items s.trail n.trail s.bounds n.bounds i (length s.given.items) (length s.trail) span below noted.trail noted.bounds noted.given_is refl refl noted.steps st.explained);
+      firsts = subst (λ k. AreFirsts n.firsts.items (take k n.trail)) (sym at) (subst (AreFirsts n.firsts.items) (sym (ap (take (length s.trail)) noted.trail ∙ take_at s.trail (record { variable = i; bound = bound_of s.bounds i } ∷ []) (length s.trail) refl)) (subst (λ fs. AreFirsts fs s.trail) (sym noted.firsts) h.firsts_are));
     }
 
 -- ---- the bounds at the start stay
@@ -231,7 +235,7 @@ given_on s n r i span h below noted narrower settled =
     let before : AreStates es (start_of r) (take (length older) r.given.items) older (take (length s.steps.items) r.steps.items) (take (length s.trail) r.trail) (put_back (drop (length s.trail) r.trail) r.bounds) =
     same_states es (start_of s) (start_of r) s.given.items (take (length older) r.given.items) older s.steps.items (take (length s.steps.items) r.steps.items) s.trail (take (length s.trail) r.trail) s.bounds (put_back (drop (length s.trail) r.trail) r.bounds) start (given_front s n r i span (length older) long noted narrower) (steps_front s n r i span noted narrower) (front_at s.trail r.trail s.bounds r.bounds x) (back_at s.trail r.trail s.bounds r.bounds x) h.states in
     let states : AreStates es (start_of r) r.given.items (mark_at s ∷ older) r.steps.items r.trail r.bounds = (state_now s n r i span h below noted narrower settled, mark_now s n r i span below noted narrower, before) in
-    let kept : AreKept es r.watch r.bounds r.trail r.steps.items r.given.items r.marks.items = record {
+    let kept : AreKept es r.watch r.bounds r.trail r.steps.items r.given.items r.marks.items r.firsts.items = record {
       watch = subst (λ k. IsWatch es k r.watch) (sym count) (subst (λ w. IsWatch es (length s.bounds) w) (sym (narrower.watch ∙ noted.watch)) h.watch);
       variables = subst (λ k. HaveVariablesBelow k es) (sym count) h.variables;
       number =
@@ -240,9 +244,10 @@ given_on s n r i span h below noted narrower settled =
           let c : length r.given.items ≡ length s.given.items + 1 = ap length given ∙ length-append s.given.items (record { variable = i; span = span } ∷ []) in
           omega (arith, a, b, c, long);
       states = subst (λ ms. AreStates es (start_of r) r.given.items ms r.steps.items r.trail r.bounds) (sym turned) states;
+      firsts_are = settled.firsts;
     } in
     record {
-      kept = subst (λ c. AreKept c r.watch r.bounds r.trail r.steps.items r.given.items r.marks.items) (sym ces) kept;
+      kept = subst (λ c. AreKept c r.watch r.bounds r.trail r.steps.items r.given.items r.marks.items r.firsts.items) (sym ces) kept;
       given_is = given;
       constraints = same;
       count = count;
@@ -250,6 +255,18 @@ given_on s n r i span h below noted narrower settled =
     }
 
 -- ---- it doesn't fit
+
+pub is_same : (o n : Narrowed) → n.constraints ≡ o.constraints → n.watch ≡ o.watch → n.bounds ≡ o.bounds → n.trail ≡ o.trail → n.steps.items ≡ o.steps.items → n.given.items ≡ o.given.items → n.marks.items ≡ o.marks.items → n.firsts.items ≡ o.firsts.items → IsSame o n
+is_same o n constraints watch bounds trail steps given_is marks firsts = record {
+  constraints = constraints;
+  watch = watch;
+  bounds = bounds;
+  trail = trail;
+  steps = steps;
+  given_is = given_is;
+  marks = marks;
+  firsts = λ early. subst (AreFirsts n.firsts.items) (sym trail) (subst (λ fs. AreFirsts fs o.trail) (sym firsts) early);
+}
 
 pub some_marks : (s n r : Narrowed) (i : ℕ) (span : Span) → IsNotedGiven s n i span → IsNarrower n r → 0 < length r.marks.items
 some_marks s n r i span noted narrower =
@@ -269,28 +286,40 @@ gone_back s n r u i span h below noted narrower back =
     let turned : reverse u.marks.items ≡ reverse s.marks.items = marks_are back.mark (mark_at s) (reverse u.marks.items) (reverse s.marks.items) both in
     let marks : u.marks.items ≡ s.marks.items = sym (reverse-reverse u.marks.items) ∙ (ap reverse turned ∙ reverse-reverse s.marks.items) in
     let x = both_extend s n r i span below noted narrower in
+    let trail : u.trail ≡ s.trail = back.trail ∙ (ap (λ (m : Mark). take m.trail r.trail) is ∙ front_at s.trail r.trail s.bounds r.bounds x) in
+    let long : back.mark.trail ≡ length s.trail = ap (λ (m : Mark). m.trail) is in
     record {
       constraints = back.constraints ∙ (narrower.constraints ∙ noted.constraints);
       watch = back.watch ∙ (narrower.watch ∙ noted.watch);
       bounds = back.bounds ∙ (ap (λ (m : Mark). put_back (drop m.trail r.trail) r.bounds) is ∙ back_at s.trail r.trail s.bounds r.bounds x);
-      trail = back.trail ∙ (ap (λ (m : Mark). take m.trail r.trail) is ∙ front_at s.trail r.trail s.bounds r.bounds x);
+      trail = trail;
       steps = back.steps ∙ (ap (λ (m : Mark). take m.steps r.steps.items) is ∙ steps_front s n r i span noted narrower);
       given_is = back.given_is ∙ given_front s n r i span (length u.marks.items) (ap length marks ∙ h.number) noted narrower;
       marks = marks;
+      firsts = λ early.
+          subst (AreFirsts u.firsts.items) (sym trail)
+          (forgotten_firsts s.trail r.firsts.items u.firsts.items back.mark.trail (omega (arith, long)) back.firsts (lower_firsts s.trail n.firsts.items r.firsts.items narrower.firsts (subst (λ fs. AreFirsts fs s.trail) (sym noted.firsts) early)));
     }
 
 pub at_same : (s u : Narrowed) → IsKept s → IsSame s u → IsAt s u s.given.items
 at_same s u h same =
     let es = map view s.constraints.items in
     let ces = es_same s u same.constraints in
+    let noted : AreKept es s.watch s.bounds s.trail s.steps.items s.given.items s.marks.items u.firsts.items = record {
+      watch = h.watch;
+      variables = h.variables;
+      number = h.number;
+      states = h.states;
+      firsts_are = subst (AreFirsts u.firsts.items) same.trail (same.firsts h.firsts_are);
+    } in
     record {
-      kept = subst (λ c. AreKept c u.watch u.bounds u.trail u.steps.items u.given.items u.marks.items) (sym ces)
-          (subst (λ w. AreKept es w u.bounds u.trail u.steps.items u.given.items u.marks.items) (sym same.watch)
-          (subst (λ b. AreKept es s.watch b u.trail u.steps.items u.given.items u.marks.items) (sym same.bounds)
-          (subst (λ t. AreKept es s.watch s.bounds t u.steps.items u.given.items u.marks.items) (sym same.trail)
-          (subst (λ z. AreKept es s.watch s.bounds s.trail z u.given.items u.marks.items) (sym same.steps)
-          (subst (λ g. AreKept es s.watch s.bounds s.trail s.steps.items g u.marks.items) (sym same.given_is)
-          (subst (λ m. AreKept es s.watch s.bounds s.trail s.steps.items s.given.items m) (sym same.marks) h))))));
+      kept = subst (λ c. AreKept c u.watch u.bounds u.trail u.steps.items u.given.items u.marks.items u.firsts.items) (sym ces)
+          (subst (λ w. AreKept es w u.bounds u.trail u.steps.items u.given.items u.marks.items u.firsts.items) (sym same.watch)
+          (subst (λ b. AreKept es s.watch b u.trail u.steps.items u.given.items u.marks.items u.firsts.items) (sym same.bounds)
+          (subst (λ t. AreKept es s.watch s.bounds t u.steps.items u.given.items u.marks.items u.firsts.items) (sym same.trail)
+          (subst (λ z. AreKept es s.watch s.bounds s.trail z u.given.items u.marks.items u.firsts.items) (sym same.steps)
+          (subst (λ g. AreKept es s.watch s.bounds s.trail s.steps.items g u.marks.items u.firsts.items) (sym same.given_is)
+          (subst (λ m. AreKept es s.watch s.bounds s.trail s.steps.items s.given.items m u.firsts.items) (sym same.marks) noted))))));
       given_is = same.given_is;
       constraints = same.constraints;
       count = ap length same.bounds;
@@ -328,17 +357,18 @@ one_back s u h back =
     let size : length s.given.items ≡ length older + 1 = omega (arith, one, turned, number) in
     let last = last_item s.given.items (length older) size in
     let fits : length (take (length older) s.given.items) ≡ length older = length-take-le (length older) s.given.items (omega (arith, size)) in
-    let kept : AreKept es u.watch u.bounds u.trail u.steps.items u.given.items u.marks.items = record {
+    let kept : AreKept es u.watch u.bounds u.trail u.steps.items u.given.items u.marks.items u.firsts.items = record {
       watch = subst (λ k. IsWatch es k u.watch) (sym count) (subst (λ w. IsWatch es (length s.bounds) w) (sym back.watch) h.watch);
       variables = subst (λ k. HaveVariablesBelow k es) (sym count) h.variables;
       number = let a : length u.given.items ≡ length (take (length older) s.given.items) = ap length given in omega (arith, a, fits, long);
       states = same_states es (start_of s) (start_of u) (take (length older) s.given.items) u.given.items older (take m.steps s.steps.items) u.steps.items (take m.trail s.trail) u.trail (put_back (drop m.trail s.trail) s.bounds) u.bounds start given back.steps back.trail back.bounds before;
+      firsts_are = subst (AreFirsts u.firsts.items) (sym back.trail) (cut_firsts s.trail s.firsts.items u.firsts.items m.trail all.1.room back.firsts h.firsts_are);
     } in
     record {
       last = last.0;
       given_is = last.1 ∙ ap (λ xs. xs ++ last.0 ∷ []) (sym given);
       at = record {
-        kept = subst (λ c. AreKept c u.watch u.bounds u.trail u.steps.items u.given.items u.marks.items) (sym ces) kept;
+        kept = subst (λ c. AreKept c u.watch u.bounds u.trail u.steps.items u.given.items u.marks.items u.firsts.items) (sym ces) kept;
         given_is = refl;
         constraints = back.constraints;
         count = count;

@@ -1,4 +1,6 @@
+mod FirstLemmas
 mod MarkLemmas
+mod CountLemmas
 mod BackLemmas
 mod NoteLemmas
 mod GiveLemmas

@@ -6,9 +6,13 @@ use Rattle.std.proofs.lemmas.List.Elements.{Contains-get_or, Contains-append_lef
 use Rattle.pst_narrow.specs.declared.trail.Former.{Former}
 use Rattle.pst_narrow.specs.declared.watch.Watch.{Watch}
 use Rattle.pst_narrow.specs.Watch.{IsRow, Has}
-use Rattle.pst_reasons.specs.Reasons.{IsMarked, NoneIsMarked, MarksStay, AreMarked, IsUnmarked, IsNamed, IsTaken}
+use Rattle.pst_reasons.specs.Firsts.{first_at}
+use Rattle.pst_reasons.specs.Marks.{IsMarked, IsHeld, NoneIsMarked, MarksStay, IsMarkedToo, AreMarked, AreUnmarked, IsUnmarked}
+use Rattle.pst_reasons.specs.declared.step.Cause.{Cause}
+use Rattle.pst_reasons.specs.declared.step.Cause.TheVariants as cause
+use Rattle.pst_reasons.specs.Reasons.{IsNamed, IsTaken, IsBack}
 
-some_is : {X : Type 0} (x y : X) → Some x ≡ Some y → x ≡ y
+pub some_is : {X : Type 0} (x y : X) → Some x ≡ Some y → x ≡ y
 some_is x y e = cc
 
 at_set : (xs : List Bool) (t : ℕ) (y : Bool) → t < length xs → slice_get (set xs t y) t ≡ Some y
@@ -31,13 +35,13 @@ below_or i n h = grind arith
 
 -- ---- marking each of a row
 
-pub record AreMarkedUpTo (variables : List ℕ) (k : ℕ) (old new : List Bool) : Type 0 where
+pub record AreMarkedUpTo (variables firsts : List ℕ) (mark k : ℕ) (old new : List Bool) : Type 0 where
   pub long : length new ≡ length old
   pub kept : MarksStay old new
-  pub marked : (j : ℕ) → j < k → j < length variables → IsMarked new (get_or variables j 0)
+  pub marked : (j : ℕ) → j < k → j < length variables → IsHeld firsts mark new (get_or variables j 0)
 
-pub none_yet : (variables : List ℕ) (old : List Bool) → AreMarkedUpTo variables 0 old old
-none_yet variables old = record { long = refl; kept = λ v m. m; marked = λ j small. absurd (omega arith) }
+pub none_yet : (variables firsts : List ℕ) (mark : ℕ) (old : List Bool) → AreMarkedUpTo variables firsts mark 0 old old
+none_yet variables firsts mark old = record { long = refl; kept = λ v m. m; marked = λ j small. absurd (omega arith) }
 
 set_keeps : (marks : List Bool) (x : ℕ) → x < length marks → MarksStay marks (set marks x true)
 set_keeps marks x below v m = elim (same_or v x) [
@@ -45,25 +49,38 @@ set_keeps marks x below v m = elim (same_or v x) [
   | inr n ↦ beside_set marks x v true n ∙ m
 ]
 
-pub one_marked : (variables : List ℕ) (k : ℕ) (old mid new : List Bool) → get_or variables k 0 < length mid → new ≡ set mid (get_or variables k 0) true → AreMarkedUpTo variables k old mid → AreMarkedUpTo variables (k + 1) old new
-one_marked variables k old mid new below is h =
-    let x = get_or variables k 0 in
-    let stay : MarksStay mid new = subst (MarksStay mid) (sym is) (set_keeps mid x below) in
+held_still : (firsts : List ℕ) (mark : ℕ) (mid new : List Bool) (v : ℕ) → MarksStay mid new → IsHeld firsts mark mid v → IsHeld firsts mark new v
+held_still firsts mark mid new v stay (inl m) = inl (stay v m)
+held_still firsts mark mid new v stay (inr late) = inr late
+
+pub one_more : (variables firsts : List ℕ) (mark k : ℕ) (old mid new : List Bool) → IsMarkedToo (get_or variables k 0) firsts mark mid new → AreMarkedUpTo variables firsts mark k old mid → AreMarkedUpTo variables firsts mark (k + 1) old new
+one_more variables firsts mark k old mid new too h =
     record {
-      long = ap length is ∙ (length-set mid x true ∙ h.long);
-      kept = λ v m. stay v (h.kept v m);
+      long = too.long ∙ h.long;
+      kept = λ v m. too.kept v (h.kept v m);
       marked = λ j small within. elim (below_or j k small) [
-        | inl less ↦ stay (get_or variables j 0) (h.marked j less within)
-        | inr last ↦ subst (λ i. IsMarked new (get_or variables i 0)) (sym last) (subst (λ z. IsMarked z x) (sym is) (at_set mid x true below))
+        | inl less ↦ held_still firsts mark mid new (get_or variables j 0) too.kept (h.marked j less within)
+        | inr last ↦ subst (λ i. IsHeld firsts mark new (get_or variables i 0)) (sym last) too.held
       ];
     }
 
-pub all_marked : (variables : List ℕ) (k : ℕ) (old new : List Bool) → length variables ≤ k → AreMarkedUpTo variables k old new → AreMarked variables old new
-all_marked variables k old new end h =
+pub marked_by : (x : ℕ) (firsts : List ℕ) (mark : ℕ) (old new : List Bool) → x < length old → new ≡ set old x true → IsMarkedToo x firsts mark old new
+marked_by x firsts mark old new below is =
+    record {
+      long = ap length is ∙ length-set old x true;
+      kept = subst (MarksStay old) (sym is) (set_keeps old x below);
+      held = inl (subst (λ z. IsMarked z x) (sym is) (at_set old x true below));
+    }
+
+pub passed_by : (x : ℕ) (firsts : List ℕ) (mark : ℕ) (old : List Bool) → mark ≤ first_at firsts x → IsMarkedToo x firsts mark old old
+passed_by x firsts mark old late = record { long = refl; kept = λ v m. m; held = inr late }
+
+pub all_marked : (variables firsts : List ℕ) (mark k : ℕ) (old new : List Bool) → length variables ≤ k → AreMarkedUpTo variables firsts mark k old new → AreMarked variables firsts mark old new
+all_marked variables firsts mark k old new end h =
     record {
       long = h.long;
       kept = h.kept;
-      marked = λ v (j, small, at). subst (IsMarked new) (get_or_default variables j 0 v small ∙ at) (h.marked j (omega arith) small);
+      marked = λ v (j, small, at). subst (IsHeld firsts mark new) (get_or_default variables j 0 v small ∙ at) (h.marked j (omega arith) small);
     }
 
 pub in_row : (variables : List ℕ) (k : ℕ) → k < length variables → Contains variables (get_or variables k 0)
@@ -113,5 +130,32 @@ has_of_row w c v row is there = (is.0, is.1, subst (λ z. Contains z v) (sym is.
 pub row_of_has : (w : Watch) (c v : ℕ) (row : List ℕ) → IsRow w.mentioned.items c row → Has w.mentioned.items c v → Contains row v
 row_of_has w c v row is has = subst (λ z. Contains z v) (ap (λ r. r.items) (some_is has.0 is.0 (sym has.1 ∙ is.1)) ∙ is.2) has.2
 
-pub taken_of : (w : Watch) (c : ℕ) (row : List ℕ) (old new : List Bool) (places : List ℕ) → IsRow w.mentioned.items c row → AreMarked row old new → IsTaken w c old new places places
-taken_of w c row old new places is h = record { long = h.long; kept = h.kept; marked = λ v has. h.marked v (row_of_has w c v row is has); places_same = refl }
+pub taken_of : (w : Watch) (c : ℕ) (firsts : List ℕ) (mark : ℕ) (row : List ℕ) (old mid new : List Bool) (places : List ℕ) → IsRow w.mentioned.items c row → AreMarked row firsts mark old mid → AreUnmarked firsts mark mid new → IsTaken w c firsts mark old new places places
+taken_of w c firsts mark row old mid new places is h u = record {
+  long = u.long ∙ h.long;
+  kept = λ v m. u.held v (h.kept v m);
+  marked = λ v has. elim (h.marked v (row_of_has w c v row is has)) [ inl m ↦ u.held v m | inr late ↦ inr late ];
+  places_same = refl;
+}
+
+-- ---- marks are taken off
+
+pub none_off : (firsts : List ℕ) (mark : ℕ) (old : List Bool) → AreUnmarked firsts mark old old
+none_off firsts mark old = record { long = refl; held = λ v m. inl m }
+
+pub off_by : (x : ℕ) (firsts : List ℕ) (mark : ℕ) (old new : List Bool) → mark ≤ first_at firsts x → IsUnmarked x old new → AreUnmarked firsts mark old new
+off_by x firsts mark old new late u =
+    record {
+      long = u.long;
+      held = λ v m. elim (u.marks v m) [ inl e ↦ inr (subst (λ i. mark ≤ first_at firsts i) (sym e) late) | inr still ↦ inl still ];
+    }
+
+pub off_then : (firsts : List ℕ) (mark : ℕ) (old mid new : List Bool) → AreUnmarked firsts mark old mid → AreUnmarked firsts mark mid new → AreUnmarked firsts mark old new
+off_then firsts mark old mid new f g =
+    record {
+      long = g.long ∙ f.long;
+      held = λ v m. elim (f.held v m) [ inl marked ↦ g.held v marked | inr late ↦ inr late ];
+    }
+
+pub back_taken : (w : Watch) (by : Cause) (c : ℕ) (firsts : List ℕ) (mark : ℕ) (changes : List Former) (row : List ℕ) (old mid new : List Bool) (places : List ℕ) → by ≡ cause.Constraint c → IsRow w.mentioned.items c row → AreMarked row firsts mark old mid → AreUnmarked firsts mark mid new → IsBack w by firsts mark changes old new places places
+back_taken w by c firsts mark changes row old mid new places is at m u = subst (λ z. IsBack w z firsts mark changes old new places places) (sym is) (inr (taken_of w c firsts mark row old mid new places at m u))

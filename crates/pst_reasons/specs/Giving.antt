@@ -19,6 +19,7 @@ use Rattle.pst_reasons.specs.declared.step.Given.{Given}
 use Rattle.pst_reasons.specs.declared.step.Mark.{Mark}
 use Rattle.pst_reasons.specs.declared.step.Step.{Step}
 use Rattle.pst_reasons.specs.Explained.{AreExplained}
+use Rattle.pst_reasons.specs.Firsts.{AreFirsts, AreNoLater, AreForgotten}
 use Rattle.pst_reasons.specs.Reasons.{AreReasons}
 use Rattle.pst_reasons.specs.Settled.{IsAppended}
 
@@ -46,15 +47,16 @@ AreStates es start given [] steps trail bounds = IsState es start given steps tr
 AreStates es start given (m ∷ older) steps trail bounds =
     IsState es start given steps trail bounds × IsMark m (length bounds) trail × AreStates es start (take (length older) given) older (take m.steps steps) (take m.trail trail) (put_back (drop m.trail trail) bounds)
 
-pub record AreKept (es : List Expression) (w : Watch) (bounds : List (Option Span)) (trail : List Former) (steps : List Step) (given : List Given) (marks : List Mark) : Type 0 where
+pub record AreKept (es : List Expression) (w : Watch) (bounds : List (Option Span)) (trail : List Former) (steps : List Step) (given : List Given) (marks : List Mark) (firsts : List ℕ) : Type 0 where
   pub watch : IsWatch es (length bounds) w
   pub variables : HaveVariablesBelow (length bounds) es
   pub number : length marks ≡ length given
   pub states : AreStates es (put_back trail bounds) given (reverse marks) steps trail bounds
+  pub firsts_are : AreFirsts firsts trail
 
 -- the index is that of the constraints, and so it is with the bounds now, and before each span that was given
 abbrev pub IsKept : Narrowed → Type 0
-IsKept s = AreKept (map view s.constraints.items) s.watch s.bounds s.trail s.steps.items s.given.items s.marks.items
+IsKept s = AreKept (map view s.constraints.items) s.watch s.bounds s.trail s.steps.items s.given.items s.marks.items s.firsts.items
 
 -- the bounds at the start
 abbrev pub start_of : Narrowed → List (Option Span)
@@ -110,8 +112,9 @@ pub record IsNotedGiven (old new : Narrowed) (variable : ℕ) (span : Span) : Ty
   pub steps : new.steps.items ≡ old.steps.items ++ record { cause = cause.Given (length old.given.items); mark = length old.trail } ∷ []
   pub given_is : new.given.items ≡ given_too old variable span
   pub marks : new.marks.items ≡ old.marks.items ++ record { trail = length old.trail; steps = length old.steps.items } ∷ []
+  pub firsts : new.firsts.items ≡ old.firsts.items
 
--- nothing changed
+-- nothing changed that one sees; which variables were changed first is noted as well as it was
 pub record IsSame (old new : Narrowed) : Type 0 where
   pub constraints : new.constraints ≡ old.constraints
   pub watch : new.watch ≡ old.watch
@@ -120,6 +123,7 @@ pub record IsSame (old new : Narrowed) : Type 0 where
   pub steps : new.steps.items ≡ old.steps.items
   pub given_is : new.given.items ≡ old.given.items
   pub marks : new.marks.items ≡ old.marks.items
+  pub firsts : AreFirsts old.firsts.items old.trail → AreFirsts new.firsts.items new.trail
 
 -- constraints whose variables weren't changed behind the mark aren't refused
 pub record IsUnsettled (s : Narrowed) (mark : ℕ) : Type 0 where
@@ -130,6 +134,7 @@ pub record IsUnsettled (s : Narrowed) (mark : ℕ) : Type 0 where
   pub room : mark ≤ length s.trail
   pub quiet : QuietAreOpen (map view s.constraints.items) (drop mark s.trail) s.bounds
   pub explained : AreExplained (map view s.constraints.items) s.given.items (reverse s.steps.items) s.trail s.bounds
+  pub firsts : AreFirsts s.firsts.items (take mark s.trail)
 
 -- changes and steps were only appended
 pub record IsNarrower (old new : Narrowed) : Type 0 where
@@ -141,11 +146,13 @@ pub record IsNarrower (old new : Narrowed) : Type 0 where
   pub inside : AreInside new.bounds old.bounds
   pub extends : Extends old.trail new.trail old.bounds new.bounds
   pub steps : IsAppended old.steps.items new.steps.items
+  pub firsts : AreNoLater old.firsts.items new.firsts.items
 
 pub record IsSettledNow (s : Narrowed) : Type 0 where
   pub upright : AreUpright s.bounds
   pub unrefused : AreOpen (map view s.constraints.items) s.bounds
   pub explained : AreExplained (map view s.constraints.items) s.given.items (reverse s.steps.items) s.trail s.bounds
+  pub firsts : AreFirsts s.firsts.items s.trail
 
 -- no constraint is refused any more, or reasons why one can't hold
 abbrev pub Settles : Option (Vec ℕ) → Narrowed → Narrowed → Type 0
@@ -166,3 +173,4 @@ pub record IsBack (old new : Narrowed) : Type 0 where
   pub trail : new.trail ≡ take mark.trail old.trail
   pub steps : new.steps.items ≡ take mark.steps old.steps.items
   pub given_is : new.given.items ≡ take (length new.marks.items) old.given.items
+  pub firsts : AreForgotten mark.trail old.firsts.items new.firsts.items

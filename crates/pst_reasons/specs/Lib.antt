@@ -1,4 +1,6 @@
 pub mod Explained
+pub mod Firsts
+pub mod Marks
 pub mod Reasons
 pub mod Settled
 pub mod Giving

@@ -1,5 +1,5 @@
 -- On which spans that were given it rests that no solution is left.
-use Rattle.std.specs.Prelude.{◌≡◌, ℕ, ℤ, ◌<◌, ◌⊎◌, List, length, Bool, true, Option, Some, slice_get, Contains, All}
+use Rattle.std.specs.Prelude.{◌≡◌, ℕ, ℤ, ◌<◌, ◌⊎◌, List, length, Bool, Option, Some, slice_get, Contains}
 use Rattle.pst_expr.specs.declared.ranges.Span.{Span}
 use Rattle.pst_expr.specs.Tree.{Expression}
 use Rattle.pst_expr.specs.Value.{variable_value}
@@ -12,6 +12,7 @@ use Rattle.pst_narrow.specs.Local.{LiesWithin}
 use Rattle.pst_reasons.specs.declared.step.Cause.{Cause}
 use Rattle.pst_reasons.specs.declared.step.Cause.TheVariants as cause
 use Rattle.pst_reasons.specs.declared.step.Given.{Given}
+use Rattle.pst_reasons.specs.Marks.{IsMarked, IsHeld, AreHeld, NoneIsMarked, IsUnmarked}
 
 -- values lie in the spans that were given at some places
 abbrev pub Agree : List ℕ → List Given → List (Option ℤ) → Type 0
@@ -23,31 +24,10 @@ AreReasons es given start places = (values : List (Option ℤ)) → AreMet es va
 
 -- ---- on the way back
 
-abbrev pub IsMarked : List Bool → ℕ → Type 0
-IsMarked marks v = slice_get marks v ≡ Some true
-
--- so it is with the bounds of marked variables alone
-abbrev pub Rests : List Expression → List Given → List (Option Span) → List Bool → List ℕ → Type 0
-Rests es given bounds marks places = (values : List (Option ℤ)) → AreMet es values → ((v : ℕ) → IsMarked marks v → LiesWithin bounds values v) → Agree places given values → ⊥
-
--- no variable that was changed is marked
-abbrev pub NoneIsMarked : List Bool → List Former → Type 0
-NoneIsMarked marks changes = All (λ f. IsMarked marks f.variable → ⊥) changes
-
--- marks stay
-abbrev pub MarksStay : List Bool → List Bool → Type 0
-MarksStay old new = (v : ℕ) → IsMarked old v → IsMarked new v
-
--- all variables of a row are marked, and the former ones
-pub record AreMarked (variables : List ℕ) (old new : List Bool) : Type 0 where
-  pub long : length new ≡ length old
-  pub kept : MarksStay old new
-  pub marked : (v : ℕ) → Contains variables v → IsMarked new v
-
--- marks stay but for one variable
-pub record IsUnmarked (variable : ℕ) (old new : List Bool) : Type 0 where
-  pub long : length new ≡ length old
-  pub marks : (v : ℕ) → IsMarked old v → (v ≡ variable) ⊎ IsMarked new v
+-- so it is with values within the bounds at the start that lie, of marked variables, within the bounds there
+abbrev pub Rests : List Expression → List Given → List (Option Span) → List (Option Span) → List Bool → List ℕ → Type 0
+Rests es given start bounds marks places =
+    (values : List (Option ℤ)) → AreMet es values → ((v : ℕ) → LiesWithin start values v) → ((v : ℕ) → IsMarked marks v → LiesWithin bounds values v) → Agree places given values → ⊥
 
 -- the place is added, and the mark of its variable taken off
 pub record IsNamed (place variable : ℕ) (old new : List Bool) (places more : List ℕ) : Type 0 where
@@ -66,11 +46,11 @@ pub record IsPassed (changes : List Former) (old new : List Bool) (places more :
   pub marks : new ≡ old
   pub places_same : more ≡ places
 
--- back over a constraint's: its variables are marked
-pub record IsTaken (w : Watch) (c : ℕ) (old new : List Bool) (places more : List ℕ) : Type 0 where
+-- back over a constraint's: its variables are marked, and none any more that wasn't changed before
+pub record IsTaken (w : Watch) (c : ℕ) (firsts : List ℕ) (mark : ℕ) (old new : List Bool) (places more : List ℕ) : Type 0 where
   pub long : length new ≡ length old
-  pub kept : MarksStay old new
-  pub marked : (v : ℕ) → Has w.mentioned.items c v → IsMarked new v
+  pub kept : AreHeld firsts mark old new
+  pub marked : (v : ℕ) → Has w.mentioned.items c v → IsHeld firsts mark new v
   pub places_same : more ≡ places
 
 -- back over a span that was given: it is named
@@ -79,6 +59,6 @@ pub record IsGivenBack (k : ℕ) (changes : List Former) (old new : List Bool) (
   pub is_first : slice_get changes 0 ≡ Some first
   pub named : IsNamed k first.variable old new places more
 
-abbrev pub IsBack : Watch → Cause → List Former → List Bool → List Bool → List ℕ → List ℕ → Type 0
-IsBack w (cause.Constraint c) changes old new places more = IsPassed changes old new places more ⊎ IsTaken w c old new places more
-IsBack w (cause.Given k) changes old new places more = IsPassed changes old new places more ⊎ IsGivenBack k changes old new places more
+abbrev pub IsBack : Watch → Cause → List ℕ → ℕ → List Former → List Bool → List Bool → List ℕ → List ℕ → Type 0
+IsBack w (cause.Constraint c) firsts mark changes old new places more = IsPassed changes old new places more ⊎ IsTaken w c firsts mark old new places more
+IsBack w (cause.Given k) firsts mark changes old new places more = IsPassed changes old new places more ⊎ IsGivenBack k changes old new places more

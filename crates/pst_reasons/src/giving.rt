@@ -5,6 +5,8 @@ ghost use Rattle.pst_domain.specs.Bounds.{AreUpright};
 ghost use Rattle.pst_narrow.specs.Narrowing.{HaveVariablesBelow};
 ghost use Rattle.pst_reasons.specs.Giving.{IsKept, Begins, Gives, IsTakenBack, IsNotedGiven, IsSame, IsUnsettled, IsNarrower, Settles, CanGoBack, IsBack};
 
+use crate::firsts::{forget_changes, note_changes};
+use crate::marks::Marks;
 use crate::reasons::Narrowed;
 use crate::settling::settle;
 use crate::step::{Cause, Given, Mark, Step};
@@ -13,6 +15,7 @@ use pst_domain::Bounds;
 use pst_expr::{Expr, Span};
 use pst_narrow::{Trail, Watch, others_dont_matter};
 use std::alloc::Global;
+use std::mem;
 
 impl Narrowed {
     /// Bounds narrowed by all constraints, where no variable was given a span yet. `None` where no values within the
@@ -32,6 +35,7 @@ impl Narrowed {
         if !watch.narrow(&constraints, &mut bounds, &mut trail)? {
             return Ok(None);
         }
+        let firsts = Vec::from_elem(alloc, usize::MAX, bounds.spans().len())?;
         Ok(Some(Narrowed {
             constraints,
             watch,
@@ -40,6 +44,8 @@ impl Narrowed {
             steps: Vec::new(alloc),
             given: Vec::new(alloc),
             marks: Vec::new(alloc),
+            firsts,
+            flags: Marks::new(alloc),
         }))
     }
 
@@ -74,16 +80,23 @@ impl Narrowed {
         ensures narrower { IsNarrower self.old self.new }
         ensures settles { IfOk result (λ found. Settles found self.old self.new) }
     {
-        match settle(
+        let found = settle(
             &self.constraints,
             &self.watch,
             mark,
             &mut self.bounds,
             &mut self.trail,
             &mut self.steps,
-        )? {
+        )?;
+        note_changes(&mut self.firsts, self.trail.formers(), mark);
+        match found {
             None => Ok(None),
-            Some(failed) => Ok(Some(self.reasons(alloc, failed)?)),
+            Some(failed) => {
+                let mut flags = mem::replace(&mut self.flags, Marks::new(alloc));
+                let places = self.reasons(alloc, failed, &mut flags)?;
+                self.flags = flags;
+                Ok(Some(places))
+            }
         }
     }
 
@@ -96,6 +109,7 @@ impl Narrowed {
         let Some(mark) = self.marks.pop() else {
             return;
         };
+        forget_changes(&mut self.firsts, self.trail.formers(), mark.trail);
         self.trail.undo(mark.trail, &mut self.bounds);
         self.steps.truncate(mark.steps);
         self.given.truncate(self.marks.len());

@@ -1,8 +1,10 @@
 //! Why bounds hold no solution: on which of the values that variables were given it rests.
 #![tactic(auto)]
 
+mod firsts;
 mod giving;
 mod laws;
+mod marks;
 mod reasons;
 mod settling;
 mod step;

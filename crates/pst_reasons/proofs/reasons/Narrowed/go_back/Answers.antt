@@ -31,5 +31,6 @@ returns c =
       bounds = c.undo.ensures.bounds;
       trail = c.undo.ensures.trail;
       steps = c.truncate.ensures.items;
+      firsts = c.forget_changes.ensures;
       given_is = c.truncate-2.ensures.items ∙ ap (λ k. take k c.args.self.now.given.items) (c.len.ensures ∙ c.pop.new.self.ok.0);
     }

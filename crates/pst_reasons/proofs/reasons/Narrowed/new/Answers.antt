@@ -31,7 +31,7 @@ returns c =
     let b : c.in_ok-narrow.field-0 ≡ true = first_of (cc (c.if-not-branch.false), search (rules, not_is_false, c.if-not-branch.false)) in
     let here : IsWatch (map view cs) (length c.args.bounds) w = subst (λ n. IsWatch (map view cs) n w) (ap length c.spans.ensures) (subst (λ (xs : List Expr). IsWatch (map view xs) (length c.spans.result.now) w) c.deref.ensures.value c.in_ok-watch.ensures) in
     record {
-      kept = begun (map view cs) w d _ _ _ _ (subst (λ n. IsWatch (map view cs) n w) (sym count) here) (subst (λ n. HaveVariablesBelow n (map view cs)) (sym count) c.requires.variables) narrows.upright
+      kept = begun (map view cs) w d _ _ _ _ _ (subst (λ n. IsWatch (map view cs) n w) (sym count) here) (subst (λ n. HaveVariablesBelow n (map view cs)) (sym count) c.requires.variables) narrows.upright
           (subst (λ (xs : List Expr). AreOpen (map view xs) d) c.deref-2.ensures.value (c.narrow.ensures.unrefused (c.in_ok-narrow.was ∙ ap (λ x. Ok x) b))) c.new-2.ensures c.new-3.ensures.items c.new-4.ensures.items c.new-5.ensures.items;
       constraints_same = refl;
       none_given = c.new-4.ensures.items;

@@ -14,4 +14,5 @@ returns-clause-noted c =
       steps = noted_steps s.steps.items _ _ (length s.given.items) _ (length s.trail) c.mark-mark.result c.push_reserved-2.ensures.items c.reserve-2.ensures.items (omega (arith, c.len-place.ensures, c.if-len.false, c.len.ensures)) c.mark-mark.ensures;
       given_is = c.push_reserved.ensures.items ∙ ap (λ (xs : List Given). xs ++ record { variable = c.args.variable; span = c.args.span } ∷ []) c.reserve.ensures.items;
       marks = noted_marks s.marks.items _ _ (length s.trail) c.mark-mark.result (length s.steps.items) c.len-steps.result c.push_reserved-3.ensures.items c.reserve-3.ensures.items c.mark-mark.ensures (omega (arith, c.len-steps.ensures));
+      firsts = refl;
     }

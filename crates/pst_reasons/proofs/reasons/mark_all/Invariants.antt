@@ -1,5 +1,0 @@
-use Rattle.pst_reasons.proofs.MarkLemmas.{AreMarkedUpTo}
-use Rattle.pst_reasons.proofs.reasons.mark_all.Given as goal
-
-abbrev pub invariant-loop-variable : goal.invariant-loop-variable
-invariant-loop-variable l = AreMarkedUpTo l.variables l.variable-index l.initial.marks l.marks
