@@ -19,10 +19,9 @@ use crate::arms::{Arms, no_arms, push_arm, push_branch};
 use crate::made::{if_of, match_of, repeat_of, select, sequence, together};
 use pst_ast::{ArmNode, BranchNode, CoreNode, ExprNode, LabelNode, Name, StatementNode};
 use pst_base::NoMemory;
-use pst_constraints::{expression_of, pop_turn, push_turn};
 use pst_model::{Branch, Step};
 use pst_path_readings::{Setting, Turn};
-use pst_step_parts::{traverse_handle, traverse_type};
+use pst_step_parts::{expression_of, pop_turn, push_turn, traverse_handle, traverse_type};
 use pst_type_numbers::Numbered;
 
 // The step of a statement with so many repetitions round it; `;` and binds are none.

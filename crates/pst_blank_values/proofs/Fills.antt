@@ -21,7 +21,7 @@ use Rattle.pst_built.proofs.Bares.{Bare, bare, bares_in, bare_from, bare_of, Kin
 use Rattle.pst_built.proofs.Values.{IsSameOrder}
 use Rattle.pst_built.specs.Onward.{Both, Row as Paired}
 use Rattle.pst_read_slots.proofs.Same.{same_then, option_same}
-use Rattle.pst_read_domains.proofs.Same.{same_domain}
+use Rattle.pst_few_places.proofs.PassedOn.{same_domain}
 use Rattle.pst_built.proofs.Lists.{get_below}
 use Rattle.pst_few_places.specs.Fillings.{all_blanks, filled}
 use Rattle.pst_blank_values.specs.Rows.{Part, Claims, Fields, Output, Resource, Row, InFirst, InAct, values_of, of_act, values_in, row_of, place_of, stands_in}

@@ -1,3 +1,4 @@
 pub mod Implied
 pub mod Turned
 pub mod Paired
+pub mod PassedOn

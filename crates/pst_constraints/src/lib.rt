@@ -8,5 +8,6 @@ mod sets;
 mod turns;
 
 pub use made::expression_of;
+pub use pst_path_readings::Setting;
 pub use sets::{add_declared, add_inline};
 pub use turns::{pop_turn, push_turn, turns_of};

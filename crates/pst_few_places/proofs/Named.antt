@@ -13,7 +13,7 @@ use Rattle.pst_legal.specs.ValueReading.{with_option, read_blanks}
 use Rattle.pst_built.proofs.Goes.{option_is}
 use Rattle.pst_built.proofs.Values.{IsSameOrder}
 use Rattle.std.proofs.lemmas.Bool.{ltb-true}
-use Rattle.pst_read_slots.proofs.Same.{same_then, option_same}
+use Rattle.pst_read_domains.proofs.PassedOn.{same_then, option_same}
 use Rattle.pst_read_domains.proofs.Same.{same_domain}
 use Rattle.pst_few_places.specs.Fillings.{AreOptions, filled, named}
 

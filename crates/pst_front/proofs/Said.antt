@@ -11,7 +11,7 @@ use Rattle.pst_ast.specs.declared.declaration.Unit.{Unit as UnitNode}
 use Rattle.pst_model.specs.Limits.{most_instances}
 use Rattle.pst_elab_rules.specs.declared.end.ElabEnd.{ElabEnd}
 use Rattle.pst_elab_rules.specs.declared.end.ElabEnd.TheVariants as elab
-use Rattle.pst_source_rules.specs.Judged.{IsEnd}
+use Rattle.pst_elab.specs.PassedOn.{IsEnd}
 use Rattle.pst_sources_read.specs.Limits.{most_tokens}
 use Rattle.pst_sources_read.specs.declared.parsing.UnitsEnd.{UnitsEnd}
 use Rattle.pst_sources_read.specs.declared.parsing.UnitsEnd.TheVariants as units

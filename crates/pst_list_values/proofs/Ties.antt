@@ -33,7 +33,7 @@ use Rattle.pst_written_constraints.specs.Spans.{HoldOptions}
 use Rattle.pst_written_constraints.specs.Written.{AreWritten}
 use Rattle.pst_written_constraints.specs.Open.{blank_bounds, OpenTogether}
 use Rattle.pst_rival_blanks.specs.Pairs.{AreMetWherePlanned}
-use Rattle.pst_constraint_sites.specs.Senses.{LinksJoin}
+use Rattle.pst_written_constraints.specs.PassedOn.{LinksJoin}
 use Rattle.pst_refusals.specs.Answers.{StandEarlier}
 use Rattle.pst_built.proofs.Values.{IsSameOrder}
 use Rattle.pst_built.proofs.Goes.{Stands}

@@ -10,7 +10,7 @@ ghost use Rattle.pst_built.specs.SoFar.{HasRead};
 ghost use Rattle.pst_plan_so_far.specs.Laws.{ReadsSources};
 ghost use Rattle.pst_list_walk.specs.Walks.{answer, IsRead, HasFront};
 ghost use Rattle.pst_refusals.specs.Answers.{StandEarlier};
-ghost use Rattle.pst_constraint_sites.specs.Senses.{LinksJoin};
+ghost use Rattle.pst_written_constraints.specs.PassedOn.{LinksJoin};
 ghost use Rattle.pst_search_loop.specs.Kept.{IsConflict};
 ghost use Rattle.pst_list_values.specs.Walked.{kept_of};
 ghost use Rattle.pst_list_values.specs.Tied.{IsTied, IsOf, IsWithValue, IsFurther, IsShorter, HasGiven, IsRefusal, IsOpenAt, IsSameWalk, IsBegunOf};

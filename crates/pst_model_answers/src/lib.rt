@@ -9,4 +9,5 @@ mod run;
 
 pub use counts::reply_to_whole;
 pub use model::{answer_model, reply_to_search_end};
+pub use pst_search::search;
 pub use run::{reply_of, reply_to_end};

@@ -4,3 +4,4 @@
 mod fields;
 
 pub use fields::model_fields;
+pub use pst_field_domains::FieldDomains;

@@ -12,9 +12,8 @@ use crate::object::object_constraints;
 use pst_ast::{Declaration, ObjectWord, Sort};
 use pst_base::NoMemory;
 use pst_declared_parts::ObjectSites;
-use pst_field_domains::FieldDomains;
 use pst_model::{ObjectKind, ObjectType};
-use pst_model_fields::model_fields;
+use pst_model_fields::{FieldDomains, model_fields};
 use pst_sources::Sources;
 
 // The kind of an object type.

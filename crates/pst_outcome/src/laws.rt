@@ -5,9 +5,9 @@ use pst_ast::laws::answers_agree;
 use pst_elab_rules::{answers_are_apart, first_breaches_are_one};
 use pst_legal::first_is_one;
 use pst_lexer::laws::each_text_has_one_outcome;
-use pst_parser::laws::at_most_one_unit;
 use pst_run_alone::{runs_are_one, traces_are_one};
 use pst_scenario_answers::checks_are_one;
+use pst_sources_read::at_most_one_unit;
 use pst_texts::tokens_of_texts_are_one;
 use pst_token::laws::each_text_has_one_reading;
 

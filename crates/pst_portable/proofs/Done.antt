@@ -27,7 +27,7 @@ use Rattle.pst_outcome.specs.Tasks.{FitsLanes}
 use Rattle.pst_outcome.specs.Sources.{Front, Ends, HasModel}
 use Rattle.pst_outcome.specs.Models.{OfScenario, IsRun, IsSharedRun, IsGenerated, IsSharedGenerated, IsSolved, IsJudged, ShowsCounts, OfModel, HasNone, IsSpent, IsFound, IsUnbuilt}
 use Rattle.pst_outcome.specs.Outcome.{IsOwed, IsUsage, EndsAtFiles, EndsAtSources, IsServed, HasFront, bytes_of}
-use Rattle.pst_model_answers.proofs.Runs.{all_made}
+use Rattle.pst_shared_answers.proofs.PassedOn.{all_made}
 use Rattle.pst_front.specs.declared.front.LineFront.{LineFront}
 use Rattle.pst_front.specs.Stages.{front_of, IsStage, OfLine, AtFiles, BehindFiles}
 use Rattle.pst_portable.specs.declared.request.Request.{Request}

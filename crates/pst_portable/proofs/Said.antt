@@ -28,7 +28,7 @@ use Rattle.pst_outcome.specs.Models.{answer_of_run, answer_of_check, ShowsCounts
 use Rattle.pst_outcome.specs.Outcome.{OfFiles, IsNoFile, IsUnread, HasManyBytes, HasLongTrace, IsOwed, IsUsage, EndsAtFiles, EndsAtSources, IsServed, bytes_of}
 use Rattle.pst_outcome.specs.Delivered.{Answers, Writing}
 use Rattle.pst_portable.specs.Replies.{Delivers}
-use Rattle.pst_model_answers.proofs.Runs.{none_made, all_made}
+use Rattle.pst_shared_answers.proofs.PassedOn.{none_made, all_made}
 use Rattle.pst_portable.proofs.Done.{made_beside}
 
 -- ---- an answer that only writing or memory gives is never right before

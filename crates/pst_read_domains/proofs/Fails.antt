@@ -29,7 +29,7 @@ use Rattle.pst_legal.specs.Standing.{Standing, Known, Lacking, Open, Unread, val
 use Rattle.pst_legal.specs.Constraints.{HasConstraint, OfCompound, OfAct, OfOutput, OfClaim, OfFirst, Inline, value_at, is_refused_at}
 use Rattle.pst_built.proofs.SoundActs.{all_get, some_and}
 use Rattle.pst_built.proofs.Members.{In, to_contains}
-use Rattle.pst_slots.proofs.Sounds.{sound_in}
+use Rattle.pst_read_slots.proofs.PassedOn.{sound_in}
 use Rattle.pst_built.specs.Known.{Narrower}
 use Rattle.pst_read_domains.specs.RefusalsStayLaws.{RefusedDoesNotHold, RefusedAtWiderBounds}
 

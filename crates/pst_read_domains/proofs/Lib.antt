@@ -21,3 +21,4 @@ pub mod Kids
 pub mod Tree
 pub mod ReadNodesWhole
 pub mod Handles
+pub mod PassedOn

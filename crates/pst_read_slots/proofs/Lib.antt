@@ -1,2 +1,3 @@
 pub mod Same
 mod Through
+pub mod PassedOn

@@ -15,7 +15,7 @@ use Rattle.pst_built.specs.Laws.{IsConcreteRoot, WholeReadingsAreBuilt}
 use Rattle.pst_order.specs.Built.{IsBuilt}
 use Rattle.pst_built.specs.SoFar.{HasRead}
 use Rattle.pst_read_legal.specs.Laws.{PlannedReadingsAreLegal, LegalIsUnrefused}
-use Rattle.pst_read_domains.specs.RefusalsStayLaws.{RefusedListsAreBarren}
+use Rattle.pst_list_values.specs.PassedOn.{RefusedListsAreBarren}
 use Rattle.pst_refusals.specs.Answers.{TellsRefusals}
 use Rattle.pst_shape.specs.Walks.{next_of, IfRead, HasDigit}
 use Rattle.pst_link_walk.specs.Walks.{Kept}
@@ -24,7 +24,7 @@ use Rattle.pst_search_loop.specs.Kept.{Shows, Sought, IsWhole, HasOptions, Rests
 use Rattle.pst_search_loop.specs.Kept.{HasDigit as NamesOption}
 use Rattle.pst_search_loop.specs.Conflicts.{IsEarlier}
 use Rattle.pst_search_loop.specs.declared.conflict.Conflict.{Conflict}
-use Rattle.pst_search_places.specs.Laws.{IsOfPlaces, BarrenListsConflict, PlacesRestOnEarlierOnes, PlacesRestOnTheSources}
+use Rattle.pst_list_values.specs.PassedOn.{IsOfPlaces, BarrenListsConflict, PlacesRestOnEarlierOnes, PlacesRestOnTheSources}
 use Rattle.pst_search_loop.specs.declared.walker.Look.{Look}
 use Rattle.pst_search_loop.specs.declared.walker.Look.TheVariants as look
 use Rattle.pst_list_values.specs.Walked.{kept_of}

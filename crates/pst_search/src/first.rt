@@ -9,10 +9,10 @@ ghost use Rattle.pst_search.specs.Searches.{Searches, IsSpentAt};
 
 use crate::reading::Reading;
 use pst_base::NoMemory;
+use pst_list_values::place_facts_hold;
 use pst_model::Model;
 use pst_scen::{Plan, Scenario};
 use pst_search_loop::{Outcome, search_levels};
-use pst_search_places::place_facts_hold;
 use std::alloc::Global;
 
 /// Why a search gives no scenario.

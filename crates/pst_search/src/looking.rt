@@ -19,18 +19,17 @@ use pst_base::NoMemory;
 use pst_built::{dead_stays_dead, whole_lists_end, whole_readings_are_built};
 use pst_graph::plan_of;
 use pst_link_order::is_refused_ahead;
-use pst_list_values::copy_scenario;
+use pst_list_values::{
+    barren_lists_conflict, copy_scenario, nodes_stand_for_pieces, of_places,
+    places_rest_on_earlier_ones, places_rest_on_the_sources, refused_lists_are_barren,
+};
 use pst_list_walk::ListWalk;
 use pst_open_needs::{has_unserved_need, unserved_needs_refuse_lists};
 use pst_order_ahead::{refusals_ahead_stay, trees_are_laid_out};
 use pst_plan_so_far::{plans_refuse_lists, sources_are_built};
-use pst_read_domains::{nodes_stand_for_pieces, refused_lists_are_barren};
 use pst_read_legal::{legal_is_unrefused, planned_readings_are_legal};
 use pst_scen::{Next, Plan, Scenario};
 use pst_search_loop::{Conflict, Judged, Look};
-use pst_search_places::{
-    barren_lists_conflict, of_places, places_rest_on_earlier_ones, places_rest_on_the_sources,
-};
 use std::alloc::Global;
 
 // All places of the list.

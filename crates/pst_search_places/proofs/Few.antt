@@ -12,8 +12,8 @@ use Rattle.pst_legal.specs.ValueReading.{Options, Whole, answer_of, with_option,
 use Rattle.pst_legal.specs.First.{ReadsLegal}
 use Rattle.pst_built.proofs.Values.{IsSameOrder}
 use Rattle.pst_read_slots.proofs.Same.{same_then, option_same}
-use Rattle.pst_read_domains.proofs.Same.{same_domain}
-use Rattle.pst_read_domains.proofs.Ahead.{sources_on}
+use Rattle.pst_few_places.proofs.PassedOn.{same_domain}
+use Rattle.pst_few_places.proofs.PassedOn.{sources_on}
 use Rattle.pst_few_places.specs.Fillings.{all_blanks}
 use Rattle.pst_few_places.specs.Laws.{AgreeAt, FewPlacesRefuse}
 use Rattle.pst_few_places.proofs.Named.{blanks_join}

@@ -3,7 +3,7 @@ use Rattle.std.proofs.Common.{◌≡◌, ◌⊎◌, ℕ, List, [], ◌∷◌, �
 use Rattle.pst_model.specs.ModelTree.{ModelTree}
 use Rattle.pst_scen.specs.declared.scenario.Scenario.{Scenario}
 use Rattle.pst_legal.specs.Reading.{Reads}
-use Rattle.pst_read_domains.proofs.Ahead.{sources_on}
+use Rattle.pst_few_places.proofs.PassedOn.{sources_on}
 use Rattle.pst_search_places.specs.Facts.{sources_of}
 
 head_same : (x y : ℕ) (xs ys : List ℕ) → (x ∷ xs) ≡ (y ∷ ys) → x ≡ y

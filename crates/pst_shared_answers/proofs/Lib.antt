@@ -1,3 +1,4 @@
 mod Told
 mod Shared
 mod Runs
+pub mod PassedOn

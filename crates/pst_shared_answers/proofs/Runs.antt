@@ -26,8 +26,8 @@ use Rattle.pst_outcome.specs.declared.task.Work.TheVariants as work
 use Rattle.pst_outcome.specs.Tasks.{FitsLanes, IsSeveral}
 use Rattle.pst_outcome.specs.SharedRuns.{ShowsSharedRun}
 use Rattle.pst_outcome.specs.Models.{IsSought, OfModel, IsFound, OfScenario, IsSharedRun, IsSharedGenerated, HaveEnded, EndElse, count_ended, answer_of_run}
-use Rattle.pst_search.specs.declared.first.SearchEnd.{SearchEnd}
-use Rattle.pst_search.specs.Searches.{Searches}
+use Rattle.pst_model_answers.specs.PassedOn.{SearchEnd}
+use Rattle.pst_model_answers.specs.PassedOn.{Searches}
 use Rattle.pst_model_answers.specs.Replies.{Says, SaysEnd, Tells, TellsEnd}
 use Rattle.pst_model_answers.proofs.Runs.{said, all_made}
 use Rattle.pst_model_answers.proofs.Owed.{end_owed}

@@ -6,3 +6,4 @@ mod model;
 mod run;
 
 pub use model::answer_shared;
+pub use pst_model_answers::answer_model;

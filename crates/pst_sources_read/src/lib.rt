@@ -7,3 +7,4 @@ mod parsing;
 
 pub use lexing::{MOST_TOKENS, lex_texts};
 pub use parsing::{UnitsEnd, parse_units};
+pub use pst_parser::laws::at_most_one_unit;

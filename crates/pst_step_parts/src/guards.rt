@@ -4,14 +4,13 @@ ghost use Rattle.std.specs.Option.{option_map};
 ghost use Rattle.pst_ast.specs.ActivityView.{view_guard, view_weight};
 ghost use Rattle.pst_elab_rules.specs.Steps as tree;
 ghost use Rattle.pst_model.specs.ConstraintTree.{view_constraint};
-ghost use Rattle.pst_path_readings.specs.Set.{view_setting};
+ghost use Rattle.pst_constraints.specs.PassedOn.{view_setting};
 ghost use Rattle.pst_sources.specs.Shown.{sources_of};
 
 use pst_ast::{GuardNode, WeightNode};
 use pst_base::NoMemory;
-use pst_constraints::expression_of;
+use pst_constraints::{Setting, expression_of};
 use pst_model::Constraint;
-use pst_path_readings::Setting;
 use pst_sources::{Known, Sources};
 
 /// The condition under which a branch may be taken, where it has one.

@@ -8,4 +8,5 @@ mod traversals;
 
 pub use guards::{guard_of, weight_of};
 pub use joins::join_of;
+pub use pst_constraints::{expression_of, pop_turn, push_turn};
 pub use traversals::{handle_named, handle_of, traverse_handle, traverse_type};

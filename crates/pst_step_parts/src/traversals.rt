@@ -5,7 +5,7 @@ ghost use Rattle.pst_elab_rules.specs.Steps as tree;
 ghost use Rattle.pst_model.specs.ActivityTree.{Traverse};
 ghost use Rattle.pst_model.specs.ConstraintTree.{view_constraint};
 ghost use Rattle.pst_model.specs.ModelView.{view_step};
-ghost use Rattle.pst_path_readings.specs.Set.{view_setting};
+ghost use Rattle.pst_constraints.specs.PassedOn.{view_setting};
 ghost use Rattle.pst_ast.specs.Sorts;
 ghost use Rattle.pst_ast.specs.Uses;
 ghost use Rattle.pst_ast.specs.declared.referent.Traversal.TheVariants as by;
@@ -15,10 +15,9 @@ use pst_ast::{
     Declaration, Environment, Name, Owner, Referent, Sort, Traversal, TypeName, WithNode,
 };
 use pst_base::NoMemory;
-use pst_constraints::add_inline;
+use pst_constraints::{Setting, add_inline};
 use pst_index::{traversed, value_named};
 use pst_model::{Constraint, Step};
-use pst_path_readings::Setting;
 use pst_sources::Sources;
 use pst_type_members::MemberSort;
 use pst_type_numbers::Numbered;

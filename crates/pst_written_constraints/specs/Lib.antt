@@ -3,3 +3,4 @@ pub mod Alike
 pub mod Written
 pub mod Spans
 pub mod Open
+pub mod PassedOn

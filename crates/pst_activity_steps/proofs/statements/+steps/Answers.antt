@@ -6,7 +6,7 @@ use Rattle.std.specs.List.{filter_map}
 use Rattle.pst_ast.specs.declared.activity.CoreNode.{CoreNode}
 use Rattle.pst_ast.specs.ActivityView.{view_arm as view_arm_node, view_arm_label, view_branch as view_branch_node, view_core, view_guard, view_join, view_statement}
 use Rattle.pst_ast.specs.ExpressionView.{view_expr}
-use Rattle.pst_constraints.specs.Turned.{without_turn}
+use Rattle.pst_step_parts.specs.PassedOn.{without_turn}
 use Rattle.pst_elab_rules.specs.Steps.{branch_step, core_step, guard_of, one_step, row_steps, statement_step, together_step, weight_of}
 use Rattle.pst_model.specs.ActivityTree as model
 use Rattle.pst_model.specs.ConstraintTree.{view_constraint}

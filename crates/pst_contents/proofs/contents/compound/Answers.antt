@@ -7,7 +7,7 @@ use Rattle.pst_elab_rules.specs.Steps.{statement_step}
 use Rattle.pst_elab_rules.specs.Ties.{ties_in}
 use Rattle.pst_elab_rules.specs.Types.{setting_of}
 use Rattle.pst_model.specs.ModelTree.{Compound}
-use Rattle.pst_path_readings.specs.Set.{view_setting}
+use Rattle.pst_body_steps.specs.PassedOn.{view_setting}
 use Rattle.pst_ast.specs.declared.referent.Owner.TheVariants.{OfAction}
 use Rattle.pst_sources.specs.Shown.{Shown, sources_of}
 use Rattle.pst_contents.proofs.contents.compound.Goals as goal

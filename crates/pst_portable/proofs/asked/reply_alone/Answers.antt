@@ -1,7 +1,7 @@
 use Rattle.std.proofs.Common.{[], ◌∷◌, string_bytes, refl, sym, subst}
 use Rattle.std.specs.Prelude.{IfOk}
 use Rattle.pst_run_alone.specs.Lanes.{lane}
-use Rattle.pst_model_answers.proofs.Runs.{one_uncalled}
+use Rattle.pst_shared_answers.proofs.PassedOn.{one_uncalled}
 use Rattle.pst_portable.specs.declared.request.Request.{Request}
 use Rattle.pst_portable.specs.Requests.{IsServable, IsAnswered}
 use Rattle.pst_portable.proofs.asked.reply_alone.Goals as goal

@@ -1,7 +1,7 @@
 use Rattle.std.proofs.Common.{[], ◌∷◌, map, string_bytes, refl}
 use Rattle.pst_words.specs.declared.command.Lines.TheVariants.{WithoutSweep}
 use Rattle.pst_run_alone.specs.Lanes.{lane, HasMade}
-use Rattle.pst_model_answers.proofs.Runs.{none_made}
+use Rattle.pst_shared_answers.proofs.PassedOn.{none_made}
 use Rattle.pst_portable.proofs.Done.{on_memory, request_owed}
 use Rattle.pst_portable.proofs.top.reply_to_words.Goals as goal
 

@@ -2,7 +2,7 @@ use Rattle.std.proofs.Common.{◌∙◌, ℕ, map, min, string_bytes, ap, subst}
 use Rattle.std.specs.Prelude.{IfOk}
 use Rattle.pst_words.specs.declared.command.Lines.TheVariants.{All}
 use Rattle.pst_run_alone.specs.Lanes.{HaveMade, lanes_told}
-use Rattle.pst_model_answers.proofs.Runs.{all_made}
+use Rattle.pst_shared_answers.proofs.PassedOn.{all_made}
 use Rattle.pst_outcome.specs.Outcome.{IsOwed}
 use Rattle.pst_portable.proofs.Done.{none_called, on_memory, request_owed}
 use Rattle.pst_portable.proofs.top.reply_to_words_on.Goals as goal

@@ -1,0 +1,3 @@
+-- What crates above use of libraries below this one, passed on, so that they need not list those libraries.
+pub use Rattle.pst_search.specs.Searches.{Searches}
+pub use Rattle.pst_search.specs.declared.first.SearchEnd.{SearchEnd}

@@ -1,0 +1,2 @@
+-- What crates above use of libraries below this one, passed on, so that they need not list those libraries.
+pub use Rattle.pst_read_slots.proofs.Same.{option_same, same_then}

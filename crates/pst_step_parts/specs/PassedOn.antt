@@ -1,0 +1,2 @@
+-- What crates above use of libraries below this one, passed on, so that they need not list those libraries.
+pub use Rattle.pst_constraints.specs.Turned.{without_turn}
