@@ -6,11 +6,12 @@ ghost use Rattle.pst_pool_sources.specs.Offers.{fitting};
 ghost use Rattle.pst_open_ends.specs.Spots.{read_spot, given_sources, spot_at};
 ghost use Rattle.pst_open_ends.specs.Options.{link_of, IsKnown, AreKnown, source_at, old_among, fixed_among, initially_if};
 
-use crate::flows::{fits, is_nothing, is_state, is_stream, is_writer};
+use crate::flows::{fits, is_nothing, is_state, is_stream};
 use crate::lookup::{some_links, spot_at};
 use crate::spot::{Source, Spot};
 use crate::taken::is_taken;
 use pst_base::NoMemory;
+use pst_pool_sources::is_writer;
 use pst_scen::Act;
 use pst_ties::End;
 

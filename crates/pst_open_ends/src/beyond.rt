@@ -1,8 +1,8 @@
 //! The sources among new actions.
-ghost use Rattle.std.specs.Prelude.{◌≡◌, ℕ, ◌++◌, OnOk, map, Some, None};
+ghost use Rattle.std.specs.Prelude.{◌≡◌, ℕ, ◌++◌, OnOk, map, Some, None, IsTrue};
 ghost use Rattle.std.specs.List.{flat_map, enumerate_from};
 ghost use Rattle.std.specs.Option.{unwrap_or};
-ghost use Rattle.pst_model.specs.Served.{pool_in};
+ghost use Rattle.pst_model.specs.Served.{IsInOrder, pool_in};
 ghost use Rattle.pst_model.specs.ModelView.{view_model, view_action, view_content};
 ghost use Rattle.pst_scen.specs.declared.act.Flow.TheVariants as flow;
 ghost use Rattle.pst_legal.specs.Growing.{open_reference, open_references};
@@ -16,9 +16,17 @@ use crate::spot::{Source, Spot};
 use pst_base::NoMemory;
 use pst_model::{ActionType, Content, Model, ObjectKind, Reference, Serve};
 use pst_scen::Flow;
+use pst_sound_parts::{is_in_order, pool_in};
 
-/// The pool that serves a reference of an action type in an instance; 0 where there is none.
-pub(crate) fn pool_of(served: &[Serve], action: usize, instance: usize, reference: usize) -> u32
+/// Whether the entries for what serves references stand in order.
+pub(crate) fn serves_in_order(model: &Model) -> bool
+    ensures { IsTrue result → IsInOrder (view_model model.now).served }
+{
+    is_in_order(model.served.as_slice())
+}
+
+// The pool of the first entry of an action type, an instance and a reference; 0 where there is none.
+fn first_pool(served: &[Serve], action: usize, instance: usize, reference: usize) -> u32
     ensures { result ≡ unwrap_or (pool_in served.now action instance reference) 0 }
 {
     for serve in served {
@@ -30,6 +38,24 @@ pub(crate) fn pool_of(served: &[Serve], action: usize, instance: usize, referenc
         }
     }
     0
+}
+
+/// The pool that serves a reference of an action type in an instance; 0 where there is none.
+/// `in_order`: the entries stand in order.
+pub(crate) fn pool_of(
+    served: &[Serve],
+    in_order: bool,
+    action: usize,
+    instance: usize,
+    reference: usize,
+) -> u32
+    requires { IsTrue in_order → IsInOrder served.now }
+    ensures { result ≡ unwrap_or (pool_in served.now action instance reference) 0 }
+{
+    if in_order {
+        return pool_in(served, action, instance, reference).unwrap_or(0);
+    }
+    first_pool(served, action, instance, reference)
 }
 
 // The kind of a reference by that of its object and its direction.
@@ -70,16 +96,24 @@ pub(crate) fn reference_flow(model: &Model, reference: &Reference) -> Flow
 fn add_new_in(
     found: &mut Vec<Source>,
     model: &Model,
+    in_order: bool,
     need: &Spot,
     action: usize,
     instance: usize,
     references: &[Reference],
 ) -> Result<(), NoMemory>
+    requires { IsTrue in_order → IsInOrder (view_model model.now).served }
     ensures { OnOk result (given_sources found.new.items ≡ given_sources found.old.items ++ new_in (view_model model.now) (read_spot need.now).filled action instance 0 references.now) }
 {
     let mut reference = 0;
     for kind in references {
-        let pool = pool_of(model.served.as_slice(), action, instance, reference);
+        let pool = pool_of(
+            model.served.as_slice(),
+            in_order,
+            action,
+            instance,
+            reference,
+        );
         if fits(need, pool, reference_flow(model, kind)) {
             found.push(Source::New {
                 action,
@@ -106,30 +140,34 @@ fn references_of(model: &Model, action: usize) -> &[Reference]
 fn add_sources_in(
     found: &mut Vec<Source>,
     model: &Model,
+    in_order: bool,
     need: &Spot,
     action: usize,
     instance: usize,
 ) -> Result<(), NoMemory>
+    requires { IsTrue in_order → IsInOrder (view_model model.now).served }
     ensures { OnOk result (given_sources found.new.items ≡ given_sources found.old.items ++ sources_in (view_model model.now) (read_spot need.now).filled action instance) }
 {
     let references = references_of(model, action);
-    add_new_in(found, model, need, action, instance, references)
+    add_new_in(found, model, in_order, need, action, instance, references)
 }
 
 // Adds the sources among the new actions of a type, by instance.
 fn add_instances(
     found: &mut Vec<Source>,
     model: &Model,
+    in_order: bool,
     need: &Spot,
     action: usize,
     kind: &ActionType,
 ) -> Result<(), NoMemory>
+    requires { IsTrue in_order → IsInOrder (view_model model.now).served }
     ensures { OnOk result (given_sources found.new.items ≡ given_sources found.old.items ++ flat_map (sources_in (view_model model.now) (read_spot need.now).filled action) (action_instances (view_model model.now) (Some (view_action kind.now)) None)) }
 {
     let mut number = 0;
     for part in model.instances.as_slice() {
         if part.component == kind.component {
-            add_sources_in(found, model, need, action, number)?;
+            add_sources_in(found, model, in_order, need, action, number)?;
         }
         number += 1;
     }
@@ -150,10 +188,11 @@ fn is_inferable(kind: &ActionType) -> bool
 pub(crate) fn add_new(found: &mut Vec<Source>, model: &Model, need: &Spot) -> Result<(), NoMemory>
     ensures { OnOk result (given_sources found.new.items ≡ given_sources found.old.items ++ all_new (view_model model.now) (read_spot need.now).filled) }
 {
+    let in_order = serves_in_order(model);
     let mut action = 0;
     for kind in model.actions.as_slice() {
         if is_inferable(kind) {
-            add_instances(found, model, need, action, kind)?;
+            add_instances(found, model, in_order, need, action, kind)?;
         }
         action += 1;
     }

@@ -1,11 +1,11 @@
 //! Kinds of references, and links.
 ghost use Rattle.std.specs.Prelude.{◌≡◌, ◌&&◌, nat_eq};
 ghost use Rattle.pst_legal.specs.Supplied.{is_need, is_source_for};
-ghost use Rattle.pst_legal.specs.SupplyReading.{is_state, is_writer, is_stream, same_link};
-ghost use Rattle.pst_scen.specs.declared.act.Flow.TheVariants as flow;
+ghost use Rattle.pst_legal.specs.SupplyReading.{is_state, is_stream, same_link};
 ghost use Rattle.pst_scen.specs.declared.act.Link.TheVariants as link;
 
 use crate::spot::Spot;
+use pst_pool_sources::is_source_for;
 use pst_scen::{Flow, Link};
 
 // Whether a reference of this kind wants a source.
@@ -29,16 +29,6 @@ pub(crate) fn is_state(flow: Flow) -> bool
     }
 }
 
-// Whether it is the output of a state.
-pub(crate) fn is_writer(flow: Flow) -> bool
-    ensures { result ≡ is_writer flow }
-{
-    match flow {
-        Flow::StateOut => true,
-        _ => false,
-    }
-}
-
 // Whether it is an end of a stream.
 pub(crate) fn is_stream(flow: Flow) -> bool
     ensures { result ≡ is_stream flow }
@@ -47,50 +37,6 @@ pub(crate) fn is_stream(flow: Flow) -> bool
         Flow::StreamIn => true,
         Flow::StreamOut => true,
         _ => false,
-    }
-}
-
-// Whether it is the output of a buffer.
-fn is_buffer_output(of: Flow) -> bool
-    ensures { result ≡ is_source_for flow.BufferIn of }
-{
-    match of {
-        Flow::BufferOut => true,
-        _ => false,
-    }
-}
-
-// Whether it is the output of a stream.
-fn is_stream_output(of: Flow) -> bool
-    ensures { result ≡ is_source_for flow.StreamIn of }
-{
-    match of {
-        Flow::StreamOut => true,
-        _ => false,
-    }
-}
-
-// Whether it is the input of a stream.
-fn is_stream_input(of: Flow) -> bool
-    ensures { result ≡ is_source_for flow.StreamOut of }
-{
-    match of {
-        Flow::StreamIn => true,
-        _ => false,
-    }
-}
-
-// Whether a reference of the second kind may be the source of one of the first.
-pub(crate) fn is_source_for(need: Flow, source: Flow) -> bool
-    ensures { result ≡ is_source_for need source }
-{
-    match need {
-        Flow::BufferIn => is_buffer_output(source),
-        Flow::BufferOut => false,
-        Flow::StreamIn => is_stream_output(source),
-        Flow::StreamOut => is_stream_input(source),
-        Flow::StateIn => is_writer(source),
-        Flow::StateOut => is_writer(source),
     }
 }
 

@@ -8,6 +8,7 @@ ghost use Rattle.pst_open_ends.specs.Spots.{read_spot, given_source};
 ghost use Rattle.pst_open_ends.specs.Changes.{Unlinks, unlinked, Joins, lowest_of, undone, Supplies};
 
 use crate::acts::open_act;
+use crate::beyond::serves_in_order;
 use crate::flows::is_stream;
 use crate::spot::{Source, Spot};
 use pst_base::{Items, NoMemory};
@@ -206,7 +207,14 @@ fn supply_new(
     ensures err { OnErr result (acts.new.items ≡ acts.old.items) }
 {
     let count = acts.len();
-    let act = open_act(alloc, model, narrow(action)?, narrow(instance)?, None)?;
+    let act = open_act(
+        alloc,
+        model,
+        serves_in_order(model),
+        narrow(action)?,
+        narrow(instance)?,
+        None,
+    )?;
     acts.push(act)?;
     match join(alloc, acts, need, count, reference) {
         Ok(ends) => Ok(Change {

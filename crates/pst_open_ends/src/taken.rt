@@ -9,11 +9,11 @@ ghost use Rattle.pst_open_ends.specs.Spots.{read_spot};
 ghost use Rattle.pst_open_ends.specs.Places.{AreRising};
 ghost use Rattle.pst_open_ends.specs.Options.{links_from, link_of, is_taken, AreKnown};
 
-use crate::flows::is_writer;
 use crate::lookup::spot_at;
 use crate::places::place_of;
 use crate::spot::Spot;
 use pst_base::NoMemory;
+use pst_pool_sources::is_writer;
 use pst_scen::{Act, Link};
 use pst_ties::End;
 use std::alloc::Global;

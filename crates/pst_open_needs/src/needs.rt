@@ -1,67 +1,12 @@
 //! Whether a need is left that no action serves.
-ghost use Rattle.std.specs.Prelude.{◌≡◌, true, count_by};
+ghost use Rattle.std.specs.Prelude.{◌≡◌, ◌↔◌, IsTrue, count_by};
 ghost use Rattle.std.specs.List.{list_any};
 ghost use Rattle.std.specs.Option.{is_none};
-ghost use Rattle.pst_scen.specs.declared.act.Flow.TheVariants as flow;
 ghost use Rattle.pst_legal.specs.SupplyReading as supply;
-ghost use Rattle.pst_legal.specs.Supplied as supplied;
 ghost use Rattle.pst_open_needs.specs.Needs as spec;
 
+use pst_pool_sources::is_source_for;
 use pst_scen::{Act, Filled, Flow, Link, Scenario};
-
-// Whether it is the output of a buffer.
-fn is_buffer_output(of: Flow) -> bool
-    ensures { result ≡ supplied.is_source_for flow.BufferIn of }
-{
-    match of {
-        Flow::BufferOut => true,
-        _ => false,
-    }
-}
-
-// Whether it is the output of a stream.
-fn is_stream_output(of: Flow) -> bool
-    ensures { result ≡ supplied.is_source_for flow.StreamIn of }
-{
-    match of {
-        Flow::StreamOut => true,
-        _ => false,
-    }
-}
-
-// Whether it is the input of a stream.
-fn is_stream_input(of: Flow) -> bool
-    ensures { result ≡ supplied.is_source_for flow.StreamOut of }
-{
-    match of {
-        Flow::StreamIn => true,
-        _ => false,
-    }
-}
-
-// Whether it is the output of a state.
-fn is_writer(of: Flow) -> bool
-    ensures { result ≡ supply.is_writer of }
-{
-    match of {
-        Flow::StateOut => true,
-        _ => false,
-    }
-}
-
-// Whether a reference of the second kind may be the source of one of the first.
-fn is_source_for(need: Flow, source: Flow) -> bool
-    ensures { result ≡ supplied.is_source_for need source }
-{
-    match need {
-        Flow::BufferIn => is_buffer_output(source),
-        Flow::BufferOut => false,
-        Flow::StreamIn => is_stream_output(source),
-        Flow::StreamOut => is_stream_input(source),
-        Flow::StateIn => is_writer(source),
-        Flow::StateOut => is_writer(source),
-    }
-}
 
 // Whether a need of that kind must have a reference of another action as its source.
 fn needs_another(flow: Flow) -> bool
@@ -151,7 +96,7 @@ fn inferred_of(acts: &[Act]) -> usize
 /// Whether as many actions are inferred as the level of the scenario says, and an action has a need that isn't linked
 /// and that no reference fits. The first object of a state pool serves all needs of states.
 pub fn has_unserved_need(scenario: &Scenario) -> bool
-    ensures { result ≡ true → spec.IsLacking scenario.now }
+    ensures { IsTrue result ↔ spec.IsLacking scenario.now }
 {
     let acts = scenario.actions.as_slice();
     if (inferred_of(acts) as u64) < u64::from(scenario.level) {

@@ -6,7 +6,9 @@
 #![tactic(auto)]
 
 mod ends;
+mod kinds;
 mod sources;
 
 pub use ends::SourceEnds;
+pub use kinds::{is_source_for, is_writer};
 pub use sources::PoolSources;

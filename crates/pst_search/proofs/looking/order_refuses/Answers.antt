@@ -17,7 +17,7 @@ pub returns-then-lacking : goal.returns-then-lacking
 returns-then-lacking c =
     let k = c.args.lists.now in
     λ on. needs_barren k c.unserved_needs_refuse_lists.ensures c.requires (subst (λ o. IfSome o (λ t. ReadsTree (view_model k.model) k.root k.seed k.level k.choices)) c.in-Some.is c.in_ok-linking.ensures.tree) c.in-Some.scenario
-    (subst (λ o. IfSome o (λ t. IfRead (answer k) (λ s. t ≡ s))) c.in-Some.is c.in_ok-linking.ensures.read) (c.has_unserved_need-lacking.ensures c.if-lacking.true)
+    (subst (λ o. IfSome o (λ t. IfRead (answer k) (λ s. t ≡ s))) c.in-Some.is c.in_ok-linking.ensures.read) (c.has_unserved_need-lacking.ensures.0 c.if-lacking.true)
 
 pub returns : goal.returns
 returns c =
