@@ -35,14 +35,14 @@ pub(crate) fn gather_all<N: Name, T: Target, G: Gate>(
     job: &Job<'_, G>,
     post: &Post,
     desk: &mut Desk<'_, N>,
-    returned: Vec<Returned<T>>,
+    returned: Vec<Returned<N, T>>,
     lanes: &mut Vec<T>,
     crew: Snapshot<Vec<SeatedLane<T>>>,
 ) -> Option<LaneStop>
     requires post { post.now ≡ N.table }
     requires lanes { N.table.words ≡ N.lanes }
     requires room { (vec_len lanes.old ≡ 0) × (vec_len returned ≤ vec_capacity lanes.old) }
-    requires each { Forwards (λ k m r. Worked (view_model job.now.model.now) job.now.scenario.now N.table k (told T.calls T.faults m.lane) (told T.calls T.faults r.lane) r.seat r.stop) returned.items crew.value.items }
+    requires each { Forwards (λ k m r. Worked (view_model job.now.model.now) job.now.scenario.now N.table k (told T.calls T.faults m.lane) (told T.calls T.faults r.lane) r.seat r.stop r.leave) returned.items crew.value.items }
     ensures count { vec_len lanes.new ≡ vec_len returned }
     ensures room { vec_capacity lanes.new ≡ vec_capacity lanes.old }
     ensures home { (k : ℕ) → k < vec_len returned → IsHome (entry_at desk.new.entries k) }
@@ -51,7 +51,12 @@ pub(crate) fn gather_all<N: Name, T: Target, G: Gate>(
 {
     let mut first = None;
     for worker in returned {
-        let Returned { lane, seat, stop } = worker;
+        let Returned {
+            lane,
+            seat,
+            stop,
+            leave: _,
+        } = worker;
         first = earlier(first, stop, seat.lane());
         gather_one(post, desk, seat);
         lanes.push_reserved(lane);

@@ -40,7 +40,7 @@ use std::thread::Threads;
 struct Room<N: Name, T: Target> {
     crew: Vec<SeatedLane<T>>,
     begun: Vec<Begun<N, T>>,
-    returned: Vec<Returned<T>>,
+    returned: Vec<Returned<N, T>>,
 }
 
 // Room for so many lanes.
@@ -70,7 +70,7 @@ fn run_together<
     book: Book<'a>,
     crew: Vec<SeatedLane<T>>,
     begun: Vec<Begun<N, T>>,
-    returned: Vec<Returned<T>>,
+    returned: Vec<Returned<N, T>>,
     lanes: &mut Vec<T>,
 ) -> (Book<'a>, Option<LaneStop>)
     requires sound { IsSound (view_model job.now.model.now) }

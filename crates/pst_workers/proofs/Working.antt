@@ -1,14 +1,19 @@
 -- The turns of a worker.
 use Rattle.std.proofs.Common.{◌≡◌, ℕ, List, [], ◌∷◌, ◌++◌, ap, sym, subst, ◌∙◌}
-use Rattle.std.specs.Prelude.{None, Some, Ok, Err}
+use Rattle.std.specs.Prelude.{Bool, true, None, Some, Ok, Err}
 use Rattle.atomic_table.specs.Seated.{TableId}
 use Rattle.pst_model.specs.ModelTree.{ModelTree}
+use Rattle.pst_scen.specs.declared.event.Event.{Event}
 use Rattle.pst_scen.specs.declared.scenario.Scenario.{Scenario}
+use Rattle.pst_scen.specs.Plan.{Entries}
+use Rattle.pst_scen.specs.Trace.{IsWhole}
 use Rattle.pst_legal.specs.Body.{body_run}
 use Rattle.pst_body.specs.declared.ending.BodyEnd.{BodyEnd}
 use Rattle.pst_body.specs.Ran.{Ran}
 use Rattle.pst_post.specs.Seats.{LaneState, fresh_seat}
 use Rattle.pst_post.specs.Steps.{after_hand_back}
+use Rattle.pst_book.specs.Books.{View}
+use Rattle.pst_desk.specs.Desks.{book_of}
 use Rattle.pst_workers.specs.Told.{Told, LaneRan}
 use Rattle.pst_workers.specs.Worked.{Worked}
 use Rattle.pst_workers.proofs.Runs.{lane_none, lane_more}
@@ -50,20 +55,21 @@ working_next m s table lane a before between after old fetched handed w kept mor
     }
 
 -- nothing more came, or what came isn't run
-pub working_ends : (m : ModelTree) (s : Scenario) (table : TableId) (lane : ℕ) (before after : Told) (old new : LaneState)
-    → Working m s table lane before after old → Kept old new → Worked m s table lane before after new None
-working_ends m s table lane before after old new w kept = record {
+pub working_ends : (m : ModelTree) (s : Scenario) (table : TableId) (lane : ℕ) (stopped : Bool) (before after : Told) (old new : LaneState)
+    → Working m s table lane before after old → Kept old new → Worked m s table lane before after new None stopped
+working_ends m s table lane stopped before after old new w kept = record {
   table_is = kept.table ∙ w.table_is;
   lane_is = kept.lane ∙ w.lane_is;
   run = subst (λ (l : List ℕ). LaneRan m s l before after) (sym kept.finished) w.ran;
+  left = tt;
 }
 
--- a body didn't end
-pub working_breaks : (m : ModelTree) (s : Scenario) (table : TableId) (lane a : ℕ) (end : BodyEnd) (before between after : Told) (old new : LaneState)
+-- a body didn't end, and the desk was stopped
+pub working_breaks : (m : ModelTree) (s : Scenario) (table : TableId) (lane a : ℕ) (end : BodyEnd) (stopped : Bool) (before between after : Told) (old new : LaneState)
     → Working m s table lane before between old → Kept old new → new.fetched ≡ old.fetched ++ a ∷ []
     → Ran {A = Unit {0}} (body_run m s a) between.calls after.calls between.faults after.faults (Err end)
-    → Worked m s table lane before after new (Some (record { action = a; end = end }))
-working_breaks m s table lane a end before between after old new w kept more broke = record {
+    → stopped ≡ true → Worked m s table lane before after new (Some (record { action = a; end = end })) stopped
+working_breaks m s table lane a end stopped before between after old new w kept more broke is = record {
   table_is = kept.table ∙ w.table_is;
   lane_is = kept.lane ∙ w.lane_is;
   run = (
@@ -74,4 +80,13 @@ working_breaks m s table lane a end before between after old new w kept more bro
       broke = broke;
     },
   );
+  left = is;
 }
+
+-- the seat stays at its table when it hands back
+pub handed_table : (table : TableId) (old new : LaneState) → new ≡ after_hand_back old → old.table ≡ table → new.table ≡ table
+handed_table table old new is same = ap (λ (x : LaneState). x.table) is ∙ same
+
+-- a desk whose book is finished has a whole trace
+pub over : (s : Scenario) (plan : Entries) (lanes : ℕ) (trace : List Event) (book : View) → book ≡ book_of s plan lanes trace → IsWhole book.scenario book.trace → IsWhole s trace
+over s plan lanes trace book is whole = subst (λ (v : View). IsWhole v.scenario v.trace) is whole

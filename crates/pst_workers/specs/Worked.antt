@@ -1,5 +1,5 @@
 -- What a worker gives back, and rows of what workers were given and gave back.
-use Rattle.std.specs.Prelude.{◌≡◌, ℕ, ◌+◌, ◌<◌, List, [], ◌∷◌, ◌++◌, length, slice_index_or, Option, None, Some}
+use Rattle.std.specs.Prelude.{◌≡◌, ℕ, ◌+◌, ◌<◌, List, [], ◌∷◌, ◌++◌, length, slice_index_or, Bool, true, Option, None, Some}
 use Rattle.atomic_table.specs.Seated.{TableId}
 use Rattle.pst_model.specs.ModelTree.{ModelTree}
 use Rattle.pst_scen.specs.declared.scenario.Scenario.{Scenario}
@@ -13,11 +13,17 @@ abbrev pub HasRun : ModelTree → Scenario → LaneState → Option Broken → T
 HasRun m s seat None before after = LaneRan m s seat.finished before after
 HasRun m s seat (Some broken) before after = (seat.fetched ≡ seat.finished ++ broken.action ∷ []) × LaneBroke m s seat.finished broken before after
 
--- What a worker gives back: what its lane told before and tells now, its seat, and the body that didn't end.
-pub record Worked (m : ModelTree) (s : Scenario) (table : TableId) (lane : ℕ) (before after : Told) (seat : LaneState) (stop : Option Broken) : Type 0 where
+-- where a body didn't end, the desk was stopped
+abbrev pub HasStopped : Option Broken → Bool → Type 0
+HasStopped None stopped = Unit {0}
+HasStopped (Some broken) stopped = stopped ≡ true
+
+-- What a worker gives back: what its lane told before and tells now, its seat, the body that didn't end, and whether the desk was stopped when it left.
+pub record Worked (m : ModelTree) (s : Scenario) (table : TableId) (lane : ℕ) (before after : Told) (seat : LaneState) (stop : Option Broken) (stopped : Bool) : Type 0 where
   pub table_is : seat.table ≡ table
   pub lane_is : seat.lane ≡ lane
   pub run : HasRun m s seat stop before after
+  pub left : HasStopped stop stopped
 
 module _ {M C : Type 0} (fits : ℕ → M → C → Type 0) where
   -- the last of the first n lanes has the first of these, and so on down

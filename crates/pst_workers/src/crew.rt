@@ -31,16 +31,16 @@ pub struct Owes<N: Name, T: Target> {
     name: PhantomData<N>,
 }
 
-impl<N: Name, T: Target> Promise<Returned<T>> for Owes<N, T> {
+impl<N: Name, T: Target> Promise<Returned<N, T>> for Owes<N, T> {
     ghost use Rattle.pst_model.specs.ModelView.{view_model};
     ghost use Rattle.pst_workers.specs.Told.{told};
     ghost use Rattle.pst_workers.specs.Worked.{Worked};
 
-    ghost kept_by = { λ p r. Worked (view_model p.model.value) p.scenario.value N.table p.lane (told T.calls T.faults p.before.value) (told T.calls T.faults r.lane) r.seat r.stop };
+    ghost kept_by = { λ p r. Worked (view_model p.model.value) p.scenario.value N.table p.lane (told T.calls T.faults p.before.value) (told T.calls T.faults r.lane) r.seat r.stop r.leave };
 }
 
 /// A worker that was begun: Ok where a thread runs it, Err where the caller ran it to its end.
-pub type Begun<N, T> = Result<PromisedHandle<Returned<T>, Owes<N, T>>, Returned<T>>;
+pub type Begun<N, T> = Result<PromisedHandle<Returned<N, T>, Owes<N, T>>, Returned<N, T>>;
 
 /// A lane with its seat.
 #[derive(Drop)]
@@ -76,7 +76,7 @@ fn hand_over<
     requires seat { seated.seat ≡ fresh_seat N.table seated.seat.lane }
     ensures { MatchResult result
         (λ h. (h.promise.lane ≡ seated.seat.lane) × (h.promise.model.value ≡ job.now.model.now) × (h.promise.scenario.value ≡ job.now.scenario.now) × (told T.calls T.faults h.promise.before.value ≡ told T.calls T.faults seated.lane))
-        (λ r. Worked (view_model job.now.model.now) job.now.scenario.now N.table seated.seat.lane (told T.calls T.faults seated.lane) (told T.calls T.faults r.lane) r.seat r.stop) }
+        (λ r. Worked (view_model job.now.model.now) job.now.scenario.now N.table seated.seat.lane (told T.calls T.faults seated.lane) (told T.calls T.faults r.lane) r.seat r.stop r.leave) }
 {
     let SeatedLane { lane, seat } = seated;
     let owes: Owes<N, T> = Owes {
@@ -88,14 +88,14 @@ fn hand_over<
     };
     match scope.spawn_with(
         owes,
-        move || -> Returned<T>
+        move || -> Returned<N, T>
             requires { IsSound (view_model job.now.model.now) × HasTypes (view_model job.now.model.now) job.now.scenario.now × (post.now ≡ N.table) × (N.table.words ≡ N.lanes) × (seat ≡ fresh_seat N.table seat.lane) }
-            ensures { Worked (view_model job.entry.now.model.now) job.entry.now.scenario.now N.table seat.lane (told T.calls T.faults lane) (told T.calls T.faults result.lane) result.seat result.stop }
+            ensures { Worked (view_model job.entry.now.model.now) job.entry.now.scenario.now N.table seat.lane (told T.calls T.faults lane) (told T.calls T.faults result.lane) result.seat result.stop result.leave }
         { work(rt, job, post, desk, lane, seat) },
     ) {
         Ok(child) => Ok(child),
         Err(no_thread) => {
-            desk.stop(rt);
+            let _leave = desk.stop(rt);
             Err((no_thread.value)())
         }
     }
@@ -127,7 +127,7 @@ fn start_one<
     requires seat { seated.seat ≡ fresh_seat N.table seated.seat.lane }
     ensures { MatchResult result
         (λ h. (h.promise.lane ≡ seated.seat.lane) × (h.promise.model.value ≡ job.now.model.now) × (h.promise.scenario.value ≡ job.now.scenario.now) × (told T.calls T.faults h.promise.before.value ≡ told T.calls T.faults seated.lane))
-        (λ r. Worked (view_model job.now.model.now) job.now.scenario.now N.table seated.seat.lane (told T.calls T.faults seated.lane) (told T.calls T.faults r.lane) r.seat r.stop) }
+        (λ r. Worked (view_model job.now.model.now) job.now.scenario.now N.table seated.seat.lane (told T.calls T.faults seated.lane) (told T.calls T.faults r.lane) r.seat r.stop r.leave) }
 {
     if first {
         let SeatedLane { lane, seat } = seated;
@@ -164,7 +164,7 @@ fn start_all<
     ensures count { vec_len result ≡ vec_len crew }
     ensures each { Backwards (λ k m b. MatchResult b
         (λ h. (h.promise.lane ≡ k) × (h.promise.model.value ≡ job.now.model.now) × (h.promise.scenario.value ≡ job.now.scenario.now) × (told T.calls T.faults h.promise.before.value ≡ told T.calls T.faults m.lane))
-        (λ r. Worked (view_model job.now.model.now) job.now.scenario.now N.table k (told T.calls T.faults m.lane) (told T.calls T.faults r.lane) r.seat r.stop)) (vec_len crew) result.items crew.items }
+        (λ r. Worked (view_model job.now.model.now) job.now.scenario.now N.table k (told T.calls T.faults m.lane) (told T.calls T.faults r.lane) r.seat r.stop r.leave)) (vec_len crew) result.items crew.items }
 {
     let mut crew = crew;
     let mut begun = begun;
@@ -176,9 +176,9 @@ fn start_all<
 }
 
 // What a worker gives back, once it has come to its end.
-fn end_of<N: Name, T: Target, R: Threads>(rt: &R, begun: Begun<N, T>) -> Returned<T>
+fn end_of<N: Name, T: Target, R: Threads>(rt: &R, begun: Begun<N, T>) -> Returned<N, T>
     ensures { MatchResult begun
-        (λ h. Worked (view_model h.promise.model.value) h.promise.scenario.value N.table h.promise.lane (told T.calls T.faults h.promise.before.value) (told T.calls T.faults result.lane) result.seat result.stop)
+        (λ h. Worked (view_model h.promise.model.value) h.promise.scenario.value N.table h.promise.lane (told T.calls T.faults h.promise.before.value) (told T.calls T.faults result.lane) result.seat result.stop result.leave)
         (λ r. result ≡ r) }
 {
     match begun {
@@ -194,15 +194,15 @@ fn join_all<N: Name, T: Target, R: Threads>(
     scenario: &Scenario,
     begun: Vec<Begun<N, T>>,
     crew: Snapshot<Vec<SeatedLane<T>>>,
-    returned: Vec<Returned<T>>,
-) -> Vec<Returned<T>>
+    returned: Vec<Returned<N, T>>,
+) -> Vec<Returned<N, T>>
     requires room { (vec_len returned ≡ 0) × (vec_len crew.value ≤ vec_capacity returned) }
     requires count { vec_len begun ≡ vec_len crew.value }
     requires each { Backwards (λ k m b. MatchResult b
         (λ h. (h.promise.lane ≡ k) × (h.promise.model.value ≡ model.now) × (h.promise.scenario.value ≡ scenario.now) × (told T.calls T.faults h.promise.before.value ≡ told T.calls T.faults m.lane))
-        (λ r. Worked (view_model model.now) scenario.now N.table k (told T.calls T.faults m.lane) (told T.calls T.faults r.lane) r.seat r.stop)) (vec_len crew.value) begun.items crew.value.items }
+        (λ r. Worked (view_model model.now) scenario.now N.table k (told T.calls T.faults m.lane) (told T.calls T.faults r.lane) r.seat r.stop r.leave)) (vec_len crew.value) begun.items crew.value.items }
     ensures count { vec_len result ≡ vec_len crew.value }
-    ensures each { Forwards (λ k m r. Worked (view_model model.now) scenario.now N.table k (told T.calls T.faults m.lane) (told T.calls T.faults r.lane) r.seat r.stop) result.items crew.value.items }
+    ensures each { Forwards (λ k m r. Worked (view_model model.now) scenario.now N.table k (told T.calls T.faults m.lane) (told T.calls T.faults r.lane) r.seat r.stop r.leave) result.items crew.value.items }
 {
     let mut begun = begun;
     let mut returned = returned;
@@ -227,8 +227,8 @@ pub fn run_workers<
     desk: &SharedDesk<'_, N>,
     crew: Vec<SeatedLane<T>>,
     begun: Vec<Begun<N, T>>,
-    returned: Vec<Returned<T>>,
-) -> Vec<Returned<T>>
+    returned: Vec<Returned<N, T>>,
+) -> Vec<Returned<N, T>>
     requires sound { IsSound (view_model job.now.model.now) }
     requires types { HasTypes (view_model job.now.model.now) job.now.scenario.now }
     requires post { post.now ≡ N.table }
@@ -237,7 +237,7 @@ pub fn run_workers<
     requires room { (vec_len begun ≡ 0) × (vec_len crew ≤ vec_capacity begun) }
     requires more { (vec_len returned ≡ 0) × (vec_len crew ≤ vec_capacity returned) }
     ensures count { vec_len result ≡ vec_len crew }
-    ensures each { Forwards (λ k m r. Worked (view_model job.now.model.now) job.now.scenario.now N.table k (told T.calls T.faults m.lane) (told T.calls T.faults r.lane) r.seat r.stop) result.items crew.items }
+    ensures each { Forwards (λ k m r. Worked (view_model job.now.model.now) job.now.scenario.now N.table k (told T.calls T.faults m.lane) (told T.calls T.faults r.lane) r.seat r.stop r.leave) result.items crew.items }
 {
     let was = Snapshot::of(&crew);
     let begun = thread::scope(
@@ -251,7 +251,7 @@ pub fn run_workers<
             ensures count { vec_len result ≡ vec_len crew }
             ensures each { Backwards (λ k m b. MatchResult b
                 (λ h. (h.promise.lane ≡ k) × (h.promise.model.value ≡ job.entry.now.model.now) × (h.promise.scenario.value ≡ job.entry.now.scenario.now) × (told T.calls T.faults h.promise.before.value ≡ told T.calls T.faults m.lane))
-                (λ r. Worked (view_model job.entry.now.model.now) job.entry.now.scenario.now N.table k (told T.calls T.faults m.lane) (told T.calls T.faults r.lane) r.seat r.stop)) (vec_len crew) result.items crew.items }
+                (λ r. Worked (view_model job.entry.now.model.now) job.entry.now.scenario.now N.table k (told T.calls T.faults m.lane) (told T.calls T.faults r.lane) r.seat r.stop r.leave)) (vec_len crew) result.items crew.items }
         { start_all(scope, rt, job, post, desk, crew, begun) },
     );
     join_all(rt, job.model, job.scenario, begun, was, returned)

@@ -7,6 +7,7 @@ ghost use Rattle.pst_post.specs.Seats.{fresh_seat};
 ghost use Rattle.pst_workers.specs.Told.{told};
 ghost use Rattle.pst_workers.specs.Worked.{Worked};
 
+use crate::leave::Leave;
 use crate::shared::SharedDesk;
 use pst_body::{BodyEnd, run_body};
 use pst_desk::Name;
@@ -41,13 +42,15 @@ pub struct Broken {
 
 /// What a worker gives back.
 #[derive(Drop)]
-pub struct Returned<T: Target> {
+pub struct Returned<N: Name, T: Target> {
     /// The lane.
     pub lane: T,
     /// The lane's seat at the mailboxes.
     pub seat: LaneSeat,
     /// The body that didn't end, if there was one.
     pub stop: Option<Broken>,
+    /// With what it left. Where a body didn't end, the desk was stopped.
+    pub leave: Leave<N>,
 }
 
 /// Runs what is posted to the lane, until nothing more comes or a body doesn't end, and then stops the run.
@@ -58,44 +61,50 @@ pub(crate) fn work<N: Name, T: Target, G: Gate, R: Wait>(
     desk: &SharedDesk<'_, N>,
     lane: T,
     seat: LaneSeat,
-) -> Returned<T>
+) -> Returned<N, T>
     requires sound { IsSound (view_model job.now.model.now) }
     requires types { HasTypes (view_model job.now.model.now) job.now.scenario.now }
     requires post { post.now ≡ N.table }
     requires lanes { N.table.words ≡ N.lanes }
     requires seat { seat ≡ fresh_seat N.table seat.lane }
-    ensures { Worked (view_model job.now.model.now) job.now.scenario.now N.table seat.lane (told T.calls T.faults lane) (told T.calls T.faults result.lane) result.seat result.stop }
+    ensures { Worked (view_model job.now.model.now) job.now.scenario.now N.table seat.lane (told T.calls T.faults lane) (told T.calls T.faults result.lane) result.seat result.stop result.leave }
 {
     let mut lane = lane;
     let mut seat = seat;
     let number = seat.lane();
     for _ in rt.forever() {
-        let Some(action) = desk.next(rt, post, &mut seat) else {
-            return Returned {
-                lane,
-                seat,
-                stop: None,
-            };
+        let action = match desk.next(rt, post, &mut seat) {
+            Ok(action) => action,
+            Err(leave) => {
+                return Returned {
+                    lane,
+                    seat,
+                    stop: None,
+                    leave,
+                };
+            }
         };
-        // There is no such action, or no body of it is run.
+        // There is no such action, so no body of it is run.
         if action as usize >= job.scenario.actions.as_slice().len() {
             return Returned {
                 lane,
                 seat,
                 stop: None,
+                leave: desk.stop(rt),
             };
         }
         job.gate.pass(number);
         if let Err(end) = run_body(job.alloc, job.model, job.scenario, action, &mut lane) {
-            desk.stop(rt);
+            let leave = desk.stop(rt);
             return Returned {
                 lane,
                 seat,
                 stop: Some(Broken { action, end }),
+                leave,
             };
         }
         post.hand_back(&mut seat);
-        desk.tell(rt, post, number);
+        desk.tell(rt, post, &seat);
     }
     unreachable!()
 }

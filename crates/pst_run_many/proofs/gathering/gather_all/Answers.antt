@@ -21,8 +21,8 @@ use Rattle.pst_run_many.proofs.gathering.gather_all.Goals as goal
 use Rattle.pst_run_many.proofs.gathering.gather_all.Goals.{In-Some}
 
 -- what a worker gave back
-abbrev gave : (g : Over) → Model → Scenario → ℕ → SeatedLane g.row.T.Denot → Returned g.row.T.Denot → Type 0
-gave g model s k m r = Worked (view_model model) s g.N.Name.table k (told g.T.Target.calls g.T.Target.faults m.lane) (told g.T.Target.calls g.T.Target.faults r.lane) r.seat r.stop
+abbrev gave : (g : Over) → Model → Scenario → ℕ → SeatedLane g.row.T.Denot → Returned g.row.N.Denot g.row.T.Denot → Type 0
+gave g model s k m r = Worked (view_model model) s g.N.Name.table k (told g.T.Target.calls g.T.Target.faults m.lane) (told g.T.Target.calls g.T.Target.faults r.lane) r.seat r.stop r.leave
 
 -- what a lane has come to
 abbrev came : (g : Over) → Model → Scenario → Option LaneStop → List Entry → ℕ → SeatedLane g.row.T.Denot → g.row.T.Denot → Type 0

@@ -20,8 +20,8 @@ use Rattle.pst_run_many.proofs.Settling.{came_tied, not_out}
 use Rattle.pst_run_many.proofs.many.run_together.Given.{Over}
 use Rattle.pst_run_many.proofs.many.run_together.Goals as goal
 
-abbrev gave : (g : Over) → Model → Scenario → ℕ → SeatedLane g.row.T.Denot → Returned g.row.T.Denot → Type 0
-gave g model s k m r = Worked (view_model model) s g.N.Name.table k (told g.T.Target.calls g.T.Target.faults m.lane) (told g.T.Target.calls g.T.Target.faults r.lane) r.seat r.stop
+abbrev gave : (g : Over) → Model → Scenario → ℕ → SeatedLane g.row.T.Denot → Returned g.row.N.Denot g.row.T.Denot → Type 0
+gave g model s k m r = Worked (view_model model) s g.N.Name.table k (told g.T.Target.calls g.T.Target.faults m.lane) (told g.T.Target.calls g.T.Target.faults r.lane) r.seat r.stop r.leave
 
 pub gather_all-first-requires-clause-each : goal.gather_all-first-requires-clause-each
 gather_all-first-requires-clause-each g c =

@@ -14,25 +14,25 @@ use Rattle.pst_workers.proofs.crew.join_all.Given.{Over}
 use Rattle.pst_workers.proofs.crew.join_all.Goals as goal
 
 abbrev Begun : (g : Over) → Type 0
-Begun g = Result (PromisedHandle (Returned g.row.T.Denot) (Owes g.row.N.Denot g.row.T.Denot)) (Returned g.row.T.Denot)
+Begun g = Result (PromisedHandle (Returned g.row.N.Denot g.row.T.Denot) (Owes g.row.N.Denot g.row.T.Denot)) (Returned g.row.N.Denot g.row.T.Denot)
 
 abbrev fits : (g : Over) → Model → Scenario → ℕ → SeatedLane g.row.T.Denot → Begun g → Type 0
 fits g model s k m b = MatchResult b
     (λ h. (h.promise.lane ≡ k) × (h.promise.model.value ≡ model) × (h.promise.scenario.value ≡ s) × (told g.T.Target.calls g.T.Target.faults h.promise.before.value ≡ told g.T.Target.calls g.T.Target.faults m.lane))
-    (λ r. Worked (view_model model) s g.N.Name.table k (told g.T.Target.calls g.T.Target.faults m.lane) (told g.T.Target.calls g.T.Target.faults r.lane) r.seat r.stop)
+    (λ r. Worked (view_model model) s g.N.Name.table k (told g.T.Target.calls g.T.Target.faults m.lane) (told g.T.Target.calls g.T.Target.faults r.lane) r.seat r.stop r.leave)
 
-abbrev gave : (g : Over) → Model → Scenario → ℕ → SeatedLane g.row.T.Denot → Returned g.row.T.Denot → Type 0
-gave g model s k m r = Worked (view_model model) s g.N.Name.table k (told g.T.Target.calls g.T.Target.faults m.lane) (told g.T.Target.calls g.T.Target.faults r.lane) r.seat r.stop
+abbrev gave : (g : Over) → Model → Scenario → ℕ → SeatedLane g.row.T.Denot → Returned g.row.N.Denot g.row.T.Denot → Type 0
+gave g model s k m r = Worked (view_model model) s g.N.Name.table k (told g.T.Target.calls g.T.Target.faults m.lane) (told g.T.Target.calls g.T.Target.faults r.lane) r.seat r.stop r.leave
 
 -- what a worker gives back that was begun so
-ended : (g : Over) (model : Model) (s : Scenario) (k : ℕ) (m : SeatedLane g.row.T.Denot) (b : Begun g) (r : Returned g.row.T.Denot) → fits g model s k m b
+ended : (g : Over) (model : Model) (s : Scenario) (k : ℕ) (m : SeatedLane g.row.T.Denot) (b : Begun g) (r : Returned g.row.N.Denot g.row.T.Denot) → fits g model s k m b
     → MatchResult b
-    (λ h. Worked (view_model h.promise.model.value) h.promise.scenario.value g.N.Name.table h.promise.lane (told g.T.Target.calls g.T.Target.faults h.promise.before.value) (told g.T.Target.calls g.T.Target.faults r.lane) r.seat r.stop)
+    (λ h. Worked (view_model h.promise.model.value) h.promise.scenario.value g.N.Name.table h.promise.lane (told g.T.Target.calls g.T.Target.faults h.promise.before.value) (told g.T.Target.calls g.T.Target.faults r.lane) r.seat r.stop r.leave)
     (λ x. r ≡ x)
     → gave g model s k m r
 ended g model s k m (Ok h) r f e =
-    subst (λ (z : Model × Scenario × ℕ × Told). Worked (view_model z.0) z.1 g.N.Name.table z.2 z.3 (told g.T.Target.calls g.T.Target.faults r.lane) r.seat r.stop) (λ i. (f.1 i, f.2 i, f.0 i, f.3 i)) e
-ended g model s k m (Err x) r f e = subst (λ (y : Returned g.row.T.Denot). gave g model s k m y) (sym e) f
+    subst (λ (z : Model × Scenario × ℕ × Told). Worked (view_model z.0) z.1 g.N.Name.table z.2 z.3 (told g.T.Target.calls g.T.Target.faults r.lane) r.seat r.stop r.leave) (λ i. (f.1 i, f.2 i, f.0 i, f.3 i)) e
+ended g model s k m (Err x) r f e = subst (λ (y : Returned g.row.N.Denot g.row.T.Denot). gave g model s k m y) (sym e) f
 
 pub loop-worker-preserved : goal.loop-worker-preserved
 loop-worker-preserved g c =

@@ -11,9 +11,9 @@ invariant-loop-worker g l = record {
   room : vec_len l.crew.value ≤ vec_capacity l.returned;
   left : Backwards (λ k m b. MatchResult b
       (λ h. (h.promise.lane ≡ k) × (h.promise.model.value ≡ l.model) × (h.promise.scenario.value ≡ l.scenario) × (told g.T.Target.calls g.T.Target.faults h.promise.before.value ≡ told g.T.Target.calls g.T.Target.faults m.lane))
-      (λ r. Worked (view_model l.model) l.scenario g.N.Name.table k (told g.T.Target.calls g.T.Target.faults m.lane) (told g.T.Target.calls g.T.Target.faults r.lane) r.seat r.stop))
+      (λ r. Worked (view_model l.model) l.scenario g.N.Name.table k (told g.T.Target.calls g.T.Target.faults m.lane) (told g.T.Target.calls g.T.Target.faults r.lane) r.seat r.stop r.leave))
       (vec_len l.crew.value) (vec_items l.begun) (vec_items l.crew.value);
-  each : Forwards (λ k m r. Worked (view_model l.model) l.scenario g.N.Name.table k (told g.T.Target.calls g.T.Target.faults m.lane) (told g.T.Target.calls g.T.Target.faults r.lane) r.seat r.stop) (vec_items l.returned) (vec_items l.crew.value);
+  each : Forwards (λ k m r. Worked (view_model l.model) l.scenario g.N.Name.table k (told g.T.Target.calls g.T.Target.faults m.lane) (told g.T.Target.calls g.T.Target.faults r.lane) r.seat r.stop r.leave) (vec_items l.returned) (vec_items l.crew.value);
 }
 
 abbrev pub decreases-loop-worker : goal.decreases-loop-worker

@@ -15,13 +15,13 @@ use Rattle.pst_workers.specs.Worked.{Worked, Backwards, Forwards}
 use Rattle.pst_workers.proofs.crew.run_workers.Given.{Over}
 use Rattle.pst_workers.proofs.crew.run_workers.Goals as goal
 
-abbrev fits : (g : Over) → Model → Scenario → ℕ → SeatedLane g.row.T.Denot → Result (PromisedHandle (Returned g.row.T.Denot) (Owes g.row.N.Denot g.row.T.Denot)) (Returned g.row.T.Denot) → Type 0
+abbrev fits : (g : Over) → Model → Scenario → ℕ → SeatedLane g.row.T.Denot → Result (PromisedHandle (Returned g.row.N.Denot g.row.T.Denot) (Owes g.row.N.Denot g.row.T.Denot)) (Returned g.row.N.Denot g.row.T.Denot) → Type 0
 fits g model s k m b = MatchResult b
     (λ h. (h.promise.lane ≡ k) × (h.promise.model.value ≡ model) × (h.promise.scenario.value ≡ s) × (told g.T.Target.calls g.T.Target.faults h.promise.before.value ≡ told g.T.Target.calls g.T.Target.faults m.lane))
-    (λ r. Worked (view_model model) s g.N.Name.table k (told g.T.Target.calls g.T.Target.faults m.lane) (told g.T.Target.calls g.T.Target.faults r.lane) r.seat r.stop)
+    (λ r. Worked (view_model model) s g.N.Name.table k (told g.T.Target.calls g.T.Target.faults m.lane) (told g.T.Target.calls g.T.Target.faults r.lane) r.seat r.stop r.leave)
 
-abbrev gave : (g : Over) → Model → Scenario → ℕ → SeatedLane g.row.T.Denot → Returned g.row.T.Denot → Type 0
-gave g model s k m r = Worked (view_model model) s g.N.Name.table k (told g.T.Target.calls g.T.Target.faults m.lane) (told g.T.Target.calls g.T.Target.faults r.lane) r.seat r.stop
+abbrev gave : (g : Over) → Model → Scenario → ℕ → SeatedLane g.row.T.Denot → Returned g.row.N.Denot g.row.T.Denot → Type 0
+gave g model s k m r = Worked (view_model model) s g.N.Name.table k (told g.T.Target.calls g.T.Target.faults m.lane) (told g.T.Target.calls g.T.Target.faults r.lane) r.seat r.stop r.leave
 
 pub join_all-requires-clause-each : goal.join_all-requires-clause-each
 join_all-requires-clause-each g c =

@@ -16,10 +16,10 @@ use Rattle.pst_workers.proofs.crew.start_all.Goals as goal
 use Rattle.pst_workers.proofs.crew.start_all.Goals.{In-Some}
 
 -- what was begun for a lane
-abbrev fits : (g : Over) → Model → Scenario → ℕ → SeatedLane g.row.T.Denot → Result (PromisedHandle (Returned g.row.T.Denot) (Owes g.row.N.Denot g.row.T.Denot)) (Returned g.row.T.Denot) → Type 0
+abbrev fits : (g : Over) → Model → Scenario → ℕ → SeatedLane g.row.T.Denot → Result (PromisedHandle (Returned g.row.N.Denot g.row.T.Denot) (Owes g.row.N.Denot g.row.T.Denot)) (Returned g.row.N.Denot g.row.T.Denot) → Type 0
 fits g model s k m b = MatchResult b
     (λ h. (h.promise.lane ≡ k) × (h.promise.model.value ≡ model) × (h.promise.scenario.value ≡ s) × (told g.T.Target.calls g.T.Target.faults h.promise.before.value ≡ told g.T.Target.calls g.T.Target.faults m.lane))
-    (λ r. Worked (view_model model) s g.N.Name.table k (told g.T.Target.calls g.T.Target.faults m.lane) (told g.T.Target.calls g.T.Target.faults r.lane) r.seat r.stop)
+    (λ r. Worked (view_model model) s g.N.Name.table k (told g.T.Target.calls g.T.Target.faults m.lane) (told g.T.Target.calls g.T.Target.faults r.lane) r.seat r.stop r.leave)
 
 -- the lane that was popped stood last
 lane_is : (g : Over) (c : In-Some g) (e : SeatedLane g.row.T.Denot) → c.in-Some.seated ≡ get_or c.args.crew.items (length c.pop.new.self.items) e

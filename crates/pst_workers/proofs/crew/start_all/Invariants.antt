@@ -12,7 +12,7 @@ invariant-loop-seated g l = record {
   room : vec_len l.fn.crew ≤ vec_capacity l.begun;
   each : Backwards (λ k m b. MatchResult b
       (λ h. (h.promise.lane ≡ k) × (h.promise.model.value ≡ l.job.model.now) × (h.promise.scenario.value ≡ l.job.scenario.now) × (told g.T.Target.calls g.T.Target.faults h.promise.before.value ≡ told g.T.Target.calls g.T.Target.faults m.lane))
-      (λ r. Worked (view_model l.job.model.now) l.job.scenario.now g.N.Name.table k (told g.T.Target.calls g.T.Target.faults m.lane) (told g.T.Target.calls g.T.Target.faults r.lane) r.seat r.stop))
+      (λ r. Worked (view_model l.job.model.now) l.job.scenario.now g.N.Name.table k (told g.T.Target.calls g.T.Target.faults m.lane) (told g.T.Target.calls g.T.Target.faults r.lane) r.seat r.stop r.leave))
       (vec_len l.fn.crew) (vec_items l.begun) (vec_items l.fn.crew);
 }
 

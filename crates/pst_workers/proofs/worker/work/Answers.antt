@@ -14,8 +14,8 @@ loop-preserved g c =
     let s = c.args.job.now.scenario.now in
     let calls = g.T.Target.calls in
     let faults = g.T.Target.faults in
-    let next = c.in-Some-next.ensures in
-    working_next m s g.N.Name.table c.args.seat.lane c.in-Some-next.action (told calls faults c.args.lane) (told calls faults c.loop.lane) (told calls faults c.run_body.new.lane) c.loop.seat c.next-in-loop.new.seat c.hand_back.new.seat
+    let next = c.in-Ok.ensures in
+    working_next m s g.N.Name.table c.args.seat.lane c.in-Ok.action (told calls faults c.args.lane) (told calls faults c.loop.lane) (told calls faults c.run_body.new.lane) c.loop.seat c.next-in-loop.new.seat c.hand_back.new.seat
     c.loop.invariant (record { table = next.table; lane = next.lane; finished = next.finished }) next.fetched
-    (subst (λ (r : Result Unit BodyEnd). Ran {A = Unit {0}} (body_run m s c.in-Some-next.action) (calls c.loop.lane) (calls c.run_body.new.lane) (faults c.loop.lane) (faults c.run_body.new.lane) r) c.in_default-run_body.is c.run_body.ensures)
+    (subst (λ (r : Result Unit BodyEnd). Ran {A = Unit {0}} (body_run m s c.in-Ok.action) (calls c.loop.lane) (calls c.run_body.new.lane) (faults c.loop.lane) (faults c.run_body.new.lane) r) c.in_default.is c.run_body.ensures)
     c.hand_back.ensures
