@@ -1,3 +1,5 @@
 mod Items
 mod Sets
 mod Ranges
+mod Tried
+mod Orders

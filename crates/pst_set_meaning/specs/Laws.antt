@@ -1,15 +1,20 @@
--- Laws of the definitions: what the constraints of the sources mean.
-use Rattle.std.specs.Prelude.{◌≡◌, ◌↔◌, ℤ, List, [], ◌∷◌, Option, Some}
+-- Laws of the definitions: what the constraints of the sources mean, and which of the last rules comes first.
+use Rattle.std.specs.Prelude.{◌≡◌, ◌↔◌, ℕ, ◌-◌, ◌^◌, ◌<◌, ℤ, List, [], ◌∷◌, Option, Some}
 use Rattle.pst_base.specs.declared.position.Place.{Place}
+use Rattle.pst_base.specs.Places.{IsBefore}
+use Rattle.pst_ast.specs.declared.instance.Instance.{Instance}
+use Rattle.pst_ast.specs.DeclarationTree.{UnitTree}
 use Rattle.pst_ast.specs.ExpressionTree.{ExprTree, ExprIn, RangesTree, RangeTree, RangeSingle, RangeBetween}
 use Rattle.pst_ast.specs.ConstraintTree.{ConstraintTree, ConstraintDeclarationTree}
 use Rattle.pst_expr.specs.declared.ranges.Span.{Span}
 use Rattle.pst_model.specs.ConstraintTree.{SlotTree}
 use Rattle.pst_type_rules.specs.Domains.{ranges_of}
+use Rattle.pst_bind.specs.PoolRules.{PoolBreach}
 use Rattle.pst_terms.specs.Sources.{Sources}
 use Rattle.pst_terms.specs.Readings.{Setting}
 use Rattle.pst_elab_rules.specs.Constraints.{set_terms, declaration_terms}
 use Rattle.pst_elab_rules.specs.Meaning.{AllHold, IsInOne}
+use Rattle.pst_elab_rules.specs.Ends.{RootBreach}
 use Rattle.pst_set_meaning.specs.Holding.{value_there, IsTrueValue, SetHolds, DeclarationHolds}
 
 -- the constraints that a set becomes hold together exactly where the set holds
@@ -38,3 +43,11 @@ abbrev pub RangesMean : Type 0
 RangesMean =
     (f : SlotTree → Option ℤ) (s : Sources) (setting : Setting) (x : ExprTree) (word opening close : Place) (ranges : RangesTree) (v : ℤ) (spans : List Span)
     → value_there f s setting x ≡ Some v → AreRangesThere f s setting (ranges_of ranges) spans → IsTrueValue (value_there f s setting (ExprIn x word opening ranges close)) ↔ IsInOne v spans
+
+-- ---- the last rules
+
+-- where a rule of pools is broken, in a file with a number below 2^32 - 1, that comes before the breach of a root that there isn't
+abbrev pub PoolRulesComeFirst : Type 0
+PoolRulesComeFirst =
+    (units : List UnitTree) (names : List (List ℕ)) (instances : List Instance) (component action : List ℕ) (place at : Place) (rule last : ℕ) → PoolBreach units instances place rule → place.file < 2 ^ 32 - 1
+    → RootBreach units names instances component action at last → IsBefore place at
