@@ -4,6 +4,7 @@ ghost use Rattle.std.specs.List.{enumerate_from};
 ghost use Rattle.pst_model.specs.ModelView.{view_model, view_step};
 ghost use Rattle.pst_known.specs.Known.{seen};
 ghost use Rattle.pst_slots.specs.Stated.{statement_of as statement_in};
+ghost use Rattle.pst_refusals.specs.Places.{ArePlaces};
 ghost use Rattle.pst_constraint_sites.specs.Groups.{fill_groups, step_groups, stated_groups, node_groups, groups};
 ghost use Rattle.pst_constraint_sites.specs.Views.{view_group};
 
@@ -13,7 +14,7 @@ use crate::site::{Group, Site};
 use pst_base::NoMemory;
 use pst_known::Scene;
 use pst_model::{Model, Step};
-use pst_refusals::statement_of;
+use pst_refusals::{places_of, statement_of};
 use pst_scen::{Fill, Node};
 use std::alloc::Global;
 
@@ -66,11 +67,13 @@ fn add_stated<'a>(
     groups: &mut Vec<Group<'a>>,
     model: &'a Model,
     nodes: &[Node],
+    places: &[usize],
     node: usize,
 ) -> Result<(), NoMemory>
+    requires { ArePlaces nodes.now places.now }
     ensures { OnOk result (map view_group groups.new.items ≡ map view_group groups.old.items ++ stated_groups node (statement_in (view_model model.now) nodes.now node)) }
 {
-    match statement_of(alloc, model, nodes, node)? {
+    match statement_of(alloc, model, nodes, places, node)? {
         None => Ok(()),
         Some(found) => add_step(groups, node, found.top, found.indices, found.step),
     }
@@ -82,13 +85,15 @@ fn add_node<'a>(
     groups: &mut Vec<Group<'a>>,
     model: &'a Model,
     nodes: &[Node],
+    places: &[usize],
     number: usize,
     node: &Node,
 ) -> Result<(), NoMemory>
+    requires { ArePlaces nodes.now places.now }
     ensures { OnOk result (map view_group groups.new.items ≡ map view_group groups.old.items ++ node_groups (view_model model.now) nodes.now (number, node.now)) }
 {
     add_fill(groups, model, number, &node.fill)?;
-    add_stated(alloc, groups, model, nodes, number)
+    add_stated(alloc, groups, model, nodes, places, number)
 }
 
 // Adds those of all nodes.
@@ -100,9 +105,10 @@ fn add_nodes<'a>(
 ) -> Result<(), NoMemory>
     ensures { OnOk result (map view_group groups.new.items ≡ map view_group groups.old.items ++ flat_map (node_groups (view_model model.now) nodes.now) (enumerate_from 0 nodes.now)) }
 {
+    let places = places_of(alloc, nodes)?;
     let mut number = 0;
     for node in nodes {
-        add_node(alloc, groups, model, nodes, number, node)?;
+        add_node(alloc, groups, model, nodes, &places, number, node)?;
         number += 1;
     }
     Ok(())

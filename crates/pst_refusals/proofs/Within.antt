@@ -6,7 +6,7 @@ use Rattle.pst_model.specs.ModelTree.{ModelTree}
 use Rattle.pst_scen.specs.declared.tree.Node.{Node}
 use Rattle.pst_scen.specs.declared.tree.Fill.{Fill}
 use Rattle.pst_scen.specs.declared.tree.Fill.TheVariants as fill
-use Rattle.pst_slots.specs.Stated.{Stated, parent_of, place_in, part_at, repeated_in, below, below_node, stated_within}
+use Rattle.pst_slots.specs.Stated.{Stated, parent_of, place_in, at_place, part_at, repeated_in, below, below_node, stated_within}
 
 module _ (m : ModelTree) (nodes : List Node) where
   up_one : (levels n parent : ℕ) (node : Node) (f : Fill) → parent_of nodes n ≡ Some parent → slice_get nodes parent ≡ Some node → node.fill ≡ f
@@ -21,6 +21,10 @@ module _ (m : ModelTree) (nodes : List Node) where
   up levels n parent node f some in_it is of =
       let e : levels ≡ suc (levels - 1) = omega (arith, some) in
       ap (λ k. stated_within m nodes k n) e ∙ up_one (levels - 1) n parent node f in_it is of
+
+  pub within_top : (levels n parent action instance : ℕ) (fields : List _) (node : Node) → 0 < levels → parent_of nodes n ≡ Some parent → slice_get nodes parent ≡ Some node → node.fill ≡ fill.Compound action instance fields
+      → option_and_then (at_place m parent action) (place_in nodes parent n) ≡ stated_within m nodes levels n
+  within_top levels n parent action instance fields node some in_it is of = sym (up levels n parent node (fill.Compound action instance fields) some in_it is of)
 
   pub within_turn : (levels n parent index : ℕ) (node : Node) → 0 < levels → parent_of nodes n ≡ Some parent → slice_get nodes parent ≡ Some node → node.fill ≡ fill.Turn index
       → option_and_then (repeated_in index) (option_and_then (stated_within m nodes (levels - 1)) (parent_of nodes parent)) ≡ stated_within m nodes levels n

@@ -1,3 +1,5 @@
 pub mod Failing
 pub mod Founds
 pub mod Answers
+pub mod Places
+pub mod Counted

@@ -10,6 +10,7 @@ mod site;
 mod statement;
 mod whole;
 
+pub use places::places_of;
 pub use single::{is_act_refused, is_compound_refused, is_first_refused};
 pub use statement::{Stated, statement_of};
 pub use whole::{some_refused, some_unmet};

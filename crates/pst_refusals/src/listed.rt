@@ -7,8 +7,10 @@ ghost use Rattle.pst_known.specs.Known.{seen};
 ghost use Rattle.pst_slots.specs.Listed.{of_fill, of_step, of_stated, of_node};
 ghost use Rattle.pst_slots.specs.Stated.{statement_of as statement_in};
 ghost use Rattle.pst_refusals.specs.Failing.{fails};
+ghost use Rattle.pst_refusals.specs.Places.{ArePlaces};
 
 use crate::fails::some_fails;
+use crate::places::places_of;
 use crate::site::{InlineSite, NodeSite};
 use crate::statement::statement_of;
 use pst_base::NoMemory;
@@ -68,11 +70,18 @@ fn of_step(
 }
 
 // Of the statement that a node stands for, if it stands for one.
-fn of_stated(alloc: Global, scene: &Scene<'_>, n: usize, by_values: bool) -> Result<bool, NoMemory>
-    requires { IsSound (view_model scene.now.model.now) }
+fn of_stated(
+    alloc: Global,
+    scene: &Scene<'_>,
+    places: &[usize],
+    n: usize,
+    by_values: bool,
+) -> Result<bool, NoMemory>
+    requires sound { IsSound (view_model scene.now.model.now) }
+    requires places { ArePlaces scene.now.nodes.now places.now }
     ensures { IfOk result (λ r. r ≡ list_any (fails by_values) (of_stated (view_model scene.now.model.now) (seen scene.now) n (statement_in (view_model scene.now.model.now) scene.now.nodes.now n))) }
 {
-    match statement_of(alloc, scene.model, scene.nodes, n)? {
+    match statement_of(alloc, scene.model, scene.nodes, places, n)? {
         None => Ok(false),
         Some(found) => of_step(
             alloc,
@@ -90,17 +99,19 @@ fn of_stated(alloc: Global, scene: &Scene<'_>, n: usize, by_values: bool) -> Res
 fn of_node(
     alloc: Global,
     scene: &Scene<'_>,
+    places: &[usize],
     n: usize,
     node: &Node,
     by_values: bool,
 ) -> Result<bool, NoMemory>
-    requires { IsSound (view_model scene.now.model.now) }
+    requires sound { IsSound (view_model scene.now.model.now) }
+    requires places { ArePlaces scene.now.nodes.now places.now }
     ensures { IfOk result (λ r. r ≡ list_any (fails by_values) (of_node (view_model scene.now.model.now) (seen scene.now) (n, node.now))) }
 {
     if of_fill(alloc, scene, n, &node.fill, by_values)? {
         return Ok(true);
     }
-    of_stated(alloc, scene, n, by_values)
+    of_stated(alloc, scene, places, n, by_values)
 }
 
 /// Whether a constraint of a node fails.
@@ -108,9 +119,10 @@ pub(crate) fn of_nodes(alloc: Global, scene: &Scene<'_>, by_values: bool) -> Res
     requires { IsSound (view_model scene.now.model.now) }
     ensures { IfOk result (λ r. r ≡ list_any (fails by_values) (flat_map (of_node (view_model scene.now.model.now) (seen scene.now)) (enumerate_from 0 scene.now.nodes.now))) }
 {
+    let places = places_of(alloc, scene.nodes)?;
     let mut n = 0;
     for node in scene.nodes {
-        if of_node(alloc, scene, n, node, by_values)? {
+        if of_node(alloc, scene, &places, n, node, by_values)? {
             return Ok(true);
         }
         n += 1;

@@ -1,9 +1,12 @@
 //! Where nodes stand in their parents.
-ghost use Rattle.std.specs.Prelude.{◌≡◌};
-ghost use Rattle.pst_scen.specs.Tree.{is_parent};
-ghost use Rattle.pst_slots.specs.Stated.{parent_of, place_in};
+ghost use Rattle.std.specs.Prelude.{◌≡◌, ◌≢◌, ◌<◌, ◌+◌, ◌^◌, ℕ, IfOk, length, get_or, replicate, slice_get};
+ghost use Rattle.pst_slots.specs.Stated.{parent_of};
+ghost use Rattle.pst_refusals.specs.Places.{ArePlaces};
+ghost use Rattle.pst_refusals.specs.Counted.{AreCounted, IsPlace};
 
+use pst_base::NoMemory;
 use pst_scen::Node;
+use std::alloc::Global;
 
 /// The node that contains the node of that number.
 pub(crate) fn parent_of(nodes: &[Node], n: usize) -> Option<usize>
@@ -15,29 +18,78 @@ pub(crate) fn parent_of(nodes: &[Node], n: usize) -> Option<usize>
     }
 }
 
-fn is_in(node: &Node, parent: usize) -> bool
-    ensures { result ≡ is_parent parent node.now.parent }
+// Counts one more in a parent.
+fn count_one(counts: &mut Vec<usize>, parent: usize)
+    requires inside { parent < length counts.old.items }
+    requires room { get_or counts.old.items parent 0 + 1 < 2 ^ 64 }
+    ensures many { length counts.new.items ≡ length counts.old.items }
+    ensures here { get_or counts.new.items parent 0 ≡ get_or counts.old.items parent 0 + 1 }
+    ensures others { (other : ℕ) → other ≢ parent → get_or counts.new.items other 0 ≡ get_or counts.old.items other 0 }
 {
-    match node.parent {
-        Some(other) => other as usize == parent,
-        None => false,
+    counts[parent] += 1;
+}
+
+// Counts the node of that number in its parent, and gives its place there; 0 where no node is its
+// parent.
+fn count_node(nodes: &[Node], counts: &mut Vec<usize>, n: usize) -> usize
+    requires inside { n < length nodes.now }
+    requires room { n + 1 < 2 ^ 64 }
+    requires counted { AreCounted nodes.now n counts.old.items }
+    ensures counted { AreCounted nodes.now (n + 1) counts.new.items }
+    ensures place { IsPlace nodes.now n result }
+{
+    let Some(parent) = parent_of(nodes, n) else {
+        return 0;
+    };
+    if parent >= counts.len() {
+        return 0;
+    }
+    let place = counts[parent];
+    count_one(counts, parent);
+    place
+}
+
+// Sets the place of a node.
+fn put(places: &mut Vec<usize>, n: usize, place: usize)
+    requires { n < length places.old.items }
+    ensures many { length places.new.items ≡ length places.old.items }
+    ensures here { get_or places.new.items n 0 ≡ place }
+    ensures others { (other : ℕ) → other ≢ n → get_or places.new.items other 0 ≡ get_or places.old.items other 0 }
+{
+    places[n] = place;
+}
+
+// Sets the places of the nodes, whose number is `count`.
+fn place_nodes(nodes: &[Node], count: usize, counts: &mut Vec<usize>, places: &mut Vec<usize>)
+    requires all { count ≡ length nodes.now }
+    requires none { counts.old.items ≡ replicate count 0 }
+    requires many { length places.old.items ≡ count }
+    ensures { ArePlaces nodes.now places.new.items }
+{
+    for n in 0..count {
+        let place = count_node(nodes, counts, n);
+        put(places, n, place);
     }
 }
 
-/// The place of a node among those that stand directly in its parent.
-pub(crate) fn place_in(nodes: &[Node], parent: usize, n: usize) -> Option<usize>
-    ensures { result ≡ place_in nodes.now parent n }
+/// The place of each node among those that stand directly in its parent, found in one pass over the
+/// nodes; 0 where no node is its parent.
+pub fn places_of(alloc: Global, nodes: &[Node]) -> Result<Vec<usize>, NoMemory>
+    ensures { IfOk result (λ places. ArePlaces nodes.now places.items) }
 {
-    let mut place = 0;
-    let mut number = 0;
-    for node in nodes {
-        if is_in(node, parent) {
-            if number == n {
-                return Some(place);
-            }
-            place += 1;
-        }
-        number += 1;
+    let count = nodes.len();
+    let mut counts = vec![in alloc; 0usize; count]?;
+    let mut places = vec![in alloc; 0usize; count]?;
+    place_nodes(nodes, count, &mut counts, &mut places);
+    Ok(places)
+}
+
+/// The entry of a table of places for the node of that number.
+pub(crate) fn place_at(places: &[usize], n: usize) -> Option<usize>
+    ensures { result ≡ slice_get places.now n }
+{
+    match places.get(n) {
+        None => None,
+        Some(place) => Some(*place),
     }
-    None
 }

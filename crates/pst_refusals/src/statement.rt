@@ -6,11 +6,12 @@ ghost use Rattle.pst_model.specs.declared.activity.Arm.{Arm as TheArm};
 ghost use Rattle.pst_model.specs.ModelView.{view_model, view_step};
 ghost use Rattle.pst_scen.specs.declared.tree.Fill.TheVariants as fill;
 ghost use Rattle.pst_legal.specs.Statements.{step_below};
-ghost use Rattle.pst_slots.specs.Stated.{part_at, repeated_in, stated_within, statement_of, place_in, at_place};
+ghost use Rattle.pst_slots.specs.Stated.{part_at, repeated_in, stated_within, statement_of, at_place};
 ghost use Rattle.pst_slots.specs.Stated.{parent_of as parent_in};
 ghost use Rattle.pst_refusals.specs.Founds.{stated_of, stated_at, step_at};
+ghost use Rattle.pst_refusals.specs.Places.{ArePlaces};
 
-use crate::places::{parent_of, place_in};
+use crate::places::{parent_of, place_at};
 use pst_base::NoMemory;
 use pst_model::{Arm, Branch, Content, Model, Step};
 use pst_scen::{Fill, Node};
@@ -190,23 +191,22 @@ fn repeated_in<'a>(
     }
 }
 
-// The statement at the place of a node in the activity of the compound action of the node round it.
+// The statement at a place in the activity of the compound action of node `top`.
 fn at_top<'a>(
     alloc: Global,
     model: &'a Model,
-    nodes: &[Node],
-    parent: usize,
+    top: usize,
     action: u32,
-    n: usize,
+    place: Option<usize>,
 ) -> Option<Stated<'a>>
-    ensures { option_map stated_of result ≡ option_and_then (at_place (view_model model.now) parent action) (place_in nodes.now parent n) }
+    ensures { option_map stated_of result ≡ option_and_then (at_place (view_model model.now) top action) place }
 {
-    match place_in(nodes, parent, n) {
+    match place {
         None => None,
         Some(index) => match step_at(model, action, index) {
             None => None,
             Some(step) => Some(Stated {
-                top: parent,
+                top,
                 step,
                 indices: Vec::new(alloc),
             }),
@@ -220,37 +220,41 @@ fn in_turn<'a>(
     alloc: Global,
     model: &'a Model,
     nodes: &[Node],
+    places: &[usize],
     levels: usize,
     parent: usize,
     index: u32,
 ) -> Result<Option<Stated<'a>>, NoMemory>
+    requires { ArePlaces nodes.now places.now }
     ensures { IfOk result (λ found. option_map stated_of found ≡ option_and_then (repeated_in index) (option_and_then (stated_within (view_model model.now) nodes.now levels) (parent_in nodes.now parent))) }
 {
     let Some(over) = parent_of(nodes, parent) else {
         return Ok(None);
     };
-    match stated_within(alloc, model, nodes, levels, over)? {
+    match stated_within(alloc, model, nodes, places, levels, over)? {
         None => Ok(None),
         Some(above) => repeated_in(above.top, above.step, above.indices, index),
     }
 }
 
-// The part of the statement of the node round a node.
+// The part at a place of the statement of a node.
 #[cycle(statements)]
 fn in_part<'a>(
     alloc: Global,
     model: &'a Model,
     nodes: &[Node],
+    places: &[usize],
     levels: usize,
-    n: usize,
     parent: usize,
     fill: &Fill,
+    place: Option<usize>,
 ) -> Result<Option<Stated<'a>>, NoMemory>
-    ensures { IfOk result (λ found. option_map stated_of found ≡ option_and_then (λ above. option_and_then (part_at fill.now above) (place_in nodes.now parent n)) (stated_within (view_model model.now) nodes.now levels parent)) }
+    requires { ArePlaces nodes.now places.now }
+    ensures { IfOk result (λ found. option_map stated_of found ≡ option_and_then (λ above. option_and_then (part_at fill.now above) place) (stated_within (view_model model.now) nodes.now levels parent)) }
 {
-    match stated_within(alloc, model, nodes, levels, parent)? {
+    match stated_within(alloc, model, nodes, places, levels, parent)? {
         None => Ok(None),
-        Some(above) => match place_in(nodes, parent, n) {
+        Some(above) => match place {
             None => Ok(None),
             Some(index) => Ok(part_at(fill, above.top, above.step, above.indices, index)),
         },
@@ -263,9 +267,11 @@ fn stated_within<'a>(
     alloc: Global,
     model: &'a Model,
     nodes: &[Node],
+    places: &[usize],
     levels: usize,
     n: usize,
 ) -> Result<Option<Stated<'a>>, NoMemory>
+    requires { ArePlaces nodes.now places.now }
     ensures { IfOk result (λ found. option_map stated_of found ≡ stated_within (view_model model.now) nodes.now levels n) }
 {
     if levels == 0 {
@@ -277,22 +283,25 @@ fn stated_within<'a>(
     let Some(node) = nodes.get(parent) else {
         return Ok(None);
     };
+    let place = place_at(places, n);
     match &node.fill {
-        Fill::Compound { action, .. } => Ok(at_top(alloc, model, nodes, parent, *action, n)),
-        Fill::Turn { index } => in_turn(alloc, model, nodes, levels - 1, parent, *index),
+        Fill::Compound { action, .. } => Ok(at_top(alloc, model, parent, *action, place)),
+        Fill::Turn { index } => in_turn(alloc, model, nodes, places, levels - 1, parent, *index),
         Fill::Repeat => Ok(None),
-        fill => in_part(alloc, model, nodes, levels - 1, n, parent, fill),
+        fill => in_part(alloc, model, nodes, places, levels - 1, parent, fill, place),
     }
 }
 
-/// The statement that a node stands for.
+/// The statement that a node stands for, by the places of the nodes in their parents.
 pub fn statement_of<'a>(
     alloc: Global,
     model: &'a Model,
     nodes: &[Node],
+    places: &[usize],
     n: usize,
 ) -> Result<Option<Stated<'a>>, NoMemory>
+    requires { ArePlaces nodes.now places.now }
     ensures { IfOk result (λ found. option_map stated_of found ≡ statement_of (view_model model.now) nodes.now n) }
 {
-    stated_within(alloc, model, nodes, nodes.len(), n)
+    stated_within(alloc, model, nodes, places, nodes.len(), n)
 }
