@@ -10,8 +10,8 @@
 //!   `check` answers to it, and how many lanes have other calls than the trace says.
 //! - `each`: for how many of the first calls of the first lanes, so many of both, a run in which that
 //!   one fails is neither whole nor begins a whole one.
-//! - `behind`: lane 0 waits at the gate until lane 1 has come; whether it came.
-//! - `together`: so many lanes wait at the gate until all of them have come; whether they came.
+//! - `behind`: lane 0 waits at the gate until lane 1 has come; what starts first, and whether it came.
+//! - `together`: so many lanes wait at the gate until all of them have come; the same.
 #![tactic(auto)]
 
 mod judged;

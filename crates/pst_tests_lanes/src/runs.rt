@@ -75,8 +75,18 @@ pub fn shared<R: Threads + Wait + Sync + AllocGlobal>(
     Ok(found)
 }
 
-/// The status on 16 lanes at a gate, how many lines were written, the second of them and the last, and
-/// whether those that wait met those that they wait for.
+// The first line of a text that starts actions.
+fn first_start(text: &str) -> &str {
+    for line in text.lines() {
+        if line.starts_with("start ") {
+            return line;
+        }
+    }
+    ""
+}
+
+/// The status on 16 lanes at a gate, how many lines were written, the second of them and the last, the
+/// first that starts actions, and whether those that wait met those that they wait for.
 pub fn at_gate<R: Threads + Wait + Sync + AllocGlobal>(
     rt: &R,
     gate: &Meeting,
@@ -86,8 +96,10 @@ pub fn at_gate<R: Threads + Wait + Sync + AllocGlobal>(
     let setting = setting_of(alloc, text)?;
     let mut lanes = lanes_of(alloc, 16, 0, 0)?;
     let (status, bytes) = written(rt, alloc, setting, &mut lanes, gate)?;
+    let trace = String::from_utf8_lossy(alloc, bytes.as_slice())?;
+    let first = first_start(trace.as_str());
     let mut found = ends_of(alloc, status, bytes.as_slice())?;
-    write!(found, " | {}", gate.was_kept())?;
+    write!(found, " | {first} | {}", gate.was_kept())?;
     Ok(found)
 }
 
