@@ -25,7 +25,7 @@ use Rattle.pst_ast.specs.DeclarationTree.{UnitTree, ItemObject, MakeObject, Acti
 use Rattle.pst_expr.specs.Tree.{Constant, Variable, Binary}
 use Rattle.pst_expr.specs.declared.tree.BinaryOp.TheVariants.{Add, Equal}
 use Rattle.pst_model.specs.declared.activity.Tie.{Tie}
-use Rattle.pst_model.specs.ConstraintTree.{ConstraintTree, SlotTree, Own, Index}
+use Rattle.pst_model.specs.ConstraintTree.{ConstraintTree, Own, Index}
 use Rattle.pst_model.specs.ActivityTree.{StepTree, Traverse, Repeat}
 use Rattle.pst_model.specs.ModelTree.{ContentTree, Atomic, Compound, ModelTree}
 use Rattle.pst_type_rules.specs.Tried.{on, name, component_with}
