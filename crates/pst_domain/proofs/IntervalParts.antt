@@ -6,13 +6,16 @@ use Rattle.pst_expr.specs.Tree.{Expression, Constant, Variable, Unary, Binary, E
 use Rattle.pst_expr.specs.Left.{left_part}
 use Rattle.pst_domain.specs.Interval.{interval, interval_above, binary_span}
 
-pub interval_by_part : (n : ℕ) (e : Expression) (bounds : List (Option Span)) → interval_above n e (interval (left_part n e) bounds) bounds ≡ interval e bounds
+interval_by_part : (n : ℕ) (e : Expression) (bounds : List (Option Span)) → interval_above n e (interval (left_part n e) bounds) bounds ≡ interval e bounds
 interval_by_part zero e bounds = refl
 interval_by_part (suc n) (Constant z) bounds = refl
 interval_by_part (suc n) (Variable i) bounds = refl
 interval_by_part (suc n) (Unary op a) bounds = refl
 interval_by_part (suc n) (Element i k a) bounds = refl
 interval_by_part (suc n) (Binary op a b) bounds = ap (λ r. binary_span op r (interval b bounds)) (interval_by_part n a bounds)
+
+pub interval_of_part : (n : ℕ) (e p : Expression) (r : Option Span) (bounds : List (Option Span)) → r ≡ interval p bounds → p ≡ left_part n e → interval_above n e r bounds ≡ interval e bounds
+interval_of_part n e p r bounds is part = ap (λ s. interval_above n e s bounds) (is ∙ ap (λ q. interval q bounds) part) ∙ interval_by_part n e bounds
 
 -- first the lower part of the way, then the upper one
 pub interval_above-add : (m n : ℕ) (e : Expression) (r : Option Span) (bounds : List (Option Span)) → interval_above m e (interval_above n (left_part m e) r bounds) bounds ≡ interval_above (m + n) e r bounds

@@ -1,5 +1,5 @@
 // The span of an expression.
-ghost use Rattle.std.specs.Prelude.{◌≡◌, ℕ, ◌<◌, ◌≤◌, length, true};
+ghost use Rattle.std.specs.Prelude.{◌≡◌, ℕ, ◌<◌, ◌≤◌, length, true, IfSome};
 ghost use Rattle.pst_expr.specs.Tree.{view};
 ghost use Rattle.pst_expr.specs.Left.{left_depth};
 ghost use Rattle.pst_domain.specs.Bounds.{AreUpright, HasVariablesBelow};
@@ -25,6 +25,9 @@ pub fn span_of(expr: &Expr, bounds: &Bounds) -> Option<Span>
     ensures sound { HoldsValues result (view expr.now) bounds.now }
 {
     spans_hold_values();
+    if let Some(span) = leaf_span(expr, bounds) {
+        return span;
+    }
     interval(expr, bounds)
 }
 
@@ -41,6 +44,19 @@ pub fn refused(expr: &Expr, bounds: &Bounds) -> bool
     }
 }
 
+// The span of a constant or of a variable, `None` where the expression is neither. Most operands are one of them, and
+// are read without a recursive call.
+fn leaf_span(expr: &Expr, bounds: &Bounds) -> Option<Option<Span>>
+    requires { AreUpright bounds.now }
+    ensures { IfSome result (λ span. span ≡ interval (view expr.now) bounds.now) }
+{
+    match expr {
+        Expr::Constant(number) => Some(span_of_value(Some(*number))),
+        Expr::Variable(variable) => Some(uncut(bounds.get(*variable))),
+        _ => None,
+    }
+}
+
 #[cycle(interval)]
 fn interval(expr: &Expr, bounds: &Bounds) -> Option<Span>
     requires { AreUpright bounds.now }
@@ -52,6 +68,9 @@ fn interval(expr: &Expr, bounds: &Bounds) -> Option<Span>
         Expr::Unary(op, operand) => unary(*op, interval(operand, bounds)?),
         Expr::Binary(_, _, _) => {
             let (depth, part) = expr.left_end();
+            if let Some(below) = leaf_span(part, bounds) {
+                return interval_above(expr, depth, below, bounds);
+            }
             interval_above(expr, depth, interval(part, bounds), bounds)
         }
         Expr::Element(first, count, index) => {
@@ -80,8 +99,10 @@ fn interval_above(expr: &Expr, depth: usize, below: Option<Span>, bounds: &Bound
     };
     let left = below?;
     if is_decided_by_left(*op, left) {
-        binary(*op, left, None)
-    } else {
-        binary(*op, left, interval(right, bounds))
+        return binary(*op, left, None);
     }
+    if let Some(right) = leaf_span(right, bounds) {
+        return binary(*op, left, right);
+    }
+    binary(*op, left, interval(right, bounds))
 }

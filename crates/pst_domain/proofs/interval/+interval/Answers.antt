@@ -3,8 +3,8 @@ use Rattle.pst_expr.specs.Tree.{view}
 use Rattle.pst_expr.specs.Left.{left_part}
 use Rattle.pst_expr.proofs.LeftLemmas.{binary_is_deep}
 use Rattle.pst_expr.proofs.Weight.{weight, weight_some, weight_below, lower_half, upper_half}
-use Rattle.pst_domain.specs.Interval.{interval, interval_above}
-use Rattle.pst_domain.proofs.IntervalParts.{interval_by_part, interval_above-add}
+use Rattle.pst_domain.specs.Interval.{interval_above}
+use Rattle.pst_domain.proofs.IntervalParts.{interval_of_part, interval_above-add}
 use Rattle.pst_domain.proofs.interval.+interval.Goals as goal
 
 pub interval-interval-requires-in-Binary : goal.interval-interval-requires-in-Binary
@@ -23,11 +23,21 @@ interval-interval_above-requires t c =
     let d = c.decreases in
     (omega (arith, weight_some (left_part n e), weight_some e), (c.requires, (omega (arith, c.left_end-depth.ensures.depth), omega (arith, c.left_end-depth.ensures.depth))))
 
-pub interval-returns-in-Binary : goal.interval-returns-in-Binary
-interval-returns-in-Binary t c =
+pub interval-interval_above-requires-in-Binary : goal.interval-interval_above-requires-in-Binary
+interval-interval_above-requires-in-Binary t c =
     let e = view c.args.expr.now in
     let n = c.left_end-depth.result.0 in
-    c.interval_above.ensures ∙ ap (λ r. interval_above n e r c.args.bounds.now) (c.interval-in-Binary.ensures ∙ ap (λ p. interval p c.args.bounds.now) c.left_end-depth.ensures.part) ∙ interval_by_part n e c.args.bounds.now
+    let deep = binary_is_deep c.args.expr.now c.in-Binary.field-0 c.in-Binary.field-1 c.in-Binary.field-2 c.in-Binary.is in
+    let d = c.decreases in
+    (omega (arith, weight_some (left_part n e), weight_some e), (c.requires, (omega (arith, c.left_end-depth.ensures.depth), omega (arith, c.left_end-depth.ensures.depth))))
+
+pub interval-returns-in-Some : goal.interval-returns-in-Some
+interval-returns-in-Some t c =
+    c.interval_above.ensures ∙ interval_of_part c.left_end-depth.result.0 (view c.args.expr.now) _ c.in-Some.below c.args.bounds.now c.in-Some.ensures c.left_end-depth.ensures.part
+
+pub interval-returns-in_default : goal.interval-returns-in_default
+interval-returns-in_default t c =
+    c.interval_above-in-Binary.ensures ∙ interval_of_part c.left_end-depth.result.0 (view c.args.expr.now) _ c.interval-in-Binary.result c.args.bounds.now c.interval-in-Binary.ensures c.left_end-depth.ensures.part
 
 pub interval_above-interval_above-below-requires : goal.interval_above-interval_above-below-requires
 interval_above-interval_above-below-requires t c =
