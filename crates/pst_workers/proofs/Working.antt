@@ -1,12 +1,12 @@
 -- The turns of a worker.
-use Rattle.std.proofs.Common.{◌≡◌, ℕ, List, [], ◌∷◌, ◌++◌, ap, sym, subst, ◌∙◌}
+use Rattle.std.proofs.Common.{◌≡◌, ◌≤◌, ℕ, List, [], ◌∷◌, ◌++◌, length, ap, sym, subst, ◌∙◌, arith, length-append}
 use Rattle.std.specs.Prelude.{Bool, true, None, Some, Ok, Err}
 use Rattle.atomic_table.specs.Seated.{TableId}
 use Rattle.pst_model.specs.ModelTree.{ModelTree}
 use Rattle.pst_scen.specs.declared.event.Event.{Event}
 use Rattle.pst_scen.specs.declared.scenario.Scenario.{Scenario}
 use Rattle.pst_scen.specs.Plan.{Entries}
-use Rattle.pst_scen.specs.Trace.{IsWhole}
+use Rattle.pst_scen.specs.Trace.{IsWhole, starts_of}
 use Rattle.pst_legal.specs.Body.{body_run}
 use Rattle.pst_body.specs.declared.ending.BodyEnd.{BodyEnd}
 use Rattle.pst_body.specs.Ran.{Ran}
@@ -14,6 +14,7 @@ use Rattle.pst_post.specs.Seats.{LaneState, fresh_seat}
 use Rattle.pst_post.specs.Steps.{after_hand_back}
 use Rattle.pst_book.specs.Books.{View}
 use Rattle.pst_desk.specs.Desks.{book_of}
+use Rattle.pst_desk.specs.Turning.{OpensGroups, NoGroup, OneMore}
 use Rattle.pst_workers.specs.Told.{Told, LaneRan}
 use Rattle.pst_workers.specs.Worked.{Worked}
 use Rattle.pst_workers.proofs.Runs.{lane_none, lane_more}
@@ -83,10 +84,14 @@ working_breaks m s table lane a end stopped before between after old new w kept 
   left = is;
 }
 
--- the seat stays at its table when it hands back
-pub handed_table : (table : TableId) (old new : LaneState) → new ≡ after_hand_back old → old.table ≡ table → new.table ≡ table
-handed_table table old new is same = ap (λ (x : LaneState). x.table) is ∙ same
-
 -- a desk whose book is finished has a whole trace
 pub over : (s : Scenario) (plan : Entries) (lanes : ℕ) (trace : List Event) (book : View) → book ≡ book_of s plan lanes trace → IsWhole book.scenario book.trace → IsWhole s trace
 over s plan lanes trace book is whole = subst (λ (v : View). IsWhole v.scenario v.trace) is whole
+
+-- a turn takes nothing away from the trace
+pub no_shorter : (s : Scenario) (lanes : ℕ) (before : List Event) (n : ℕ) (after : List Event) → OpensGroups s lanes before n after → length before ≤ length after
+no_shorter s lanes before _ _ NoGroup = omega arith
+no_shorter s lanes before _ _ (OneMore n middle members used opened opens) =
+    let l = length-append middle (starts_of members used) in
+    let m = no_shorter s lanes before n middle opened in
+    omega (arith, l, m)

@@ -1,5 +1,5 @@
 //! The desk of a run behind its lock, and where the workers sleep.
-ghost use Rattle.std.specs.Prelude.{◌≡◌, ◌<◌, ◌≤◌, ◌++◌, ◌∷◌, [], true, MatchResult};
+ghost use Rattle.std.specs.Prelude.{◌≡◌, ◌<◌, ◌≤◌, ◌++◌, ◌∷◌, [], true, MatchOption, MatchResult};
 
 use crate::leave::Leave;
 use crate::signals::Signals;
@@ -15,33 +15,37 @@ pub struct SharedDesk<'a, N: Name> {
     signals: Signals,
 }
 
-// The lanes on which actions start in the events behind the first ones.
-fn started_since(trace: &[Event], before: usize) -> [bool; MOST_LANES] {
+// The lanes but the worker's own on which actions start in these events.
+fn starts_elsewhere(events: &[Event], own: u32) -> [bool; MOST_LANES] {
     let mut started = [false; MOST_LANES];
-    for event in trace.iter().skip(before) {
+    for event in events {
         if let Event::Start { lane, .. } = event {
-            if let Some(here) = started.get_mut(*lane as usize) {
-                *here = true;
+            if *lane != own {
+                if let Some(here) = started.get_mut(*lane as usize) {
+                    *here = true;
+                }
             }
         }
     }
     started
 }
 
-// Records the end of what the lane handed back, and opens and posts what can start then. It tells which lanes can go on: those on
-// which actions started, or all, where nothing more comes.
+// Records the end of what the lane handed back, and opens and posts what can start then. It tells which other lanes can go on: those
+// on which actions started, or all, where nothing more comes. Where the lane handed nothing back, nothing changes.
 fn move_on<N: Name>(desk: &mut Desk<'_, N>, post: &Post, lane: u32) -> [bool; MOST_LANES]
     requires post { post.now ≡ N.table }
     requires lanes { N.table.words ≡ N.lanes }
     requires lane { lane < N.lanes }
 {
-    let _ended = desk.ended(post, lane);
+    if !desk.ended(post, lane) {
+        return [false; MOST_LANES];
+    }
     let before = desk.book().trace().len();
     let _turned = desk.turn(post);
     if desk.stopped() || desk.book().finished() {
         return [true; MOST_LANES];
     }
-    started_since(desk.book().trace(), before)
+    starts_elsewhere(&desk.book().trace()[before..], lane)
 }
 
 // The leave of a desk from which nothing more comes. None: more may come.
@@ -50,6 +54,28 @@ fn leave_of<N: Name>(desk: &Desk<'_, N>) -> Option<Leave<N>> {
         return Some(Leave::of(desk));
     }
     None
+}
+
+// What is posted to the lane, which it fetches, or else the leave of a desk from which nothing more comes. None: more may come.
+fn look<N: Name>(
+    desk: &Desk<'_, N>,
+    post: &Post,
+    seat: &mut LaneSeat,
+) -> Option<Result<u32, Leave<N>>>
+    requires post { seat.old.table ≡ post.now }
+    requires idle { seat.old.fetched ≡ seat.old.finished }
+    ensures table { seat.new.table ≡ seat.old.table }
+    ensures lane { seat.new.lane ≡ seat.old.lane }
+    ensures finished { seat.new.finished ≡ seat.old.finished }
+    ensures fetched { MatchOption result (seat.new.fetched ≡ seat.old.fetched) (λ found. MatchResult found (λ act. seat.new.fetched ≡ seat.old.fetched ++ act ∷ []) (λ _. seat.new.fetched ≡ seat.old.fetched)) }
+{
+    if let Some(act) = post.fetch(seat) {
+        return Some(Ok(act));
+    }
+    match leave_of(desk) {
+        Some(leave) => Some(Err(leave)),
+        None => None,
+    }
 }
 
 // Stops the desk.
@@ -75,14 +101,40 @@ impl<'a, N: Name> SharedDesk<'a, N> {
         desk.into_inner()
     }
 
-    /// Waits until an action is posted to the lane, and fetches it. Err: nothing more comes, since the run is stopped or over. It
-    /// looks under the lock, under which actions are posted, so no wake-up falls between.
+    /// Records the end of what the lane handed back, opens what can start then, and fetches what is posted to the lane, under one
+    /// hold of the lock. Then it wakes the other lanes that can go on. Where nothing is posted to the lane, it waits until something
+    /// is. Err: nothing more comes, since the run is stopped or over.
     pub(crate) fn next<R: Wait>(
         &self,
         rt: &R,
         post: &Post,
         seat: &mut LaneSeat,
     ) -> Result<u32, Leave<N>>
+        requires post { post.now ≡ N.table }
+        requires lanes { N.table.words ≡ N.lanes }
+        requires seat { seat.old.table ≡ N.table }
+        requires idle { seat.old.fetched ≡ seat.old.finished }
+        ensures table { seat.new.table ≡ seat.old.table }
+        ensures lane { seat.new.lane ≡ seat.old.lane }
+        ensures finished { seat.new.finished ≡ seat.old.finished }
+        ensures fetched { MatchResult result (λ act. seat.new.fetched ≡ seat.old.fetched ++ act ∷ []) (λ _. seat.new.fetched ≡ seat.old.fetched) }
+    {
+        let lane = seat.lane();
+        let (found, can_go_on) = {
+            let mut guard = self.desk.lock(rt);
+            let can_go_on = move_on(&mut *guard, post, lane);
+            (look(&*guard, post, seat), can_go_on)
+        };
+        self.signals.wake(&can_go_on);
+        match found {
+            Some(found) => found,
+            None => self.wait(rt, post, seat),
+        }
+    }
+
+    // Waits until an action is posted to the lane, and fetches it. It looks under the lock, under which actions are posted, so no
+    // wake-up falls between.
+    fn wait<R: Wait>(&self, rt: &R, post: &Post, seat: &mut LaneSeat) -> Result<u32, Leave<N>>
         requires post { seat.old.table ≡ post.now }
         requires idle { seat.old.fetched ≡ seat.old.finished }
         ensures table { seat.new.table ≡ seat.old.table }
@@ -91,31 +143,14 @@ impl<'a, N: Name> SharedDesk<'a, N> {
         ensures fetched { MatchResult result (λ act. seat.new.fetched ≡ seat.old.fetched ++ act ∷ []) (λ _. seat.new.fetched ≡ seat.old.fetched) }
     {
         let lane = seat.lane();
+        let mut guard = self.desk.lock(rt);
         for _ in rt.forever() {
-            let guard = self.desk.lock(rt);
-            if let Some(act) = post.fetch(seat) {
-                return Ok(act);
+            if let Some(found) = look(&*guard, post, seat) {
+                return found;
             }
-            if let Some(leave) = leave_of(&*guard) {
-                return Err(leave);
-            }
-            drop(self.signals.wait(rt, lane, guard));
+            guard = self.signals.wait(rt, lane, guard);
         }
         unreachable!()
-    }
-
-    /// Records the end of what the lane of that seat handed back, opens what can start then, and wakes the lanes that can go on.
-    pub(crate) fn tell<R: Wait>(&self, rt: &R, post: &Post, seat: &LaneSeat)
-        requires post { post.now ≡ N.table }
-        requires lanes { N.table.words ≡ N.lanes }
-        requires seat { seat.now.table ≡ N.table }
-    {
-        let lane = seat.lane();
-        let can_go_on = {
-            let mut guard = self.desk.lock(rt);
-            move_on(&mut *guard, post, lane)
-        };
-        self.signals.wake(&can_go_on);
     }
 
     /// Stops the run: no group starts any more. It wakes all workers, which find it out.

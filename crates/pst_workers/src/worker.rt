@@ -104,7 +104,6 @@ pub(crate) fn work<N: Name, T: Target, G: Gate, R: Wait>(
             };
         }
         post.hand_back(&mut seat);
-        desk.tell(rt, post, &seat);
     }
     unreachable!()
 }

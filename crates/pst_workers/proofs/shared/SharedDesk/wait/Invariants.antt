@@ -1,5 +1,5 @@
 use Rattle.std.proofs.Common.{◌≡◌}
-use Rattle.pst_workers.proofs.shared.SharedDesk.next.Given as goal
+use Rattle.pst_workers.proofs.shared.SharedDesk.wait.Given as goal
 
 abbrev pub invariant-loop : goal.invariant-loop
 invariant-loop g l = record {
