@@ -28,7 +28,8 @@ use Rattle.pst_refusals.specs.Failing.{fails}
 use Rattle.pst_new_refusals.specs.Far.{is_far, is_far_slot, has_far}
 use Rattle.pst_new_refusals.specs.Since.{IsUnread, IsFresh, IsSince}
 use Rattle.pst_new_refusals.specs.Newly.{alone, is_pool_refused, is_act_refused, AreFree, IfNot, StaysFree}
-use Rattle.pst_new_refusals.proofs.Inlines.{near_type, none_inline}
+use Rattle.pst_refusals.proofs.Without.{none_inline}
+use Rattle.pst_new_refusals.proofs.Near.{near_type, without_inlines}
 use Rattle.pst_new_refusals.proofs.Same.{same_act, same_output, same_first_object, same_resource, same_node, refused_near, refused_same}
 
 -- nothing is read of nodes without actions
@@ -93,7 +94,7 @@ module _ (m : ModelTree) (s t : Scenario) (from : ℕ) (fresh : List Act) (since
   act_passed act is = or_parts (list_any (fails false) (of_act m u (0, act))) (list_any (is_pool_refused m u) act.references) (none_any (is_act_refused m u) fresh act new (in_get fresh is.0 act is.1))
 
   near_constraint : (action : ℕ) (type : ActionTree) (k : ConstraintTree) → type_of m action ≡ Some type → Contains type.constraints k → list_any is_far_slot k.slots ≡ false
-  near_constraint action type k of has = none_any is_far type.constraints k (near_type m near action type of).0 (in_contains type.constraints k has)
+  near_constraint action type k of has = none_any is_far type.constraints k (near_type m near action type of) (in_contains type.constraints k has)
 
   by_node : (n action instance : ℕ) (fields : List ℤ) (node : Node) (type : ActionTree) (k : ConstraintTree) → slice_get t.nodes n ≡ Some node → node.fill ≡ fill.Compound action instance fields → type_of m action ≡ Some type → Contains type.constraints k
       → (n < from) ⊎ (from ≤ n) → is_refused_at k (node_slot m t n) ≡ false
@@ -149,7 +150,7 @@ module _ (m : ModelTree) (s t : Scenario) (from : ℕ) (fresh : List Act) (since
   each (OfClaim a c act type claim object k is at of has) = by_claim a c act type claim object k is.of_type at of has (since.acts a act is.is)
   each (OfFirst a r filled object k is state of has) =
       option_and_then_some (λ (x : Act). slice_get x.references r) (slice_get t.actions a) filled is (λ act there at. by_first a r act filled object k at state of has (since.acts a act there))
-  each (Inline n top action handle inline indices k stands has) = absurd (none_inline m near t.nodes top n action handle inline indices k stands has)
+  each (Inline n top action handle inline indices k stands has) = absurd (none_inline m (without_inlines m near) t.nodes top n action handle inline indices k stands has)
 
   pub kept : NoneRefused m t
   kept k standing has = each has

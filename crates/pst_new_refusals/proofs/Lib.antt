@@ -1,5 +1,4 @@
-pub mod Rows
-pub mod Inlines
+pub mod Near
 pub mod Same
 pub mod Nodes
 pub mod Kept

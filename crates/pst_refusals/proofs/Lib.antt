@@ -3,3 +3,5 @@ pub mod Walks
 pub mod Told
 pub mod Within
 pub mod Counting
+pub mod Rows
+pub mod Without

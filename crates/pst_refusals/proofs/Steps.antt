@@ -1,7 +1,7 @@
 -- The statements at places of a statement of the program.
-use Rattle.std.proofs.Common.{◌≡◌, ℕ, List, [], ◌∷◌, map, length, get_or, Bool, true, false, nat_lt, Bor, Option, Some, None, refl, sym, ap, ◌∙◌, arith}
+use Rattle.std.proofs.Common.{◌≡◌, ℕ, List, map, length, get_or, Bool, nat_lt, Bor, Option, Some, None, refl, sym, ap, ◌∙◌, arith}
 use Rattle.std.specs.Prelude.{IfSome, is_some, slice_get}
-use Rattle.std.specs.Option.{option_map, option_and_then}
+use Rattle.std.specs.Option.{option_map}
 use Rattle.std.specs.Global.{Vec, Box}
 use Rattle.std.proofs.lemmas.Option.{slice_get-map, slice_get_past, slice_get_read}
 use Rattle.pst_model.specs.declared.activity.Step.{Step}
@@ -10,7 +10,7 @@ use Rattle.pst_model.specs.declared.activity.Join.{Join}
 use Rattle.pst_model.specs.declared.activity.Branch.{Branch}
 use Rattle.pst_model.specs.declared.activity.Arm.{Arm}
 use Rattle.pst_model.specs.declared.constraint.Constraint.{Constraint}
-use Rattle.pst_model.specs.ActivityTree.{StepTree, BranchTree, ArmTree, branch_step, arm_step}
+use Rattle.pst_model.specs.ActivityTree.{branch_step, arm_step}
 use Rattle.pst_model.specs.ModelView.{view_step, view_branch, view_arm}
 use Rattle.pst_scen.specs.declared.tree.Fill.TheVariants as fill
 use Rattle.pst_legal.specs.Statements.{step_below}

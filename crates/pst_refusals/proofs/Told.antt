@@ -1,5 +1,5 @@
 -- What is told of a scenario's constraints follows from their list.
-use Rattle.std.proofs.Common.{◌≡◌, ℕ, Bool, true, false, not, refl, sym, ap, ◌∙◌}
+use Rattle.std.proofs.Common.{◌≡◌, Bool, true, false, not, refl, sym}
 use Rattle.std.specs.Prelude.{length}
 use Rattle.std.specs.List.{list_any}
 use Rattle.std.proofs.lemmas.Bool.{false≢true}
@@ -8,7 +8,7 @@ use Rattle.pst_model.specs.ModelTree.{ModelTree}
 use Rattle.pst_scen.specs.declared.scenario.Scenario.{Scenario}
 use Rattle.pst_legal.specs.Standing.{Standing}
 use Rattle.pst_legal.specs.Pieces.{is_true}
-use Rattle.pst_legal.specs.Constraints.{HasConstraint, Holds, value_at}
+use Rattle.pst_legal.specs.Constraints.{HasConstraint, value_at}
 use Rattle.pst_built.proofs.Members.{In, none_any, any_found}
 use Rattle.pst_slots.specs.Listed.{Stating, stating, constraints_of}
 use Rattle.pst_slots.proofs.Found.{found}

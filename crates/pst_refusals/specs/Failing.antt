@@ -2,7 +2,9 @@
 use Rattle.std.specs.Prelude.{ℕ, ℤ, List, Bool, true, false, not, ◌&&◌, Option, Some, None}
 use Rattle.std.specs.List.{list_any}
 use Rattle.pst_model.specs.ModelTree.{ModelTree}
+use Rattle.pst_scen.specs.declared.tree.Node.{Node}
 use Rattle.pst_scen.specs.declared.act.Act.{Act}
+use Rattle.pst_scen.specs.declared.scenario.Scenario.{Scenario}
 use Rattle.pst_legal.specs.Types.{is_state_pool}
 use Rattle.pst_legal.specs.Blanks.{refers_to}
 use Rattle.pst_expr.specs.declared.ranges.Span.{Span}
@@ -12,7 +14,7 @@ use Rattle.pst_legal.specs.Standing.{Standing}
 use Rattle.pst_legal.specs.Constraints.{is_refused_at, value_at}
 use Rattle.pst_known.specs.declared.known.Known.{Known}
 use Rattle.pst_known.specs.declared.known.Known.TheVariants as known
-use Rattle.pst_slots.specs.Listed.{Stating}
+use Rattle.pst_slots.specs.Listed.{Stating, of_fill}
 
 abbrev pub bound_in : Known → Option Span
 bound_in (known.Value v) = Some (record { low = v; high = v })
@@ -35,3 +37,7 @@ fails by_values one = fails_at by_values one.constraint one.standing
 -- a pool of states that some action refers to
 abbrev pub is_used_state : ModelTree → List Act → ℕ → Bool
 is_used_state m acts pool = is_state_pool m pool && list_any (refers_to pool) acts
+
+-- those of the compound action of a numbered node
+abbrev pub of_numbered : ModelTree → Scenario → ℕ × Node → List Stating
+of_numbered m s e = of_fill m s e.0 e.1.fill

@@ -3,3 +3,4 @@ pub mod Founds
 pub mod Answers
 pub mod Places
 pub mod Counted
+pub mod Inlines

@@ -3,6 +3,7 @@
 
 mod acts;
 mod fails;
+mod inlines;
 mod listed;
 mod places;
 mod single;
@@ -10,6 +11,7 @@ mod site;
 mod statement;
 mod whole;
 
+pub use inlines::{content_has, has_inlines};
 pub use places::places_of;
 pub use single::{is_act_refused, is_compound_refused, is_first_refused};
 pub use statement::{Stated, statement_of};

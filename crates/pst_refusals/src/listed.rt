@@ -8,8 +8,10 @@ ghost use Rattle.pst_slots.specs.Listed.{of_fill, of_step, of_stated, of_node};
 ghost use Rattle.pst_slots.specs.Stated.{statement_of as statement_in};
 ghost use Rattle.pst_refusals.specs.Failing.{fails};
 ghost use Rattle.pst_refusals.specs.Places.{ArePlaces};
+ghost use Rattle.pst_refusals.specs.Failing.{of_numbered};
 
 use crate::fails::some_fails;
+use crate::inlines::has_inlines;
 use crate::places::places_of;
 use crate::site::{InlineSite, NodeSite};
 use crate::statement::statement_of;
@@ -114,8 +116,23 @@ fn of_node(
     of_stated(alloc, scene, places, n, by_values)
 }
 
-/// Whether a constraint of a node fails.
-pub(crate) fn of_nodes(alloc: Global, scene: &Scene<'_>, by_values: bool) -> Result<bool, NoMemory>
+// Whether a constraint of a compound action fails.
+fn of_fills(alloc: Global, scene: &Scene<'_>, by_values: bool) -> Result<bool, NoMemory>
+    requires { IsSound (view_model scene.now.model.now) }
+    ensures { IfOk result (λ r. r ≡ list_any (fails by_values) (flat_map (of_numbered (view_model scene.now.model.now) (seen scene.now)) (enumerate_from 0 scene.now.nodes.now))) }
+{
+    let mut n = 0;
+    for node in scene.nodes {
+        if of_fill(alloc, scene, n, &node.fill, by_values)? {
+            return Ok(true);
+        }
+        n += 1;
+    }
+    Ok(false)
+}
+
+// Whether a constraint of a node fails, where traversals may have some too.
+fn of_all(alloc: Global, scene: &Scene<'_>, by_values: bool) -> Result<bool, NoMemory>
     requires { IsSound (view_model scene.now.model.now) }
     ensures { IfOk result (λ r. r ≡ list_any (fails by_values) (flat_map (of_node (view_model scene.now.model.now) (seen scene.now)) (enumerate_from 0 scene.now.nodes.now))) }
 {
@@ -128,4 +145,17 @@ pub(crate) fn of_nodes(alloc: Global, scene: &Scene<'_>, by_values: bool) -> Res
         n += 1;
     }
     Ok(false)
+}
+
+/// Whether a constraint of a node fails. Statements are looked for only where some traversal of the
+/// model has a constraint.
+pub(crate) fn of_nodes(alloc: Global, scene: &Scene<'_>, by_values: bool) -> Result<bool, NoMemory>
+    requires { IsSound (view_model scene.now.model.now) }
+    ensures { IfOk result (λ r. r ≡ list_any (fails by_values) (flat_map (of_node (view_model scene.now.model.now) (seen scene.now)) (enumerate_from 0 scene.now.nodes.now))) }
+{
+    if has_inlines(scene.model) {
+        return of_all(alloc, scene, by_values);
+    }
+    let failed = of_fills(alloc, scene, by_values)?;
+    Ok(failed)
 }

@@ -2,7 +2,6 @@ use Rattle.std.proofs.Common.{◌≡◌, drop}
 use Rattle.std.specs.Prelude.{flat_map}
 use Rattle.std.specs.List.{enumerate_from, list_any}
 use Rattle.pst_model.specs.ModelView.{view_model}
-use Rattle.pst_known.specs.Known.{seen}
 use Rattle.pst_slots.specs.Listed.{of_claim}
 use Rattle.pst_refusals.specs.Failing.{fails}
 use Rattle.pst_refusals.proofs.acts.of_claims.Given as goal

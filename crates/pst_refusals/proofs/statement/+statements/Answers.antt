@@ -3,7 +3,7 @@ use Rattle.std.specs.Prelude.{IfOk, slice_get}
 use Rattle.std.specs.Option.{option_map, option_and_then}
 use Rattle.std.proofs.lemmas.Option.{slice_get_within}
 use Rattle.pst_model.specs.ModelView.{view_model}
-use Rattle.pst_slots.specs.Stated.{parent_of, place_in, at_place, part_at, stated_within}
+use Rattle.pst_slots.specs.Stated.{place_in, at_place, part_at, stated_within}
 use Rattle.pst_refusals.specs.Founds.{stated_of}
 use Rattle.pst_refusals.proofs.Steps.{got}
 use Rattle.pst_refusals.proofs.Within.{within_top, within_turn, within_part, within_repeat}

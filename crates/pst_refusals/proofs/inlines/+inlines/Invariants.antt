@@ -1,8 +1,8 @@
 use Rattle.std.proofs.Common.{◌≡◌, map, drop}
 use Rattle.std.specs.List.{list_any}
 use Rattle.pst_model.specs.ModelView.{view_step, view_branch, view_arm}
-use Rattle.pst_new_refusals.specs.Far.{has_inline, branch_has, arm_has}
-use Rattle.pst_new_refusals.proofs.far.+inlines.Given as goal
+use Rattle.pst_refusals.specs.Inlines.{has_inline, branch_has, arm_has}
+use Rattle.pst_refusals.proofs.inlines.+inlines.Given as goal
 
 abbrev pub invariant-steps_have-loop-step : goal.invariant-steps_have-loop-step
 invariant-steps_have-loop-step l = list_any has_inline (map view_step (drop l.step-index l.steps)) ≡ list_any has_inline (map view_step l.steps)

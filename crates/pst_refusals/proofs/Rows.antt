@@ -1,5 +1,5 @@
 -- Whether a step has an inline constraint, by its lists.
-use Rattle.std.proofs.Common.{◌≡◌, ℕ, List, [], ◌∷◌, map, length, Bool, ◌||◌, nat_lt, Option, refl, sym, ap, ◌∙◌}
+use Rattle.std.proofs.Common.{◌≡◌, ℕ, List, [], ◌∷◌, map, length, Bool, ◌||◌, nat_lt, Option, refl, ap, ◌∙◌}
 use Rattle.std.specs.List.{list_any}
 use Rattle.std.specs.Global.{Vec, Box}
 use Rattle.std.proofs.lemmas.List.{length-map}
@@ -13,7 +13,7 @@ use Rattle.pst_model.specs.ConstraintTree.{view_constraint}
 use Rattle.pst_model.specs.ActivityTree.{StepTree, BranchTree, ArmTree}
 use Rattle.pst_model.specs.ModelView.{view_step, view_branch, view_arm, maybe_step}
 use Rattle.pst_sound_parts.proofs.Rows.{step_row, branch_row, arm_row, sequence_is, parallel_is, schedule_is, joined_is, select_is, if_is, match_is}
-use Rattle.pst_new_refusals.specs.Far.{has_inline, steps_have, branches_have, branch_has, arms_have, arm_has, maybe_has}
+use Rattle.pst_refusals.specs.Inlines.{has_inline, steps_have, branches_have, branch_has, arms_have, arm_has, maybe_has}
 
 steps_row : (xs : List StepTree) → steps_have (step_row xs) ≡ list_any has_inline xs
 steps_row [] = refl

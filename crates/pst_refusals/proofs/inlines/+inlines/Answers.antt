@@ -5,9 +5,9 @@ use Rattle.pst_model.specs.declared.activity.Step.{Step}
 use Rattle.pst_model.specs.declared.activity.Branch.{Branch}
 use Rattle.pst_model.specs.declared.activity.Arm.{Arm}
 use Rattle.pst_model.specs.ModelView.{view_step, view_branch, view_arm, maybe_step}
-use Rattle.pst_new_refusals.specs.Far.{has_inline, branch_has, arm_has, maybe_has}
-use Rattle.pst_new_refusals.proofs.Rows.{in_sequence, in_parallel, in_schedule, in_joined, in_select, in_match}
-use Rattle.pst_new_refusals.proofs.far.+inlines.Goals as goal
+use Rattle.pst_refusals.specs.Inlines.{has_inline, branch_has, arm_has, maybe_has}
+use Rattle.pst_refusals.proofs.Rows.{in_sequence, in_parallel, in_schedule, in_joined, in_select, in_match}
+use Rattle.pst_refusals.proofs.inlines.+inlines.Goals as goal
 
 pub has_inline-returns-in-Sequence : goal.has_inline-returns-in-Sequence
 has_inline-returns-in-Sequence t c =

@@ -1,6 +1,6 @@
 -- Where no step of the model's activities has an inline constraint, no statement has one.
-use Rattle.std.proofs.Common.{◌≡◌, ℕ, zero, suc, ◌<◌, ◌≤◌, List, [], ◌∷◌, length, Bool, true, false, nat_lt, Contains, Some, None, refl, sym, ap, ◌∙◌, subst, arith}
-use Rattle.std.specs.Prelude.{slice_get}
+use Rattle.std.proofs.Common.{◌≡◌, ℕ, zero, suc, ◌≤◌, List, [], ◌∷◌, ◌++◌, map, length, append-nil, true, false, Contains, Option, Some, None, refl, ap, ◌∙◌, subst, arith}
+use Rattle.std.specs.Prelude.{slice_get, flat_map}
 use Rattle.std.specs.List.{list_any}
 use Rattle.std.specs.Option.{option_map}
 use Rattle.std.proofs.lemmas.Option.{none-some, same_Some, option_and_then_some}
@@ -11,10 +11,16 @@ use Rattle.pst_model.specs.ModelTree.{ModelTree, ActionTree, ContentTree, Atomic
 use Rattle.pst_scen.specs.declared.tree.Node.{Node}
 use Rattle.pst_scen.specs.declared.tree.Fill.{Fill}
 use Rattle.pst_scen.specs.declared.tree.Fill.TheVariants as fill
-use Rattle.pst_legal.specs.Types.{type_of, activity_in, action_activity}
+use Rattle.pst_legal.specs.Types.{type_of, activity_in}
 use Rattle.pst_legal.specs.Statements.{step_below, StandsFor, AtTop, Below, InTurn}
+use Rattle.pst_scen.specs.declared.scenario.Scenario.{Scenario}
+use Rattle.pst_legal.specs.Slots.{inline_slot}
 use Rattle.pst_built.proofs.Members.{in_get, none_any}
-use Rattle.pst_new_refusals.specs.Far.{is_far, has_inline, steps_have, branches_have, branch_has, arms_have, arm_has, maybe_has, content_has, is_far_type, has_far}
+use Rattle.pst_slots.specs.Stated.{Stated, statement_of}
+use Rattle.pst_slots.specs.Listed.{stating, of_fill, of_step, of_stated, of_node}
+use Rattle.pst_slots.proofs.Found.{found}
+use Rattle.pst_refusals.specs.Failing.{of_numbered}
+use Rattle.pst_refusals.specs.Inlines.{has_inline, steps_have, branches_have, branch_has, arms_have, arm_has, maybe_has, content_has, type_has, has_inlines}
 
 abbrev pub HasNone : StepTree → Type 0
 HasNone step = has_inline step ≡ false
@@ -60,14 +66,14 @@ in_content : (content : ContentTree) (activity : ActivityTree) → activity_in c
 in_content (Atomic body) activity e none = absurd (none-some activity e)
 in_content (Compound own) activity e none = subst (λ (a : ActivityTree). list_any has_inline a.steps ≡ false) (same_Some own activity e) none
 
-module _ (m : ModelTree) (near : has_far m ≡ false) where
-  pub near_type : (action : ℕ) (type : ActionTree) → type_of m action ≡ Some type → (list_any is_far type.constraints ≡ false) × (content_has type.content ≡ false)
-  near_type action type is = or_parts (list_any is_far type.constraints) (content_has type.content) (none_any is_far_type m.actions type near (in_get m.actions action type is))
+module _ (m : ModelTree) (without : has_inlines m ≡ false) where
+  none_of : (action : ℕ) (type : ActionTree) → type_of m action ≡ Some type → content_has type.content ≡ false
+  none_of action type is = none_any type_has m.actions type without (in_get m.actions action type is)
 
-  pub none_stands : (nodes : List Node) (top : ℕ) {n : ℕ} {step : StepTree} {indices : List ℕ} → StandsFor m nodes top n step indices → HasNone step
+  none_stands : (nodes : List Node) (top : ℕ) {n : ℕ} {step : StepTree} {indices : List ℕ} → StandsFor m nodes top n step indices → HasNone step
   none_stands nodes top (AtTop n index action instance fields activity node step is leaf has branch at) =
       option_and_then_some (λ (t : ActionTree). activity_in t.content) (type_of m action) activity has
-      (λ type typed of. none_any has_inline activity.steps step (in_content type.content activity of (near_type action type typed).1) (in_get activity.steps index step at))
+      (λ type typed of. none_any has_inline activity.steps step (in_content type.content activity of (none_of action type typed)) (in_get activity.steps index step at))
   none_stands nodes top (Below n parent index node above step indices over is branch at) = none_below node.fill above index step (none_stands nodes top over) at
   none_stands nodes top (InTurn n turn parent index node count body round over in_parent is of in_it) = none_stands nodes top over
 
@@ -76,3 +82,40 @@ module _ (m : ModelTree) (near : has_far m ≡ false) where
   none_inline nodes top n action handle inline indices k stands has =
       let none : length inline ≤ 0 = ltb-false 0 (length inline) (none_stands nodes top stands) in
       omega (arith, none, has.1)
+
+  -- nor has the one that is found from a node up
+  pub none_found : (nodes : List Node) (n : ℕ) (x : Stated) (action : ℕ) (handle : _) (inline : List ConstraintTree) → statement_of m nodes n ≡ Some x → x.step ≡ Traverse action handle inline → inline ≡ []
+  none_found nodes n x action handle inline is of =
+      let stands : StandsFor m nodes x.top n (Traverse action handle inline) x.indices = subst (λ step. StandsFor m nodes x.top n step x.indices) of (found m nodes (length nodes) n x is) in
+      is_empty inline (ltb-false 0 (length inline) (none_stands nodes x.top stands))
+    where
+      is_empty : (ks : List ConstraintTree) → length ks ≤ 0 → ks ≡ []
+      is_empty [] none = refl
+      is_empty (k ∷ ks) none = absurd (omega (arith, none))
+
+  -- so it has none in a scenario
+  pub none_stated : (s : Scenario) (nodes : List Node) (n : ℕ) → of_stated m s n (statement_of m nodes n) ≡ []
+  none_stated s nodes n = by (statement_of m nodes n) refl
+    where
+      by : (o : Option Stated) → statement_of m nodes n ≡ o → of_stated m s n o ≡ []
+      by None is = refl
+      by (Some x) is = at x.step refl
+        where
+          at : (step : StepTree) → x.step ≡ step → of_step m s n x.top x.indices step ≡ []
+          at (Traverse action handle inline) of = ap (map (stating (inline_slot m s n x.top x.indices))) (none_found nodes n x action handle inline is of)
+          at (Sequence steps) of = refl
+          at (Parallel steps) of = refl
+          at (Schedule steps) of = refl
+          at (Joined parallel join steps) of = refl
+          at (Select branches) of = refl
+          at (Repeat count body) of = refl
+          at (If condition holds fails) of = refl
+          at (Match matched arms other) of = refl
+
+  -- the constraints of nodes are those of compound actions
+  pub fills_alone : (s : Scenario) (es : List (ℕ × Node)) → flat_map (of_node m s) es ≡ flat_map (of_numbered m s) es
+  fills_alone s [] = refl
+  fills_alone s (e ∷ es) =
+      ap (λ xs. (of_fill m s e.0 e.1.fill ++ xs) ++ flat_map (of_node m s) es) (none_stated s s.nodes e.0)
+      ∙ ap (λ xs. xs ++ flat_map (of_node m s) es) (append-nil (of_fill m s e.0 e.1.fill))
+      ∙ ap (λ xs. of_fill m s e.0 e.1.fill ++ xs) (fills_alone s es)
