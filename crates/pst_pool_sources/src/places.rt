@@ -2,7 +2,7 @@
 ghost use Rattle.std.specs.Prelude.{◌≡◌, ◌<◌, ◌≤◌, ℕ, length, slice_index_or, true, false, IfSome};
 ghost use Rattle.pst_ties.specs.declared.tied.End.{End as the_end};
 ghost use Rattle.pst_ties.specs.Tieds.{same_end};
-ghost use Rattle.pst_open_ends.specs.Places.{is_before, AreRising, IsPlace};
+ghost use Rattle.pst_pool_sources.specs.Places.{is_before, AreRising, IsPlace};
 
 use pst_ties::End;
 

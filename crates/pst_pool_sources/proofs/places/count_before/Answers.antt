@@ -1,8 +1,8 @@
 use Rattle.std.proofs.Common.{rules, arith}
 use Rattle.std.proofs.lemmas.List.Sorted.{IsPartitionPoint-from_clause}
-use Rattle.pst_open_ends.specs.Places.{is_before}
-use Rattle.pst_open_ends.proofs.Rising.{parted}
-use Rattle.pst_open_ends.proofs.places.count_before.Goals as goal
+use Rattle.pst_pool_sources.specs.Places.{is_before}
+use Rattle.pst_pool_sources.proofs.Rising.{parted}
+use Rattle.pst_pool_sources.proofs.places.count_before.Goals as goal
 
 pub returns-clause-before : goal.returns-clause-before
 returns-clause-before c = λ k d lt.

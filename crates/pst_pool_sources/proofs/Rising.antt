@@ -1,16 +1,18 @@
--- The references that fit stand in order, and where one of them stands.
+-- References that are picked stand in order, and where one of them stands.
 use Rattle.std.proofs.Common.{◌≡◌, ◌⊎◌, ℕ, zero, suc, ◌+◌, ◌<◌, ◌≤◌, List, [], ◌∷◌, ◌++◌, length, get_or, Bool, true, false, ◌&&◌, ◌||◌, nat_eq, nat_lt, inl, inr, refl, sym, ap, ◌∙◌, subst, arith}
+use Rattle.std.specs.Prelude.{map, flat_map, if◌then◌else◌}
+use Rattle.std.specs.List.{filter, enumerate_from}
 use Rattle.std.specs.List.Sorted.{IsPartitionedBy}
+use Rattle.std.proofs.lemmas.List.{map-append, get_or_default}
+use Rattle.std.proofs.lemmas.List.Elements.{filter-append}
 use Rattle.std.proofs.lemmas.Bool.{eq-eqb, ne_eqb, eqb-true, ltb-true, ltb-false, lt-ltb, le-ltb, and_parts, cases_Bool, cases_order, both_ways}
 use Rattle.pst_scen.specs.declared.act.Act.{Act}
 use Rattle.pst_scen.specs.declared.act.Filled.{Filled}
-use Rattle.pst_scen.specs.declared.act.Flow.{Flow}
+use Rattle.pst_legal.specs.SupplyReading.{Spot, spots_in, spots}
 use Rattle.pst_ties.specs.declared.tied.End.{End}
 use Rattle.pst_ties.specs.Tieds.{same_end}
-use Rattle.pst_pool_sources.specs.Offers.{offers, end_if, fitting, fitting_in, fitting_from}
-use Rattle.pst_pool_sources.proofs.Lists.{fitting_is}
-use Rattle.pst_open_ends.specs.Places.{is_before, Before, AreRising}
-use Rattle.pst_open_ends.proofs.Alters.{get_same}
+use Rattle.pst_pool_sources.specs.Offers.{end_of}
+use Rattle.pst_pool_sources.specs.Places.{is_before, Before, AreRising}
 
 -- ---- what the tests mean
 
@@ -51,7 +53,7 @@ before_test a b h = go (cases_order a.act b.act)
     go (inr (inl l)) = ap (λ t. t || (nat_eq a.act b.act && nat_lt a.reference b.reference)) (lt-ltb a.act b.act l)
     go (inr (inr l)) = let least = h.0 in absurd (omega arith)
 
-same_true : (a b : End) → same_end a b ≡ true → (a.act ≡ b.act) × (a.reference ≡ b.reference)
+pub same_true : (a b : End) → same_end a b ≡ true → (a.act ≡ b.act) × (a.reference ≡ b.reference)
 same_true a b h =
     let parts = and_parts (nat_eq a.act b.act) (nat_eq a.reference b.reference) h in
     (eqb-true a.act b.act parts.0, eqb-true a.reference b.reference parts.1)
@@ -98,49 +100,71 @@ rising (x ∷ xs) h zero (suc k) d l m = each_at (Before x) xs k d (omega arith)
 rising (x ∷ xs) h (suc j) zero d l m = absurd (omega arith)
 rising (x ∷ xs) h (suc j) (suc k) d l m = rising xs h.1 j k d (omega arith) (omega arith)
 
-module _ (need : Flow) (pool : ℕ) where
+abbrev spots_of : ℕ → ℕ → List Filled → List Spot
+spots_of act number references = map (λ e. record { act = act; reference = e.0; filled = e.1 }) (enumerate_from number references)
+
+abbrev spots_from : ℕ → List Act → List Spot
+spots_from number acts = flat_map spots_in (enumerate_from number acts)
+
+module _ (t : Spot → Bool) where
+  abbrev picked : List Spot → List End
+  picked xs = map end_of (filter t xs)
+
+  picked_more : (xs ys : List Spot) → picked (xs ++ ys) ≡ picked xs ++ picked ys
+  picked_more xs ys = ap (map end_of) (filter-append t xs ys) ∙ map-append end_of (filter t xs) (filter t ys)
+
   abbrev In : ℕ → ℕ → End → Type 0
   In act number end = (end.act ≡ act) × (number ≤ end.reference)
 
-  in_each : (act number : ℕ) (xs : List Filled) → Each (In act number) (fitting_in need pool act number xs)
+  in_each : (act number : ℕ) (xs : List Filled) → Each (In act number) (picked (spots_of act number xs))
   in_each act number [] = tt
-  in_each act number (x ∷ xs) = go (offers need pool x) (each_so (In act (number + 1)) (In act number) (fitting_in need pool act (number + 1) xs) (λ e h. (h.0, let l = h.1 in omega arith)) (in_each act (number + 1) xs))
+  in_each act number (x ∷ xs) = go (t (record { act = act; reference = number; filled = x })) (each_so (In act (number + 1)) (In act number) (picked rest) (λ e h. (h.0, let l = h.1 in omega arith)) (in_each act (number + 1) xs))
     where
-      go : (b : Bool) → Each (In act number) (fitting_in need pool act (number + 1) xs) → Each (In act number) (end_if b (record { act = act; reference = number }) ++ fitting_in need pool act (number + 1) xs)
+      rest : List Spot
+      rest = spots_of act (number + 1) xs
+
+      go : (b : Bool) → Each (In act number) (picked rest) → Each (In act number) (map end_of (if b then record { act = act; reference = number; filled = x } ∷ filter t rest else filter t rest))
       go true h = ((refl, omega arith), h)
       go false h = h
 
-  in_rises : (act number : ℕ) (xs : List Filled) → Rises (fitting_in need pool act number xs)
+  in_rises : (act number : ℕ) (xs : List Filled) → Rises (picked (spots_of act number xs))
   in_rises act number [] = tt
-  in_rises act number (x ∷ xs) = go (offers need pool x) (in_rises act (number + 1) xs)
+  in_rises act number (x ∷ xs) = go (t (record { act = act; reference = number; filled = x })) (in_rises act (number + 1) xs)
     where
+      rest : List Spot
+      rest = spots_of act (number + 1) xs
+
       this : End
       this = record { act = act; reference = number }
 
-      go : (b : Bool) → Rises (fitting_in need pool act (number + 1) xs) → Rises (end_if b this ++ fitting_in need pool act (number + 1) xs)
-      go true h = (each_so (In act (number + 1)) (Before this) (fitting_in need pool act (number + 1) xs) (λ e i. let a = i.0 in let l = i.1 in (omega arith, λ s. omega arith)) (in_each act (number + 1) xs), h)
+      go : (b : Bool) → Rises (picked rest) → Rises (map end_of (if b then record { act = act; reference = number; filled = x } ∷ filter t rest else filter t rest))
+      go true h = (each_so (In act (number + 1)) (Before this) (picked rest) (λ e i. let a = i.0 in let l = i.1 in (omega arith, λ s. omega arith)) (in_each act (number + 1) xs), h)
       go false h = h
 
   abbrev From : ℕ → End → Type 0
   From number end = number ≤ end.act
 
-  from_each : (number : ℕ) (xs : List Act) → Each (From number) (fitting_from need pool number xs)
+  from_each : (number : ℕ) (xs : List Act) → Each (From number) (picked (spots_from number xs))
   from_each number [] = tt
   from_each number (x ∷ xs) =
-      each_more (From number) (fitting_in need pool number 0 x.references) (fitting_from need pool (number + 1) xs)
-      (each_so (In number 0) (From number) (fitting_in need pool number 0 x.references) (λ e h. let a = h.0 in omega arith) (in_each number 0 x.references))
-      (each_so (From (number + 1)) (From number) (fitting_from need pool (number + 1) xs) (λ e h. omega arith) (from_each (number + 1) xs))
+      let later = spots_from (number + 1) xs in
+      subst (Each (From number)) (sym (picked_more (spots_of number 0 x.references) later))
+      (each_more (From number) (picked (spots_of number 0 x.references)) (picked later)
+      (each_so (In number 0) (From number) (picked (spots_of number 0 x.references)) (λ e h. let a = h.0 in omega arith) (in_each number 0 x.references))
+      (each_so (From (number + 1)) (From number) (picked later) (λ e h. omega arith) (from_each (number + 1) xs)))
 
-  from_rises : (number : ℕ) (xs : List Act) → Rises (fitting_from need pool number xs)
+  from_rises : (number : ℕ) (xs : List Act) → Rises (picked (spots_from number xs))
   from_rises number [] = tt
   from_rises number (x ∷ xs) =
-      let later = fitting_from need pool (number + 1) xs in
-      rises_more (fitting_in need pool number 0 x.references) later (in_rises number 0 x.references) (from_rises (number + 1) xs)
-      (each_so (In number 0) (λ e. Each (Before e) later) (fitting_in need pool number 0 x.references)
-      (λ e h. each_so (From (number + 1)) (Before e) later (λ f l. let a = h.0 in (omega arith, λ s. let bad : ⊥ = omega arith in absurd bad)) (from_each (number + 1) xs)) (in_each number 0 x.references))
+      let here = picked (spots_of number 0 x.references) in
+      let later = picked (spots_from (number + 1) xs) in
+      subst Rises (sym (picked_more (spots_of number 0 x.references) (spots_from (number + 1) xs)))
+      (rises_more here later (in_rises number 0 x.references) (from_rises (number + 1) xs)
+      (each_so (In number 0) (λ e. Each (Before e) later) here
+      (λ e h. each_so (From (number + 1)) (Before e) later (λ f l. let a = h.0 in (omega arith, λ s. let bad : ⊥ = omega arith in absurd bad)) (from_each (number + 1) xs)) (in_each number 0 x.references)))
 
-  pub fitting_rises : (acts : List Act) → AreRising (fitting need pool acts)
-  fitting_rises acts = subst AreRising (sym (fitting_is need pool acts)) (rising (fitting_from need pool 0 acts) (from_rises 0 acts))
+  pub picked_rise : (acts : List Act) → AreRising (map end_of (filter t (spots acts)))
+  picked_rise acts = rising (picked (spots acts)) (from_rises 0 acts)
 
 -- ---- places
 
@@ -185,12 +209,12 @@ module _ (ends : List End) (end : End) (place : ℕ) (rising : AreRising ends) (
   at_other l x e h k d m =
       by_place (λ k. k < length ends → same_end end (get_or ends k d) ≡ false) k
       (λ b m. earlier (get_or ends k d) end (before k d b))
-      (λ m. ap (same_end end) (get_same ends place d x m ∙ sym e) ∙ h)
+      (λ m. ap (same_end end) (get_or_default ends place d x m ∙ sym e) ∙ h)
       (λ a m. later k d a m) m
 
   pub at_place : place < length ends → (x : End) → x ≡ get_or ends place x → same_end end x ≡ true → (k : ℕ) (d : End) → k < length ends → same_end end (get_or ends k d) ≡ nat_eq place k
   at_place l x e h k d m =
       by_place (λ k. k < length ends → same_end end (get_or ends k d) ≡ nat_eq place k) k
       (λ b m. earlier (get_or ends k d) end (before k d b) ∙ sym (ne_eqb place k (λ s. let bad : ⊥ = omega arith in bad)))
-      (λ m. ap (same_end end) (get_same ends place d x m ∙ sym e) ∙ h ∙ sym (eq-eqb place place refl))
+      (λ m. ap (same_end end) (get_or_default ends place d x m ∙ sym e) ∙ h ∙ sym (eq-eqb place place refl))
       (λ a m. later k d a m ∙ sym (ne_eqb place k (λ s. let bad : ⊥ = omega arith in bad))) m

@@ -1,0 +1,5 @@
+pub mod Each
+pub mod Spots
+pub mod Links
+pub mod Moves
+pub mod Grows
