@@ -1,5 +1,5 @@
 -- Lists of which each element is of a kind, and lists that are picked from others.
-use Rattle.std.proofs.Common.{◌≡◌, ℕ, List, [], ◌∷◌, ◌++◌, map, length, ◌≤◌, Bool, true, false, not, ◌&&◌, ◌||◌, if◌then◌else◌, refl, sym, ap, ◌∙◌, arith}
+use Rattle.std.proofs.Common.{◌≡◌, List, [], ◌∷◌, map, Bool, true, false, not, ◌&&◌, ◌||◌, if◌then◌else◌, refl, sym, ap, ◌∙◌}
 use Rattle.std.specs.List.{filter, list_any}
 use Rattle.std.proofs.lemmas.Bool.{false≢true}
 use Rattle.pst_open_ends.proofs.Lookups.{Each}
@@ -91,20 +91,20 @@ module _ {A B : Type 0} (name : A → B) (change : A → A) (t new : A → Bool)
       ∙ ap (filter u) (sym (map_if name (t x) x (filter t xs)))
 
 -- an element that isn't picked is passed over
-pub picks_others : {A B : Type 0} (name : A → B) (t : A → Bool) (u : B → Bool) (xs : List A) → Each (λ x. u (name x) ≡ true → t x ≡ false) xs → filter (λ y. not (u y)) (map name (filter t xs)) ≡ map name (filter t xs)
+pub picks_others : {A : Type 0} {B : Type 0} (name : A → B) (t : A → Bool) (u : B → Bool) (xs : List A) → Each (λ x. u (name x) ≡ true → t x ≡ false) xs → filter (λ y. not (u y)) (map name (filter t xs)) ≡ map name (filter t xs)
 picks_others name t u [] h = refl
-picks_others name t u (x ∷ xs) h = go (t x) (u (name x)) refl refl
+picks_others {B = B} name t u (x ∷ xs) h = go (t x) (u (name x)) refl refl (picks_others name t u xs h.1)
   where
-    rest : List _
+    rest : List B
     rest = map name (filter t xs)
 
-    go : (b c : Bool) → t x ≡ b → u (name x) ≡ c → filter (λ y. not (u y)) (map name (if t x then x ∷ filter t xs else filter t xs)) ≡ map name (if t x then x ∷ filter t xs else filter t xs)
-    go b c e f =
+    pass : (b c : Bool) → t x ≡ b → u (name x) ≡ c → filter (λ y. not (u y)) rest ≡ rest → filter (λ y. not (u y)) (map name (if b then x ∷ filter t xs else filter t xs)) ≡ map name (if b then x ∷ filter t xs else filter t xs)
+    pass true true e f k = absurd (false≢true (sym (h.0 f) ∙ e))
+    pass true false e f k = ap (λ d. if not d then name x ∷ filter (λ y. not (u y)) rest else filter (λ y. not (u y)) rest) f ∙ ap (λ l. name x ∷ l) k
+    pass false c e f k = k
+
+    go : (b c : Bool) → t x ≡ b → u (name x) ≡ c → filter (λ y. not (u y)) rest ≡ rest → filter (λ y. not (u y)) (map name (if t x then x ∷ filter t xs else filter t xs)) ≡ map name (if t x then x ∷ filter t xs else filter t xs)
+    go b c e f k =
         ap (λ d. filter (λ y. not (u y)) (map name (if d then x ∷ filter t xs else filter t xs))) e
-        ∙ pass b c e f
+        ∙ pass b c e f k
         ∙ ap (λ d. map name (if d then x ∷ filter t xs else filter t xs)) (sym e)
-      where
-        pass : (b c : Bool) → t x ≡ b → u (name x) ≡ c → filter (λ y. not (u y)) (map name (if b then x ∷ filter t xs else filter t xs)) ≡ map name (if b then x ∷ filter t xs else filter t xs)
-        pass true true e f = absurd (false≢true (sym (h.0 f) ∙ e))
-        pass true false e f = ap (λ d. if not d then name x ∷ filter (λ y. not (u y)) rest else filter (λ y. not (u y)) rest) f ∙ ap (λ l. name x ∷ l) (picks_others name t u xs h.1)
-        pass false c e f = picks_others name t u xs h.1

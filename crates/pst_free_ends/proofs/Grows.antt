@@ -1,6 +1,6 @@
 -- The references of new actions.
-use Rattle.std.proofs.Common.{◌≡◌, ℕ, ◌+◌, ◌≤◌, List, [], ◌∷◌, ◌++◌, map, length, drop, Bool, true, false, not, ◌&&◌, ◌||◌, nat_eq, if◌then◌else◌, Option, Some, None, refl, sym, ap, ◌∙◌, subst, arith, length-append}
-use Rattle.std.specs.Prelude.{flat_map, slice_get}
+use Rattle.std.proofs.Common.{◌≡◌, ℕ, ◌+◌, ◌≤◌, List, [], ◌∷◌, ◌++◌, map, length, drop, Bool, true, false, not, ◌&&◌, ◌||◌, nat_eq, if◌then◌else◌, Option, Some, None, refl, sym, ap, ◌∙◌, arith, length-append}
+use Rattle.std.specs.Prelude.{slice_get}
 use Rattle.std.specs.List.{enumerate_from, filter, list_any}
 use Rattle.std.proofs.lemmas.Bool.{false≢true}
 use Rattle.std.proofs.lemmas.List.{append-nil, map-append, drop_at}
@@ -17,11 +17,9 @@ use Rattle.pst_scen.specs.declared.act.Link.TheVariants as link
 use Rattle.pst_legal.specs.Types.{type_of}
 use Rattle.pst_legal.specs.Growing.{open_reference, open_references}
 use Rattle.pst_legal.specs.SupplyReading.{Spot as Read, Source, Initially, From, New, spots, is_stream, is_writer, is_open, is_previous, same_link, put_link, linked_to}
-use Rattle.pst_ties.specs.declared.tied.End.{End}
-use Rattle.pst_ties.specs.Tieds.{same_end}
 use Rattle.pst_pool_sources.specs.declared.ends.SourceEnds.{SourceEnds}
 use Rattle.pst_pool_sources.specs.declared.sources.PoolSources.{PoolSources}
-use Rattle.pst_pool_sources.specs.Offers.{offers, end_of, may_serve, is_untaken, fitting, free_ends, fitting_from, ends_in, ends_at, room_in, room_at, keeps, count_from, but_last}
+use Rattle.pst_pool_sources.specs.Offers.{offers, end_of, may_serve, fitting, free_ends, fitting_from, ends_in, ends_at, room_in, room_at, keeps, count_from, but_last}
 use Rattle.pst_pool_sources.proofs.Lists.{from_is, but_appended, length-fitting_from}
 use Rattle.pst_pool_sources.proofs.Links.{relinked_behind}
 use Rattle.pst_open_ends.specs.declared.spot.Spot.{Spot}
@@ -29,7 +27,7 @@ use Rattle.pst_open_ends.specs.declared.links.Relinked.{Relinked}
 use Rattle.pst_open_ends.specs.declared.links.Change.{Change}
 use Rattle.pst_open_ends.specs.Spots.{read_spot, spots_of, spots_from, spot_at}
 use Rattle.pst_open_ends.specs.Options.{link_of}
-use Rattle.pst_open_ends.specs.Changes.{opened, far_unlinked, ends_undone, undone, made_by, supplied_acts, Supplies}
+use Rattle.pst_open_ends.specs.Changes.{opened, far_unlinked, ends_undone, undone, made_by, supplied_acts}
 use Rattle.pst_open_ends.proofs.Lookups.{Each, each_append}
 use Rattle.pst_free_ends.specs.Steps.{near_of, IsTurn, IsStep, target_of, linked_by, NoneAhead}
 use Rattle.pst_free_ends.proofs.Each.{each_so, none_passes, and_always, and_never, or_never, picks_same}

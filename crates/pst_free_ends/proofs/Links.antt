@@ -18,7 +18,8 @@ spread : (a h l b k : Bool) → ((a || (h && l)) || (b || (k && l))) ≡ ((a || 
 spread true h l b k = refl
 spread false true true true k = refl
 spread false true true false k = refl
-spread false true false b k = refl
+spread false true false b true = refl
+spread false true false b false = refl
 spread false false l b k = refl
 
 parts : (o w v c : Bool) → (o && not (w && (v || c))) ≡ ((o && not (w && v)) && not (w && c))
@@ -37,14 +38,14 @@ hits e pool xs = list_any (λ s. at e s && (is_writer s.filled.flow && nat_eq s.
 
 pub any_one : (e : End) (one : Spot) (t : Spot → Bool) (xs : List Spot) → Each (λ s. at e s ≡ true → s ≡ one) xs → list_any (λ s. at e s && t s) xs ≡ (list_any (at e) xs && t one)
 any_one e one t [] h = refl
-any_one e one t (x ∷ xs) h = go (at e x) refl
+any_one e one t (x ∷ xs) h = go (at e x) refl (any_one e one t xs h.1)
   where
-    go : (b : Bool) → at e x ≡ b → ((b && t x) || list_any (λ s. at e s && t s) xs) ≡ ((b || list_any (at e) xs) && t one)
-    go true w =
+    go : (b : Bool) → at e x ≡ b → list_any (λ s. at e s && t s) xs ≡ (list_any (at e) xs && t one) → ((b && t x) || list_any (λ s. at e s && t s) xs) ≡ ((b || list_any (at e) xs) && t one)
+    go true w k =
         ap (λ s. t s || list_any (λ s. at e s && t s) xs) (h.0 w)
-        ∙ ap (λ b. t one || b) (any_one e one t xs h.1)
+        ∙ ap (λ b. t one || b) k
         ∙ absorb (t one) (list_any (at e) xs)
-    go false w = any_one e one t xs h.1
+    go false w k = k
 
 module _ (acts : List Act) (e : End) (to : Link) where
   abbrev new : List Act

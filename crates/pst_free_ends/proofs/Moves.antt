@@ -1,8 +1,7 @@
 -- What linking a need takes, kind by kind.
-use Rattle.std.proofs.Common.{◌≡◌, ℕ, ◌<◌, ◌≤◌, List, length, map, Bool, true, false, not, ◌&&◌, ◌||◌, nat_eq, if◌then◌else◌, Option, Some, None, refl, sym, ap, ◌∙◌, subst, arith}
-use Rattle.std.specs.Prelude.{is_some}
+use Rattle.std.proofs.Common.{◌≡◌, ℕ, ◌≤◌, List, length, Bool, true, false, not, ◌&&◌, ◌||◌, nat_eq, if◌then◌else◌, Option, Some, None, refl, sym, ap, ◌∙◌, subst, arith}
 use Rattle.std.specs.List.{filter, list_any}
-use Rattle.std.proofs.lemmas.Bool.{eq-eqb, ne_eqb, eqb-true, and_parts, false≢true}
+use Rattle.std.proofs.lemmas.Bool.{ne_eqb, eqb-true, and_parts, false≢true}
 use Rattle.pst_scen.specs.declared.act.Act.{Act}
 use Rattle.pst_scen.specs.declared.act.Flow.{Flow}
 use Rattle.pst_scen.specs.declared.act.Flow.TheVariants.{BufferIn, BufferOut, StreamIn, StreamOut, StateIn, StateOut}
@@ -15,13 +14,12 @@ use Rattle.pst_ties.specs.Tieds.{same_end}
 use Rattle.pst_pool_sources.specs.declared.sources.PoolSources.{PoolSources}
 use Rattle.pst_pool_sources.specs.Offers.{offers, end_of, may_serve, is_untaken, free_ends, without, takes, ends_at, begun_at, AreSources}
 use Rattle.pst_open_ends.specs.declared.spot.Spot.{Spot}
-use Rattle.pst_open_ends.specs.Spots.{read_spot, spot_at}
+use Rattle.pst_open_ends.specs.Spots.{read_spot}
 use Rattle.pst_open_ends.specs.Options.{link_of}
 use Rattle.pst_open_ends.proofs.Alters.{alter_length}
 use Rattle.pst_open_ends.proofs.Lookups.{Each, each_spot}
-use Rattle.pst_free_ends.specs.declared.taken.Removed.{Removed}
 use Rattle.pst_free_ends.specs.declared.taken.Taken.{Taken}
-use Rattle.pst_free_ends.specs.Steps.{restored, unbegun, near_of, IsTurn, linked_by, mate_of, NoneAhead, Takes, Moved}
+use Rattle.pst_free_ends.specs.Steps.{restored, unbegun, near_of, IsTurn, linked_by, mate_of, NoneAhead, Moved}
 use Rattle.pst_free_ends.proofs.Each.{each_so, each_map, and_never, or_never, none_passes, picks_all, picks_swap, picks_others}
 use Rattle.pst_free_ends.proofs.Spots.{at, spot_with, linked, linked_end, spots_linked, only_one, Picked, picked_is, spot_below}
 use Rattle.pst_free_ends.proofs.Links.{hits, any_one, free_stream, AreUnlinked, previous_linked, free_other, free_unhit, previous_unhit}
@@ -215,7 +213,7 @@ module _ (need : Spot) (acts : List Act) (turn : IsTurn need acts) (ahead : None
 
       moved : Moved sources taken acts new
       moved = record {
-        sources = record {
+        are = record {
           ends = λ n p. are.ends n p ∙ sym (same n p);
           begun = λ p. are.begun p ∙ sym (first p);
         };
@@ -242,7 +240,7 @@ module _ (need : Spot) (acts : List Act) (turn : IsTurn need acts) (ahead : None
         → ((n : Flow) (p : ℕ) → ends_at n p sources ≡ ends_at n p old) → ((p : ℕ) → begun_at p sources ≡ (begun_at p old || nat_eq need.pool p)) → begun_at need.pool old ≡ false
         → Moved sources taken acts (linked_by (read_spot need) None acts)
     first_moves sources old taken far near-is begun are ends now fresh = record {
-      sources = record {
+      are = record {
         ends = λ n p. ends n p ∙ are.ends n p ∙ sym (same n p);
         begun = λ p. now p ∙ ap (λ b. b || nat_eq need.pool p) (are.begun p) ∙ sym (first p);
       };
@@ -333,7 +331,7 @@ module _ (need : Spot) (acts : List Act) (turn : IsTurn need acts) (ahead : None
 
         moved : Moved sources taken acts new
         moved = record {
-          sources = record {
+          are = record {
             ends = same;
             begun = λ p. still p ∙ are.begun p ∙ sym (first p);
           };
@@ -398,7 +396,7 @@ module _ (need : Spot) (acts : List Act) (turn : IsTurn need acts) (ahead : None
         flow_stays true s = refl
         flow_stays false s = refl
 
-    far_link : Link
+    abbrev far_link : Link
     far_link = link.Act need.act need.reference
 
     half_unlinked : AreUnlinked half far far_link (spots half)
@@ -486,7 +484,7 @@ module _ (need : Spot) (acts : List Act) (turn : IsTurn need acts) (ahead : None
 
         moved : Moved sources taken acts whole
         moved = record {
-          sources = record {
+          are = record {
             ends = same;
             begun = λ p. still p ∙ are.begun p ∙ sym (whole_previous p link.Initial refl);
           };

@@ -1,6 +1,6 @@
 -- References of linked actions.
-use Rattle.std.proofs.Common.{◌≡◌, ℕ, zero, suc, ◌+◌, ◌<◌, ◌≤◌, List, [], ◌∷◌, ◌++◌, map, length, Bool, true, false, ◌&&◌, ◌||◌, nat_eq, if◌then◌else◌, Option, Some, None, refl, sym, ap, ◌∙◌, subst, arith, append_assoc}
-use Rattle.std.specs.Prelude.{flat_map, slice_get}
+use Rattle.std.proofs.Common.{◌≡◌, ℕ, zero, suc, ◌+◌, ◌<◌, List, [], ◌∷◌, ◌++◌, map, length, Bool, true, false, ◌&&◌, ◌||◌, nat_eq, if◌then◌else◌, Option, Some, None, refl, sym, ap, ◌∙◌, arith, append_assoc}
+use Rattle.std.specs.Prelude.{slice_get}
 use Rattle.std.specs.List.{enumerate_from, filter, list_any}
 use Rattle.std.specs.Option.{option_map, option_and_then}
 use Rattle.std.proofs.lemmas.Bool.{eq-eqb, ne_eqb, eqb-true, eqb-false, false≢true}
@@ -9,7 +9,7 @@ use Rattle.std.proofs.lemmas.Option.{none-some, same_Some}
 use Rattle.pst_scen.specs.declared.act.Act.{Act}
 use Rattle.pst_scen.specs.declared.act.Filled.{Filled}
 use Rattle.pst_scen.specs.declared.act.Link.{Link}
-use Rattle.pst_legal.specs.SupplyReading.{Spot, spots_in, spots, with_link, act_with_link, alter, put_link}
+use Rattle.pst_legal.specs.SupplyReading.{Spot, spots_in, spots, with_link, act_with_link, put_link}
 use Rattle.pst_ties.specs.declared.tied.End.{End}
 use Rattle.pst_ties.specs.Tieds.{same_end}
 use Rattle.pst_pool_sources.specs.Offers.{end_of}
@@ -99,7 +99,7 @@ linked_end e to s = go (at e s)
 
 -- ---- the one reference at an end
 
-end_at : ℕ → ℕ → End
+abbrev end_at : ℕ → ℕ → End
 end_at a r = record { act = a; reference = r }
 
 pub same_is : (a b : End) → same_end a b ≡ true → a ≡ b
@@ -116,15 +116,15 @@ pub record Picked (acts : List Act) (e : End) (t : Spot → Bool) : Type 0 where
 
 pub picked_is : (acts : List Act) (e : End) (t : Spot → Bool) (xs : List Spot) → Each (Found acts) xs → list_any (same_end e) (map end_of (filter t xs)) ≡ true → Picked acts e t
 picked_is acts e t [] h p = absurd (false≢true p)
-picked_is acts e t (x ∷ xs) h p = go (t x) refl p
+picked_is acts e t (x ∷ xs) h p = go (t x) refl (λ q. picked_is acts e t xs h.1 q) p
   where
-    go : (b : Bool) → t x ≡ b → list_any (same_end e) (map end_of (if b then x ∷ filter t xs else filter t xs)) ≡ true → Picked acts e t
-    go false w p = picked_is acts e t xs h.1 p
-    go true w p = two (same_end e (end_of x)) refl p
-      where
-        two : (c : Bool) → same_end e (end_of x) ≡ c → (c || list_any (same_end e) (map end_of (filter t xs))) ≡ true → Picked acts e t
-        two true s p = record { spot = x; is = ap (spot_at acts) (same_is e (end_of x) s) ∙ h.0; passes = w }
-        two false s p = picked_is acts e t xs h.1 p
+    two : t x ≡ true → (c : Bool) → same_end e (end_of x) ≡ c → (list_any (same_end e) (map end_of (filter t xs)) ≡ true → Picked acts e t) → (c || list_any (same_end e) (map end_of (filter t xs))) ≡ true → Picked acts e t
+    two w true s later p = record { spot = x; is = ap (spot_at acts) (same_is e (end_of x) s) ∙ h.0; passes = w }
+    two w false s later p = later p
+
+    go : (b : Bool) → t x ≡ b → (list_any (same_end e) (map end_of (filter t xs)) ≡ true → Picked acts e t) → list_any (same_end e) (map end_of (if b then x ∷ filter t xs else filter t xs)) ≡ true → Picked acts e t
+    go false w later p = later p
+    go true w later p = two w (same_end e (end_of x)) refl later p
 
 -- ---- more actions
 

@@ -1,5 +1,5 @@
 -- What a source takes from the references that may be sources.
-use Rattle.std.specs.Prelude.{◌≡◌, ◌≤◌, ℕ, ◌+◌, List, ◌++◌, length, drop, Bool, true, false, not, ◌&&◌, nat_eq, if◌then◌else◌, Option, Some, None}
+use Rattle.std.specs.Prelude.{◌≡◌, ◌≤◌, ℕ, List, ◌++◌, length, drop, Bool, true, false, not, ◌&&◌, nat_eq, if◌then◌else◌, Option, Some, None}
 use Rattle.std.specs.List.{insert, list_any}
 use Rattle.pst_model.specs.ModelTree.{ModelTree}
 use Rattle.pst_scen.specs.declared.act.Act.{Act}
@@ -10,7 +10,7 @@ use Rattle.pst_legal.specs.SupplyReading.{Spot as Read, Source, Initially, From,
 use Rattle.pst_ties.specs.declared.tied.End.{End}
 use Rattle.pst_ties.specs.Tieds.{same_end}
 use Rattle.pst_pool_sources.specs.declared.sources.PoolSources.{PoolSources}
-use Rattle.pst_pool_sources.specs.Offers.{end_of, ends_at, free_ends, fitting_from, room_at, keeps, takes, AreSources}
+use Rattle.pst_pool_sources.specs.Offers.{end_of, free_ends, fitting_from, room_at, keeps, takes, AreSources}
 use Rattle.pst_open_ends.specs.declared.spot.Spot.{Spot}
 use Rattle.pst_open_ends.specs.declared.links.Change.{Change}
 use Rattle.pst_open_ends.specs.Spots.{read_spot, spot_at}
@@ -83,7 +83,7 @@ pub record Takes (taken : Taken) (old new : List Act) : Type 0 where
 
 -- the references are kept as these actions have them, once a need was linked
 pub record Moved (sources : PoolSources) (taken : Taken) (old new : List Act) : Type 0 where
-  pub sources : AreSources sources new
+  pub are : AreSources sources new
   pub takes : Takes taken old new
   pub ahead : NoneAhead new
 

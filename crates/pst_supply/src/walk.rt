@@ -1,9 +1,9 @@
 //! Walks through the choices of sources.
-ghost use Rattle.std.specs.Prelude.{◌≡◌, ℕ, ◌+◌, ◌<◌, ◌≤◌, IsTrue, IfOk, OnOk, OnErr, length, take, reverse, slice_get, Some, []};
+ghost use Rattle.std.specs.Prelude.{◌≡◌, ℕ, ◌+◌, ◌<◌, ◌≤◌, IfOk, OnOk, OnErr, length, take, reverse, slice_get, Some, []};
 ghost use Rattle.pst_rng.specs.Words.{start_of};
 ghost use Rattle.std.specs.Option.{option_map};
 ghost use Rattle.pst_model.specs.ModelView.{view_model};
-ghost use Rattle.pst_legal.specs.SupplyReading.{next_need};
+ghost use Rattle.pst_legal.specs.SupplyReading.{next_need, same_link};
 ghost use Rattle.pst_legal.specs.Reading.{option_at};
 ghost use Rattle.pst_pool_sources.specs.Offers.{AreSources, room_at};
 ghost use Rattle.pst_open_ends.specs.Spots.{read_spot, kept_spot, given_source, given_sources};
@@ -206,11 +206,11 @@ fn pick(
     Ok(named(found.as_slice(), seed, place, digit))
 }
 
-// Whether the source of a need isn't read.
-fn is_open(need: &Spot) -> bool
-    ensures { IsTrue result → need.now.link ≡ link.Nothing }
+// Whether nothing is linked.
+fn is_nothing(to: Link) -> bool
+    ensures { result ≡ same_link to link.Nothing }
 {
-    match need.link {
+    match to {
         Link::Nothing => true,
         _ => false,
     }
@@ -440,7 +440,7 @@ impl<'a> SupplyWalk<'a> {
         let Some(need) = stop_of(&self.made, self.first).need else {
             return Err(NoMemory);
         };
-        if !is_open(&need) {
+        if !is_nothing(need.link) {
             return Err(NoMemory);
         }
         let source = pick(
