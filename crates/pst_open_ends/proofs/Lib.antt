@@ -3,5 +3,3 @@ pub mod Finds
 pub mod Supplies
 pub mod Rows
 pub mod Lookups
-pub mod Rising
-pub mod Writers

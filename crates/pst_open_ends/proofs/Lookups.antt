@@ -14,17 +14,17 @@ use Rattle.pst_scen.specs.declared.act.Link.{Link}
 use Rattle.pst_legal.specs.Supplied.{is_source_for}
 use Rattle.pst_legal.specs.SupplyReading.{Spot, Source, spots, is_writer, is_previous, is_free, is_candidate, same_link, source_of}
 use Rattle.pst_ties.specs.declared.tied.End.{End}
-use Rattle.pst_pool_sources.specs.Offers.{offers, end_of, fitting}
+use Rattle.pst_pool_sources.specs.Offers.{offers, end_of, is_untaken, may_serve, free_ends}
 use Rattle.pst_open_ends.specs.declared.spot.Spot.{Spot as Kept}
 use Rattle.pst_open_ends.specs.Spots.{read_spot, kept_spot, spots_of, spots_from, spot_at}
-use Rattle.pst_open_ends.specs.Options.{links_from, has_link, source_at, is_fixed, fixed_among, old_among}
+use Rattle.pst_open_ends.specs.Options.{links_from, has_link, source_at, is_fixed, fixed_among, old_among, unless_own}
 use Rattle.pst_open_ends.proofs.Finds.{kept_append}
 
-abbrev Each : {A : Type 0} → (A → Type 0) → List A → Type 0
+abbrev pub Each : {A : Type 0} → (A → Type 0) → List A → Type 0
 Each P [] = Unit {0}
 Each P (x ∷ xs) = P x × Each P xs
 
-each_append : {A : Type 0} (P : A → Type 0) (xs ys : List A) → Each P xs → Each P ys → Each P (xs ++ ys)
+pub each_append : {A : Type 0} (P : A → Type 0) (xs ys : List A) → Each P xs → Each P ys → Each P (xs ++ ys)
 each_append P [] ys a b = b
 each_append P (x ∷ xs) ys a b = (a.0, each_append P xs ys a.1 b)
 
@@ -54,7 +54,7 @@ abbrev of_end : ℕ → ℕ → Filled → Spot
 of_end act reference filled = record { act = act; reference = reference; filled = filled }
 
 module _ (whole : List Act) where
-  abbrev Found : Spot → Type 0
+  abbrev pub Found : Spot → Type 0
   Found s = spot_at whole (end_of s) ≡ Some s
 
   each_in : (k : ℕ) (act : Act) (n : ℕ) (fs : List Filled) → slice_get whole k ≡ Some act → ((j : ℕ) → slice_get act.references (n + j) ≡ slice_get fs j) → Each Found (spots_of k n fs)
@@ -73,12 +73,12 @@ module _ (whole : List Act) where
       (each_in k x 0 x.references (ap (slice_get whole) z ∙ h 0) (λ j. let w : 0 + j ≡ j = omega arith in ap (slice_get x.references) w))
       (each_from (k + 1) xs (λ j. let w : k + 1 + j ≡ k + suc j = omega arith in ap (slice_get whole) w ∙ h (suc j)))
 
-  each_spot : Each Found (spots whole)
+  pub each_spot : Each Found (spots whole)
   each_spot = each_from 0 whole (λ j. let w : 0 + j ≡ j = omega arith in ap (slice_get whole) w)
 
   -- ---- writers that have a link
 
-  writer_is : (f : Flow) → is_source_for flow.StateOut f ≡ is_writer f
+  writer_is : (f : Flow) → is_source_for flow.StateIn f ≡ is_writer f
   writer_is flow.BufferIn = refl
   writer_is flow.BufferOut = refl
   writer_is flow.StreamIn = refl
@@ -87,12 +87,12 @@ module _ (whole : List Act) where
   writer_is flow.StateOut = refl
 
   linked_in : (pool : ℕ) (to : Link) (xs : List Spot) → Each Found xs
-      → list_any (links_from whole to) (map end_of (filter (λ s. offers flow.StateOut pool s.filled) xs)) ≡ list_any (λ s. is_writer s.filled.flow && (nat_eq s.filled.pool pool && same_link s.filled.link to)) xs
+      → list_any (links_from whole to) (map end_of (filter (may_serve flow.StateIn pool whole) xs)) ≡ list_any (λ s. is_writer s.filled.flow && (nat_eq s.filled.pool pool && same_link s.filled.link to)) xs
   linked_in pool to [] h = refl
-  linked_in pool to (x ∷ xs) h = go (is_source_for flow.StateOut x.filled.flow) (is_writer x.filled.flow) (nat_eq x.filled.pool pool) (writer_is x.filled.flow) (linked_in pool to xs h.1)
+  linked_in pool to (x ∷ xs) h = go (is_source_for flow.StateIn x.filled.flow) (is_writer x.filled.flow) (nat_eq x.filled.pool pool) (writer_is x.filled.flow) (linked_in pool to xs h.1)
     where
       rest : List Spot
-      rest = filter (λ s. offers flow.StateOut pool s.filled) xs
+      rest = filter (may_serve flow.StateIn pool whole) xs
 
       later : Bool
       later = list_any (λ s. is_writer s.filled.flow && (nat_eq s.filled.pool pool && same_link s.filled.link to)) xs
@@ -100,20 +100,15 @@ module _ (whole : List Act) where
       here : links_from whole to (end_of x) ≡ same_link x.filled.link to
       here = ap (has_link to) h.0
 
-      go : (v w p : Bool) → v ≡ w → list_any (links_from whole to) (map end_of rest) ≡ later → list_any (links_from whole to) (map end_of (if v && p then x ∷ rest else rest)) ≡ ((w && (p && same_link x.filled.link to)) || later)
+      go : (v w p : Bool) → v ≡ w → list_any (links_from whole to) (map end_of rest) ≡ later → list_any (links_from whole to) (map end_of (if (v && p) && true then x ∷ rest else rest)) ≡ ((w && (p && same_link x.filled.link to)) || later)
       go true true true e k = ap (λ b. b || list_any (links_from whole to) (map end_of rest)) here ∙ ap (λ b. same_link x.filled.link to || b) k
       go true true false e k = k
       go false false p e k = k
       go true false p e k = absurd (false≢true (sym e))
       go false true p e k = absurd (false≢true e)
 
-  pub previous_is : (need : Flow) (pool : ℕ) (to : Link) → is_writer need ≡ true → list_any (links_from whole to) (fitting need pool whole) ≡ is_previous whole pool to
-  previous_is flow.StateOut pool to e = linked_in pool to (spots whole) each_spot
-  previous_is flow.BufferIn pool to e = absurd (false≢true e)
-  previous_is flow.BufferOut pool to e = absurd (false≢true e)
-  previous_is flow.StreamIn pool to e = absurd (false≢true e)
-  previous_is flow.StreamOut pool to e = absurd (false≢true e)
-  previous_is flow.StateIn pool to e = absurd (false≢true e)
+  pub previous_is : (pool : ℕ) (to : Link) → list_any (links_from whole to) (free_ends flow.StateIn pool whole) ≡ is_previous whole pool to
+  previous_is pool to = linked_in pool to (spots whole) each_spot
 
   -- ---- sources
 
@@ -127,28 +122,48 @@ module _ (whole : List Act) where
     unfit true false free e = refl
     unfit false o free e = refl
 
-    old_in : (xs : List Spot) → Each Found xs
-        → flat_map (λ e. source_at whole need (spot_at whole e)) (map end_of (filter (λ s. offers need.filled.flow need.filled.pool s.filled) xs)) ≡ map source_of (filter (is_candidate whole need) xs)
-    old_in [] h = refl
-    old_in (x ∷ xs) h = go (offers need.filled.flow need.filled.pool x.filled) refl (old_in xs h.1)
+    pick : (a u o : Bool) (x : Spot) (rest : List Spot) (more : List Source) → o ≡ true → more ≡ map source_of rest
+        → (if u then (if a then source_of x ∷ [] else []) ++ more else more) ≡ map source_of (if a && (o && u) then x ∷ rest else rest)
+    pick true true true x rest more e k = ap (λ l. source_of x ∷ l) k
+    pick true false true x rest more e k = k
+    pick false true true x rest more e k = k
+    pick false false true x rest more e k = k
+    pick a u false x rest more e k = absurd (false≢true e)
+
+    put_if : (u : Bool) (x : End) (xs : List End) → flat_map (unless_own need.act) (if u then x ∷ xs else xs) ≡ (if u then unless_own need.act x ++ flat_map (unless_own need.act) xs else flat_map (unless_own need.act) xs)
+    put_if true x xs = refl
+    put_if false x xs = refl
+
+    push_if : (u : Bool) (x : Spot) (xs : List Spot) → map end_of (if u then x ∷ xs else xs) ≡ (if u then end_of x ∷ map end_of xs else map end_of xs)
+    push_if true x xs = refl
+    push_if false x xs = refl
+
+    abbrev serving : List Spot → List Spot
+    serving = filter (may_serve need.filled.flow need.filled.pool whole)
+
+    free_in : (xs : List Spot) → flat_map (unless_own need.act) (map end_of (serving xs)) ≡ map source_of (filter (is_candidate whole need) xs)
+    free_in [] = refl
+    free_in (x ∷ xs) = go (offers need.filled.flow need.filled.pool x.filled) refl (free_in xs)
       where
-        rest : List Spot
-        rest = filter (λ s. offers need.filled.flow need.filled.pool s.filled) xs
+        u : Bool
+        u = is_untaken need.filled.flow need.filled.pool whole x
 
         kept : List Spot
         kept = filter (is_candidate whole need) xs
 
-        at_end : End → List Source
-        at_end e = source_at whole need (spot_at whole e)
+        more : List Source
+        more = flat_map (unless_own need.act) (map end_of (serving xs))
 
-        go : (o : Bool) → offers need.filled.flow need.filled.pool x.filled ≡ o → flat_map (λ e. source_at whole need (spot_at whole e)) (map end_of rest) ≡ map source_of kept → flat_map (λ e. source_at whole need (spot_at whole e)) (map end_of (if o then x ∷ rest else rest)) ≡ map source_of (if is_candidate whole need x then x ∷ kept else kept)
+        go : (o : Bool) → offers need.filled.flow need.filled.pool x.filled ≡ o → flat_map (unless_own need.act) (map end_of (serving xs)) ≡ map source_of kept
+            → flat_map (unless_own need.act) (map end_of (if o && u then x ∷ serving xs else serving xs)) ≡ map source_of (if is_candidate whole need x then x ∷ kept else kept)
         go true e k =
-            ap (λ s. source_at whole need s ++ flat_map at_end (map end_of rest)) h.0
-            ∙ one_source (is_candidate whole need x) x kept (flat_map at_end (map end_of rest)) k
+            ap (flat_map (unless_own need.act)) (push_if u x (serving xs))
+            ∙ put_if u (end_of x) (map end_of (serving xs))
+            ∙ pick (not (nat_eq x.act need.act)) u (offers need.filled.flow need.filled.pool x.filled) x kept more e k
         go false e k = k ∙ ap (λ c. map source_of (if c then x ∷ kept else kept)) (sym (unfit (not (nat_eq x.act need.act)) (offers need.filled.flow need.filled.pool x.filled) (is_free whole need.filled x) e))
 
-    pub old_is : flat_map (λ e. source_at whole need (spot_at whole e)) (fitting need.filled.flow need.filled.pool whole) ≡ old_among whole need (spots whole)
-    old_is = old_in (spots whole) each_spot
+    pub free_is : flat_map (unless_own need.act) (free_ends need.filled.flow need.filled.pool whole) ≡ old_among whole need (spots whole)
+    free_is = free_in (spots whole)
 
     -- ---- the one that a bind fixes
 

@@ -1,7 +1,7 @@
 -- What linking a need changes.
 use Rattle.std.proofs.Common.{◌≡◌, ℕ, zero, suc, ◌<◌, ◌≤◌, List, [], ◌∷◌, ◌++◌, length, take, Bool, true, false, ◌&&◌, nat_lt, if◌then◌else◌, min, None, refl, sym, ap, ◌∙◌, subst, arith, length-append}
 use Rattle.std.specs.Prelude.{slice_get}
-use Rattle.std.proofs.lemmas.List.{take_all}
+use Rattle.std.proofs.lemmas.List.{append-nil, take_all}
 use Rattle.std.proofs.lemmas.Bool.{ltb-true, ltb-false}
 use Rattle.std.proofs.Math.Seq.{take-append_seam}
 use Rattle.pst_model.specs.ModelTree.{ModelTree}
@@ -57,6 +57,8 @@ pub first_supplied : (m : ModelTree) (need : Spot) (change : Change) (old new : 
 first_supplied m need change old new e back n low = record {
   supplied = e;
   back = all_taken old (ends_undone change.ends new) change.count n back;
+  count = n;
+  before = sym back ∙ sym (append-nil old);
   done = subst (StaysDone need.act change.lowest old) (sym e) (stays_put old need.act need.reference link.Initial need.act change.lowest (omega arith) (omega arith));
   few = let l : length new ≡ length old = ap length e ∙ length_put old need.act need.reference link.Initial in omega arith;
 }
@@ -75,6 +77,8 @@ old_supplied m need b q change old new j n low =
     record {
       supplied = j.linked;
       back = all_taken old (ends_undone change.ends new) change.count n j.back;
+      count = n;
+      before = sym j.back ∙ sym (append-nil old);
       done = subst (StaysDone need.act change.lowest old) (sym j.linked)
           (subst (λ k. StaysDone need.act k old (linked_to need b q old)) (sym low) (stays_linked old need b q need.act (lowest_of need b) l.0 l.0 l.1));
       few = let k : length new ≡ length old = ap length j.linked ∙ length_linked old need b q in omega arith;
@@ -92,6 +96,8 @@ new_supplied m need action instance q change old new x e j n low =
     record {
       supplied = j.linked ∙ ap (λ y. linked_to need (length old) q (old ++ y ∷ [])) e;
       back = sym (take-append_seam old (x ∷ [])) ∙ ap (λ k. take k wide) (sym n) ∙ ap (take change.count) j.back;
+      count = n;
+      before = sym j.back ∙ ap (λ y. old ++ y ∷ []) e;
       done = λ bounds h. subst (λ xs. AreDone bounds xs change.lowest) (sym j.linked)
           (stays_linked wide need (length old) q change.lowest change.lowest lower.1 (omega arith) (λ s. lower.0) bounds
           (λ k act l s. h k act (omega arith) (sym (got_before old x k (omega arith)) ∙ s)));

@@ -66,6 +66,12 @@ supplied_acts m acts need Initially = put_link need.act need.reference link.Init
 supplied_acts m acts need (From b q) = linked_to need b q acts
 supplied_acts m acts need (New action instance q) = linked_to need (length acts) q (acts ++ open_act m action instance None ∷ [])
 
+-- the new actions of a source
+abbrev pub made_by : ModelTree → Source → List Act
+made_by m Initially = []
+made_by m (From b q) = []
+made_by m (New action instance q) = open_act m action instance None ∷ []
+
 -- where no action before that of the need had a turn, none below that number has one
 abbrev pub StaysDone : ℕ → ℕ → List Act → List Act → Type 0
 StaysDone act lowest old new = (bounds : List Bound) → AreDone bounds old act → AreDone bounds new lowest
@@ -83,5 +89,7 @@ pub record Joins (need : Spot) (b q : ℕ) (ends : Ends) (old new : List Act) : 
 pub record Supplies (m : ModelTree) (need : Spot) (source : Source) (change : Change) (old new : List Act) : Type 0 where
   pub supplied : new ≡ supplied_acts m old need source
   pub back : old ≡ undone change new
+  pub count : change.count ≡ length old
+  pub before : ends_undone change.ends new ≡ old ++ made_by m source
   pub done : StaysDone need.act change.lowest old new
   pub few : length new ≤ change.count + 1

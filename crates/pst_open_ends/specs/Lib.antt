@@ -2,4 +2,3 @@ pub mod Spots
 pub mod Options
 pub mod Turns
 pub mod Changes
-pub mod Places

@@ -1,6 +1,6 @@
 -- The sources of a need, with what the program knows beside the actions: the bind of the need, and whether one more action
 -- may be inferred.
-use Rattle.std.specs.Prelude.{◌≡◌, ◌<◌, ℕ, List, [], ◌∷◌, ◌++◌, map, length, get_or, Bool, true, false, ◌&&◌, nat_eq, if◌then◌else◌, Option, Some, None, flat_map}
+use Rattle.std.specs.Prelude.{◌≡◌, ℕ, List, [], ◌∷◌, ◌++◌, map, Bool, true, false, not, ◌&&◌, nat_eq, if◌then◌else◌, Option, Some, None, flat_map}
 use Rattle.std.specs.List.{enumerate_from, filter}
 use Rattle.pst_base.specs.declared.table.NameId.{NameId}
 use Rattle.pst_model.specs.declared.action.Reference.{Reference}
@@ -14,7 +14,7 @@ use Rattle.pst_scen.specs.declared.act.Link.{Link}
 use Rattle.pst_scen.specs.declared.act.Link.TheVariants as link
 use Rattle.pst_ties.specs.declared.tied.End.{End}
 use Rattle.pst_open_ends.specs.Spots.{spot_at}
-use Rattle.pst_legal.specs.SupplyReading.{Spot, Source, Initially, New, same_link, is_writer, is_previous, spots, is_open, fits, is_candidate, source_of, initial_sources, old_sources, sources_of_type}
+use Rattle.pst_legal.specs.SupplyReading.{Spot, Source, Initially, From, New, same_link, is_writer, is_previous, spots, is_open, fits, is_candidate, source_of, initial_sources, old_sources, sources_of_type}
 
 -- the first object, or a reference
 abbrev pub link_of : Option End → Link
@@ -30,17 +30,13 @@ has_link to (Some spot) = same_link spot.filled.link to
 abbrev pub links_from : List Act → Link → End → Bool
 links_from acts to end = has_link to (spot_at acts end)
 
--- what is kept of the reference of that place
-abbrev pub is_taken : List Bool → ℕ → Bool
-is_taken taken place = get_or taken place false
-
 -- for a writer, that says whether the reference is the previous writer of another
 abbrev pub IsKnown : List Act → Filled → End → Bool → Type 0
 IsKnown acts need end taken = is_writer need.flow ≡ true → taken ≡ is_previous acts need.pool (link_of (Some end))
 
--- for a writer, that is kept of each of these references
-abbrev pub AreKnown : List Act → Filled → List End → List Bool → Type 0
-AreKnown acts need ends taken = (place : ℕ) (d : End) → place < length ends → IsKnown acts need (get_or ends place d) (is_taken taken place)
+-- the reference, where it isn't one of that action
+abbrev pub unless_own : ℕ → End → List Source
+unless_own act end = if not (nat_eq end.act act) then From end.act end.reference ∷ [] else []
 
 abbrev pub initially_if : Bool → List Source
 initially_if b = if b then Initially ∷ [] else []

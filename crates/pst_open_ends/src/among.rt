@@ -2,14 +2,14 @@
 ghost use Rattle.std.specs.Prelude.{◌≡◌, ◌++◌, OnOk, Some, true};
 ghost use Rattle.pst_legal.specs.SupplyReading.{spots, is_writer, is_previous, is_free, is_candidate, initial_sources};
 ghost use Rattle.pst_scen.specs.declared.act.Link.TheVariants as link;
-ghost use Rattle.pst_pool_sources.specs.Offers.{fitting};
+ghost use Rattle.pst_scen.specs.declared.act.Flow.TheVariants as flow;
+ghost use Rattle.pst_pool_sources.specs.Offers.{free_ends};
 ghost use Rattle.pst_open_ends.specs.Spots.{read_spot, given_sources, spot_at};
-ghost use Rattle.pst_open_ends.specs.Options.{link_of, IsKnown, AreKnown, source_at, old_among, fixed_among, initially_if};
+ghost use Rattle.pst_open_ends.specs.Options.{link_of, IsKnown, source_at, old_among, fixed_among, unless_own, initially_if};
 
 use crate::flows::{fits, is_nothing, is_state, is_stream};
 use crate::lookup::{some_links, spot_at};
 use crate::spot::{Source, Spot};
-use crate::taken::is_taken;
 use pst_base::NoMemory;
 use pst_pool_sources::is_writer;
 use pst_scen::Act;
@@ -75,71 +75,79 @@ fn add_at(
     }
 }
 
-/// Adds the sources among the references that fit.
-pub(crate) fn add_old(
-    found: &mut Vec<Source>,
-    taken: &[bool],
-    acts: &[Act],
-    ends: &[End],
-    need: &Spot,
-) -> Result<(), NoMemory>
-    requires known { AreKnown acts.now (read_spot need.now).filled ends.now taken.now }
-    requires ends { ends.now ≡ fitting need.now.flow need.now.pool acts.now }
-    ensures { OnOk result (given_sources found.new.items ≡ given_sources found.old.items ++ old_among acts.now (read_spot need.now) (spots acts.now)) }
+// Adds a reference, where it isn't one of the action of the need.
+fn add_end(found: &mut Vec<Source>, need: &Spot, end: End) -> Result<(), NoMemory>
+    ensures { OnOk result (given_sources found.new.items ≡ given_sources found.old.items ++ unless_own need.now.act end) }
 {
-    let mut place = 0;
-    for end in ends {
-        add_at(found, is_taken(taken, place), acts, need, *end)?;
-        place += 1;
+    if end.act != need.act {
+        found.push(Source::From {
+            act: end.act,
+            reference: end.reference,
+        })?;
     }
     Ok(())
 }
 
-// Whether some writer of the pool has that as its previous writer, of the references that fit.
-fn is_previous(acts: &[Act], ends: &[End], need: &Spot, to: Option<End>) -> bool
-    requires ends { ends.now ≡ fitting need.now.flow need.now.pool acts.now }
-    requires writer { is_writer need.now.flow ≡ true }
-    ensures { result ≡ is_previous acts.now need.now.pool (link_of to) }
+/// Adds the sources among the references that may still be one.
+pub(crate) fn add_old(
+    found: &mut Vec<Source>,
+    _acts: &[Act],
+    free: &[End],
+    need: &Spot,
+) -> Result<(), NoMemory>
+    requires { free.now ≡ free_ends need.now.flow need.now.pool _acts.now }
+    ensures { OnOk result (given_sources found.new.items ≡ given_sources found.old.items ++ old_among _acts.now (read_spot need.now) (spots _acts.now)) }
 {
-    some_links(acts, ends, to)
+    for end in free {
+        add_end(found, need, *end)?;
+    }
+    Ok(())
+}
+
+// Whether some writer of the pool of a need has that as its previous writer.
+fn is_previous(acts: &[Act], writers: &[End], _need: &Spot, to: Option<End>) -> bool
+    requires { writers.now ≡ free_ends flow.StateIn _need.now.pool acts.now }
+    ensures { result ≡ is_previous acts.now _need.now.pool (link_of to) }
+{
+    some_links(acts, writers, to)
 }
 
 // Whether a reference is the previous writer of another, where a writer asks.
-fn is_taken_at(acts: &[Act], ends: &[End], need: &Spot, end: End) -> bool
-    requires { ends.now ≡ fitting need.now.flow need.now.pool acts.now }
+fn is_taken(acts: &[Act], writers: &[End], need: &Spot, end: End) -> bool
+    requires { writers.now ≡ free_ends flow.StateIn need.now.pool acts.now }
     ensures { IsKnown acts.now (read_spot need.now).filled end result }
 {
     if is_writer(need.flow) {
-        return is_previous(acts, ends, need, Some(end));
+        return is_previous(acts, writers, need, Some(end));
     }
     false
 }
 
-/// Adds the source that a bind fixes, where it may still be linked.
+/// Adds the source that a bind fixes, where it may still be linked. `writers`: those of the pool.
 pub(crate) fn add_fixed(
     found: &mut Vec<Source>,
     acts: &[Act],
-    ends: &[End],
+    writers: &[End],
     need: &Spot,
     end: End,
 ) -> Result<(), NoMemory>
-    requires { ends.now ≡ fitting need.now.flow need.now.pool acts.now }
+    requires { writers.now ≡ free_ends flow.StateIn need.now.pool acts.now }
     ensures { OnOk result (given_sources found.new.items ≡ given_sources found.old.items ++ fixed_among acts.now (read_spot need.now) (end.act, end.reference) (spots acts.now)) }
 {
-    let taken = is_taken_at(acts, ends, need, end);
+    let taken = is_taken(acts, writers, need, end);
     add_at(found, taken, acts, need, end)
 }
 
-/// Whether the first object of the pool is a source of a need, of the references that fit.
-pub(crate) fn may_be_initial(acts: &[Act], ends: &[End], need: &Spot) -> bool
-    requires { ends.now ≡ fitting need.now.flow need.now.pool acts.now }
-    ensures { initial_sources acts.now (read_spot need.now).filled ≡ initially_if result }
+/// Whether the first object of the pool is a source of a need. `begun`: it is the previous one of a writer.
+pub(crate) fn may_be_initial(_acts: &[Act], begun: bool, need: &Spot) -> bool
+    requires { begun ≡ is_previous _acts.now need.now.pool link.Initial }
+    ensures { initial_sources _acts.now (read_spot need.now).filled ≡ initially_if result }
 {
     if !is_state(need.flow) {
         return false;
     }
     if is_writer(need.flow) {
-        return !is_previous(acts, ends, need, None);
+        return !begun;
     }
     true
 }

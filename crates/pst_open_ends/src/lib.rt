@@ -12,9 +12,7 @@ mod flows;
 mod links;
 mod lookup;
 mod options;
-mod places;
 mod spot;
-mod taken;
 mod turns;
 
 pub use acts::{leaf_count, open_acts};

@@ -1,8 +1,11 @@
 //! The sources of a need.
 ghost use Rattle.std.specs.Prelude.{◌≡◌, ◌++◌, IfOk, OnOk};
 ghost use Rattle.pst_model.specs.ModelView.{view_model};
+ghost use Rattle.pst_scen.specs.declared.act.Flow.TheVariants as flow;
+ghost use Rattle.pst_scen.specs.declared.act.Link.TheVariants as link;
+ghost use Rattle.pst_legal.specs.SupplyReading.{is_previous};
 ghost use Rattle.pst_ties.specs.Tieds.{fixed_of};
-ghost use Rattle.pst_pool_sources.specs.Offers.{fitting, AreSources};
+ghost use Rattle.pst_pool_sources.specs.Offers.{free_ends};
 ghost use Rattle.pst_open_ends.specs.Spots.{read_spot, given_sources};
 ghost use Rattle.pst_open_ends.specs.Options.{free_by, fixed_by, options_by};
 
@@ -10,10 +13,8 @@ use crate::among::{add_fixed, add_old, may_be_initial};
 use crate::beyond::add_new;
 use crate::flows::is_nothing;
 use crate::spot::{Source, Spot};
-use crate::taken::taken_for;
 use pst_base::NoMemory;
 use pst_model::Model;
-use pst_pool_sources::PoolSources;
 use pst_scen::Act;
 use pst_ties::End;
 use std::alloc::Global;
@@ -23,19 +24,20 @@ fn free_sources(
     alloc: Global,
     model: &Model,
     acts: &[Act],
-    ends: &[End],
+    free: &[End],
+    begun: bool,
     more: bool,
     need: &Spot,
 ) -> Result<Vec<Source>, NoMemory>
-    requires { ends.now ≡ fitting need.now.flow need.now.pool acts.now }
+    requires free { free.now ≡ free_ends need.now.flow need.now.pool acts.now }
+    requires begun { begun ≡ is_previous acts.now need.now.pool link.Initial }
     ensures { IfOk result (λ found. given_sources found.items ≡ free_by (view_model model.now) acts.now more (read_spot need.now)) }
 {
     let mut found = Vec::new(alloc);
-    if may_be_initial(acts, ends, need) {
+    if may_be_initial(acts, begun, need) {
         found.push(Source::Initially)?;
     }
-    let taken = taken_for(alloc, acts, ends, need)?;
-    add_old(&mut found, &taken, acts, ends, need)?;
+    add_old(&mut found, acts, free, need)?;
     if more {
         add_new(&mut found, model, need)?;
     }
@@ -46,37 +48,41 @@ fn free_sources(
 fn fixed_sources(
     alloc: Global,
     acts: &[Act],
-    ends: &[End],
+    writers: &[End],
     need: &Spot,
     end: End,
 ) -> Result<Vec<Source>, NoMemory>
-    requires { ends.now ≡ fitting need.now.flow need.now.pool acts.now }
+    requires { writers.now ≡ free_ends flow.StateIn need.now.pool acts.now }
     ensures { IfOk result (λ found. given_sources found.items ≡ fixed_by acts.now (read_spot need.now) (end.act, end.reference)) }
 {
     let mut found = Vec::new(alloc);
     if is_nothing(need.link) {
-        add_fixed(&mut found, acts, ends, need, end)?;
+        add_fixed(&mut found, acts, writers, need, end)?;
     }
     Ok(found)
 }
 
-/// The sources of a need, in order. `among`: the references of all actions that may be sources;
-/// `more`: one more action may be inferred; `fixed`: the reference that a bind fixes.
+/// The sources of a need, in order. `free`: the references of its pool that may still be linked to it;
+/// `writers`: the writers of the pool; `begun`: one of them replaces its first object; `more`: one more
+/// action may be inferred; `fixed`: the reference that a bind fixes.
 pub fn sources(
     alloc: Global,
     model: &Model,
     acts: &[Act],
-    among: &PoolSources,
+    free: &[End],
+    writers: &[End],
+    begun: bool,
     more: bool,
     need: &Spot,
     fixed: Option<End>,
 ) -> Result<Vec<Source>, NoMemory>
-    requires { AreSources among.now acts.now }
+    requires free { free.now ≡ free_ends need.now.flow need.now.pool acts.now }
+    requires writers { writers.now ≡ free_ends flow.StateIn need.now.pool acts.now }
+    requires begun { begun ≡ is_previous acts.now need.now.pool link.Initial }
     ensures { IfOk result (λ found. given_sources found.items ≡ options_by (view_model model.now) acts.now more (read_spot need.now) (fixed_of fixed)) }
 {
-    let fitting = among.ends(need.flow, need.pool);
     match fixed {
-        None => free_sources(alloc, model, acts, fitting, more, need),
-        Some(end) => fixed_sources(alloc, acts, fitting, need, end),
+        None => free_sources(alloc, model, acts, free, begun, more, need),
+        Some(end) => fixed_sources(alloc, acts, writers, need, end),
     }
 }

@@ -1,15 +1,13 @@
--- What is linked changes no list of references that may be sources.
-use Rattle.std.proofs.Common.{◌≡◌, ℕ, zero, suc, ◌+◌, List, [], ◌∷◌, ◌++◌, map, take, Bool, true, false, nat_eq, if◌then◌else◌, refl, sym, ap, ◌∙◌}
+-- What is linked changes no list of references that fit.
+use Rattle.std.proofs.Common.{◌≡◌, ℕ, zero, suc, ◌+◌, List, [], ◌∷◌, ◌++◌, map, drop, Bool, true, false, nat_eq, if◌then◌else◌, refl, ap, ◌∙◌, arith}
 use Rattle.std.specs.List.{enumerate_from}
-use Rattle.std.proofs.lemmas.List.{take-map}
 use Rattle.pst_scen.specs.declared.act.Act.{Act}
 use Rattle.pst_scen.specs.declared.act.Filled.{Filled}
 use Rattle.pst_scen.specs.declared.act.Flow.{Flow}
 use Rattle.pst_scen.specs.declared.act.Link.{Link}
 use Rattle.pst_legal.specs.SupplyReading.{with_link, act_with_link, put_link}
 use Rattle.pst_ties.specs.declared.tied.End.{End}
-use Rattle.pst_pool_sources.specs.Offers.{offers, end_if, fitting, fitting_in, fitting_from}
-use Rattle.pst_pool_sources.proofs.Lists.{fitting_is}
+use Rattle.pst_pool_sources.specs.Offers.{offers, end_if, fitting_in, fitting_from}
 
 module _ (need : Flow) (pool : ℕ) where
   in_same : (act number m r : ℕ) (to : Link) (xs : List Filled) → fitting_in need pool act number (map (λ e. if nat_eq e.0 r then with_link to e.1 else e.1) (enumerate_from m xs)) ≡ fitting_in need pool act number xs
@@ -39,16 +37,19 @@ module _ (need : Flow) (pool : ℕ) where
           ∙ ap (λ l. fitting_in need pool number 0 x.references ++ l) h
       go false h = ap (λ l. fitting_in need pool number 0 x.references ++ l) h
 
-  take_numbered : (count m : ℕ) (xs : List Act) → take count (enumerate_from m xs) ≡ enumerate_from m (take count xs)
-  take_numbered zero m xs = refl
-  take_numbered (suc count) m [] = refl
-  take_numbered (suc count) m (x ∷ xs) = ap (λ l. (m, x) ∷ l) (take_numbered count (m + 1) xs)
+  drop_numbered : (count m n : ℕ) (xs : List Act) → n ≡ m + count → drop count (enumerate_from m xs) ≡ enumerate_from n (drop count xs)
+  drop_numbered zero m n xs e = let z : m ≡ n = omega arith in ap (λ k. enumerate_from k xs) z
+  drop_numbered (suc count) m n [] e = refl
+  drop_numbered (suc count) m n (x ∷ xs) e = drop_numbered count (m + 1) n xs (omega arith)
 
-  -- nor among the first actions
-  pub relinked : (count a r : ℕ) (to : Link) (acts : List Act) → fitting need pool (take count (put_link a r to acts)) ≡ fitting need pool (take count acts)
-  relinked count a r to acts =
+  drop_map : {A B : Type 0} (f : A → B) (count : ℕ) (xs : List A) → drop count (map f xs) ≡ map f (drop count xs)
+  drop_map f zero xs = refl
+  drop_map f (suc count) [] = refl
+  drop_map f (suc count) (x ∷ xs) = drop_map f count xs
+
+  -- nor those of the actions behind the first ones
+  pub relinked_behind : (count a r : ℕ) (to : Link) (acts : List Act) → fitting_from need pool count (drop count (put_link a r to acts)) ≡ fitting_from need pool count (drop count acts)
+  relinked_behind count a r to acts =
       let f = λ (e : ℕ × Act). if nat_eq e.0 a then act_with_link r to e.1 else e.1 in
-      ap (fitting need pool) (take-map f count (enumerate_from 0 acts) ∙ ap (map f) (take_numbered count 0 acts))
-      ∙ fitting_is need pool (put_link a r to (take count acts))
-      ∙ from_same 0 0 a r to (take count acts)
-      ∙ sym (fitting_is need pool (take count acts))
+      ap (fitting_from need pool count) (drop_map f count (enumerate_from 0 acts) ∙ ap (map f) (drop_numbered count 0 count acts (omega arith)))
+      ∙ from_same count count a r to (drop count acts)

@@ -1,9 +1,9 @@
 -- References that may be sources, one after another.
-use Rattle.std.proofs.Common.{◌≡◌, ℕ, zero, suc, ◌+◌, ◌-◌, ◌≤◌, List, [], ◌∷◌, ◌++◌, map, length, take, drop, Bool, true, false, if◌then◌else◌, Some, refl, sym, ap, ◌∙◌, arith, append_assoc, length-append}
+use Rattle.std.proofs.Common.{◌≡◌, ℕ, zero, suc, ◌+◌, ◌-◌, ◌≤◌, List, [], ◌∷◌, ◌++◌, map, length, take, Bool, true, false, if◌then◌else◌, Some, refl, sym, ap, ◌∙◌, arith, append_assoc, length-append}
 use Rattle.std.specs.Prelude.{slice_get}
 use Rattle.std.specs.Prelude.{flat_map}
 use Rattle.std.specs.List.{enumerate_from, filter}
-use Rattle.std.proofs.lemmas.List.{append-nil, map-append, take_all, take-take, take_at, length-take-le, take-append-drop}
+use Rattle.std.proofs.lemmas.List.{append-nil, map-append, take_all, take-take, take_at, length-take-le}
 use Rattle.std.proofs.lemmas.List.Elements.{filter-append}
 use Rattle.std.proofs.lemmas.Option.{none-some, same_Some}
 use Rattle.pst_scen.specs.declared.act.Act.{Act}
@@ -87,7 +87,7 @@ module _ (need : Flow) (pool : ℕ) where
       go true h = ap (λ (l : List End). record { act = act; reference = number } ∷ l) h
       go false h = h
 
-  from_is : (number : ℕ) (xs : List Act) → map end_of (filter (λ s. offers need pool s.filled) (flat_map spots_in (enumerate_from number xs))) ≡ fitting_from need pool number xs
+  pub from_is : (number : ℕ) (xs : List Act) → map end_of (filter (λ s. offers need pool s.filled) (flat_map spots_in (enumerate_from number xs))) ≡ fitting_from need pool number xs
   from_is number [] = refl
   from_is number (x ∷ xs) =
       ap (map end_of) (filter-append (λ s. offers need pool s.filled) (spots_in (number, x)) (flat_map spots_in (enumerate_from (number + 1) xs)))
@@ -97,23 +97,3 @@ module _ (need : Flow) (pool : ℕ) where
 
   pub fitting_is : (acts : List Act) → fitting need pool acts ≡ fitting_from need pool 0 acts
   fitting_is acts = from_is 0 acts
-
-  pub from_append : (number : ℕ) (xs ys : List Act) → fitting_from need pool number (xs ++ ys) ≡ fitting_from need pool number xs ++ fitting_from need pool (number + length xs) ys
-  from_append number [] ys = let z : number ≡ number + 0 = omega arith in ap (λ k. fitting_from need pool k ys) z
-  from_append number (x ∷ xs) ys =
-      let here = fitting_in need pool number 0 x.references in
-      let z : number + 1 + length xs ≡ number + suc (length xs) = omega arith in
-      ap (λ l. here ++ l) (from_append (number + 1) xs ys)
-      ∙ ap (λ k. here ++ (fitting_from need pool (number + 1) xs ++ fitting_from need pool k ys)) z
-      ∙ sym (append_assoc here (fitting_from need pool (number + 1) xs) (fitting_from need pool (number + suc (length xs)) ys))
-
-  -- those of the first actions, and then those of the others
-  pub split_at : (count : ℕ) (acts : List Act) → count ≤ length acts → fitting need pool acts ≡ fitting need pool (take count acts) ++ fitting_from need pool count (drop count acts)
-  split_at count acts within =
-      let size = length-take-le count acts within in
-      let long : 0 + length (take count acts) ≡ count = omega arith in
-      fitting_is acts
-      ∙ ap (fitting_from need pool 0) (sym (take-append-drop count acts))
-      ∙ from_append 0 (take count acts) (drop count acts)
-      ∙ ap (λ k. fitting_from need pool 0 (take count acts) ++ fitting_from need pool k (drop count acts)) long
-      ∙ ap (λ l. l ++ fitting_from need pool count (drop count acts)) (sym (fitting_is (take count acts)))

@@ -8,7 +8,9 @@ use Rattle.pst_scen.specs.Scenarios.{leaves_of}
 use Rattle.pst_legal.specs.Binds.{bounds_of}
 use Rattle.pst_legal.specs.SupplyReading.{read_supply}
 use Rattle.pst_pool_sources.specs.Offers.{AreSources}
-use Rattle.pst_open_ends.specs.Changes.{opened, undone}
+use Rattle.pst_pool_sources.specs.declared.sources.PoolSources.{PoolSources}
+use Rattle.pst_open_ends.specs.Changes.{opened, ends_undone, undone}
+use Rattle.pst_free_ends.specs.Steps.{NoneAhead, Follows, HasRoom}
 use Rattle.pst_supply.specs.declared.walk.Made.{Made}
 use Rattle.pst_supply.specs.declared.walk.Stop.{Stop}
 use Rattle.pst_supply.specs.declared.walk.SupplyWalk.TheInside.{Inside}
@@ -38,6 +40,11 @@ abbrev pub AllStand : Ground → Stop → List Made → List Act → Type 0
 AllStand g first [] acts = (acts ≡ map (opened g.model) g.leaves) × StopsAt g acts first
 AllStand g first (made ∷ older) acts = Stands g (digits_of (made ∷ older)) acts × StopsAt g acts made.stop × AllStand g first older (undone made.change acts)
 
+-- what each of the choices took can be given back, and there is memory for it
+abbrev pub CanLeave : PoolSources → List Made → List Act → Type 0
+CanLeave among [] acts = Unit {0}
+CanLeave among (made ∷ older) acts = Follows made.taken made.change acts × HasRoom among (ends_undone made.change.ends acts) × CanLeave among older (undone made.change acts)
+
 abbrev pub ground_of : Inside → Ground
 ground_of w = record { model = view_model w.model.now; nodes = w.nodes.items; leaves = w.leaves.items; seed = w.seed; place = w.place; level = w.level }
 
@@ -52,4 +59,6 @@ pub record IsKept (w : Inside) : Type 0 where
   pub count : w.count ≡ length (leaves_of w.nodes.items)
   pub ties : w.ties ≡ bounds_of (view_model w.model.now) w.nodes.items
   pub among : AreSources w.among w.acts.items
+  pub ahead : NoneAhead w.acts.items
+  pub leave : CanLeave w.among (reverse w.made.items) w.acts.items
   pub stands : AllStand (ground_of w) w.first (reverse w.made.items) w.acts.items

@@ -3,11 +3,14 @@ ghost use Rattle.std.specs.Prelude.{◌≡◌, ℕ, ◌+◌, ◌<◌, ◌≤◌,
 ghost use Rattle.pst_rng.specs.Words.{start_of};
 ghost use Rattle.std.specs.Option.{option_map};
 ghost use Rattle.pst_model.specs.ModelView.{view_model};
-ghost use Rattle.pst_legal.specs.SupplyReading.{next_need};
+ghost use Rattle.pst_legal.specs.SupplyReading.{next_need, same_link};
 ghost use Rattle.pst_legal.specs.Reading.{option_at};
-ghost use Rattle.pst_pool_sources.specs.Offers.{AreSources};
+ghost use Rattle.pst_pool_sources.specs.Offers.{AreSources, room_at};
 ghost use Rattle.pst_open_ends.specs.Spots.{read_spot, kept_spot, given_source, given_sources};
-ghost use Rattle.pst_open_ends.specs.Changes.{undone};
+ghost use Rattle.pst_open_ends.specs.Changes.{ends_undone, undone};
+ghost use Rattle.pst_free_ends.specs.Steps.{IsTurn, NoneAhead, Follows, HasRoom, IsStep};
+ghost use Rattle.pst_scen.specs.declared.act.Flow.{Flow as the_flow};
+ghost use Rattle.pst_scen.specs.declared.act.Link.TheVariants as link;
 ghost use Rattle.pst_open_ends.specs.Turns.{AreDone};
 ghost use Rattle.pst_supply.specs.Walks.{with_choice, answer, next_of, IfRead, HasDigit, IsChange};
 ghost use Rattle.pst_supply.specs.Stops.{options_at, IsStop, stop_after, may_infer, shown_at};
@@ -15,13 +18,14 @@ ghost use Rattle.pst_supply.specs.Choices.{NamesSource, Advances, change_after};
 
 use pst_base::NoMemory;
 use pst_copies::{copy_acts, copy_nodes};
+use pst_free_ends::{Taken, follow, leave};
 use pst_model::Model;
 use pst_open_ends::{
     Change, Source, Spot, leaf_count, next_need, open_acts, sources, supply, take_back,
 };
 use pst_pool_sources::PoolSources;
 use pst_rng::start;
-use pst_scen::{Act, Next, Node};
+use pst_scen::{Act, Flow, Link, Next, Node};
 use pst_ties::Ties;
 use std::alloc::Global;
 
@@ -39,6 +43,7 @@ struct Stop {
 struct Made {
     digit: u64,
     change: Change,
+    taken: Taken,
     stop: Stop,
 }
 
@@ -46,6 +51,7 @@ struct Made {
 #[derive(Clone, Copy, Debug, PartialEq, Eq)]
 struct Went {
     change: Change,
+    taken: Taken,
     stop: Stop,
 }
 
@@ -72,7 +78,10 @@ fn options(
 {
     let more = may_infer(acts.len(), leaves, level);
     let fixed = ties.fixed(need.act, need.reference, need.flow);
-    sources(alloc, model, acts, among, more, need, fixed)
+    let free = among.ends(need.flow, need.pool);
+    let writers = among.ends(Flow::StateIn, need.pool);
+    let begun = among.is_begun(need.pool);
+    sources(alloc, model, acts, free, writers, begun, more, need, fixed)
 }
 
 // Looks where reading stands, where no action below `from` has a turn.
@@ -197,7 +206,17 @@ fn pick(
     Ok(named(found.as_slice(), seed, place, digit))
 }
 
-// Adds what a source made to the references that may be sources, and looks where reading stands then.
+// Whether nothing is linked.
+fn is_nothing(to: Link) -> bool
+    ensures { result ≡ same_link to link.Nothing }
+{
+    match to {
+        Link::Nothing => true,
+        _ => false,
+    }
+}
+
+// Takes what a source took from the references that may be sources, and looks where reading stands then.
 // Without memory they are those of the actions before.
 fn look_behind(
     alloc: Global,
@@ -207,16 +226,22 @@ fn look_behind(
     among: &mut PoolSources,
     leaves: usize,
     level: u32,
+    need: &Spot,
+    source: Source,
     change: &Change,
-) -> Result<Stop, NoMemory>
+) -> Result<(Taken, Stop), NoMemory>
     requires done { AreDone ties.now acts.now change.now.lowest }
-    requires known { AreSources among.old (take change.now.count acts.now) }
-    requires few { length acts.now ≤ change.now.count + 1 }
-    ensures stop { IfOk result (λ stop. IsStop (view_model model.now) ties.now acts.now leaves level stop) }
-    ensures ok { OnOk result (AreSources among.new acts.now) }
-    ensures err { OnErr result (AreSources among.new (take change.now.count acts.now)) }
+    requires step { IsStep need.now (given_source source) change.now acts.now }
+    requires known { AreSources among.old (undone change.now acts.now) }
+    ensures stop { IfOk result (λ went. IsStop (view_model model.now) ties.now acts.now leaves level went.1) }
+    ensures ok { IfOk result (λ went. AreSources among.new acts.now) }
+    ensures follows { IfOk result (λ went. Follows went.0 change.now acts.now) }
+    ensures ahead { IfOk result (λ went. NoneAhead acts.now) }
+    ensures has_room { IfOk result (λ went. HasRoom among.new (ends_undone change.now.ends acts.now)) }
+    ensures err { OnErr result (AreSources among.new (undone change.now acts.now)) }
+    ensures room { (n : the_flow) (p : ℕ) → room_at n p among.old ≤ room_at n p among.new }
 {
-    among.grow(acts, change.count)?;
+    let taken = follow(among, acts, need, source, change)?;
     match look(
         alloc,
         model,
@@ -227,9 +252,9 @@ fn look_behind(
         level,
         change.lowest,
     ) {
-        Ok(stop) => Ok(stop),
+        Ok(stop) => Ok((taken, stop)),
         Err(error) => {
-            among.shrink(acts, change.count);
+            leave(among, acts, &taken, change);
             Err(error)
         }
     }
@@ -249,13 +274,25 @@ fn go_on(
 ) -> Result<Went, NoMemory>
     requires done { AreDone ties.now acts.old.items need.now.act }
     requires among { AreSources among.old acts.old.items }
+    requires ahead { NoneAhead acts.old.items }
+    requires turn { IsTurn need.now acts.old.items }
     ensures gone { IfOk result (λ went. Advances (view_model model.now) ties.now leaves level (read_spot need.now) (given_source source) went acts.old.items acts.new.items) }
+    ensures follows { IfOk result (λ went. Follows went.taken went.change acts.new.items) }
+    ensures has_room { IfOk result (λ went. HasRoom among.new (ends_undone went.change.ends acts.new.items)) }
+    ensures ahead { NoneAhead acts.new.items }
     ensures among { AreSources among.new acts.new.items }
     ensures err { OnErr result (acts.new.items ≡ acts.old.items) }
+    ensures room { (n : the_flow) (p : ℕ) → room_at n p among.old ≤ room_at n p among.new }
 {
     let change = supply(alloc, model, acts, need, source)?;
-    match look_behind(alloc, model, ties, acts, among, leaves, level, &change) {
-        Ok(stop) => Ok(Went { change, stop }),
+    match look_behind(
+        alloc, model, ties, acts, among, leaves, level, need, source, &change,
+    ) {
+        Ok((taken, stop)) => Ok(Went {
+            change,
+            taken,
+            stop,
+        }),
         Err(error) => {
             take_back(alloc, acts, &change);
             Err(error)
@@ -263,13 +300,22 @@ fn go_on(
     }
 }
 
-// Takes a source back, with what it made.
-fn go_back(alloc: Global, acts: &mut Vec<Act>, among: &mut PoolSources, change: &Change)
-    requires { AreSources among.old acts.old.items }
+// Takes a source back, with what it made and took.
+fn go_back(
+    alloc: Global,
+    acts: &mut Vec<Act>,
+    among: &mut PoolSources,
+    taken: &Taken,
+    change: &Change,
+)
+    requires known { AreSources among.old acts.old.items }
+    requires follows { Follows taken.now change.now acts.old.items }
+    requires has_room { HasRoom among.old (ends_undone change.now.ends acts.old.items) }
     ensures undone { acts.new.items ≡ undone change.now acts.old.items }
     ensures among { AreSources among.new acts.new.items }
+    ensures room { (n : the_flow) (p : ℕ) → room_at n p among.old ≤ room_at n p among.new }
 {
-    among.shrink(acts, change.count);
+    leave(among, acts, taken, change);
     take_back(alloc, acts, change);
 }
 
@@ -394,6 +440,9 @@ impl<'a> SupplyWalk<'a> {
         let Some(need) = stop_of(&self.made, self.first).need else {
             return Err(NoMemory);
         };
+        if !is_nothing(need.link) {
+            return Err(NoMemory);
+        }
         let source = pick(
             self.alloc,
             self.model,
@@ -422,6 +471,7 @@ impl<'a> SupplyWalk<'a> {
         match self.made.push(Made {
             digit,
             change: went.change,
+            taken: went.taken,
             stop: went.stop,
         }) {
             Ok(()) => Ok(()),
@@ -435,7 +485,13 @@ impl<'a> SupplyWalk<'a> {
         ensures { (digit : ℕ) × (self.old ≡ with_choice self.new digit) }
     {
         if let Some(last) = self.made.pop() {
-            go_back(self.alloc, &mut self.acts, &mut self.among, &last.change);
+            go_back(
+                self.alloc,
+                &mut self.acts,
+                &mut self.among,
+                &last.taken,
+                &last.change,
+            );
         }
     }
 }

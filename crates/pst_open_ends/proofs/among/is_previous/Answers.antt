@@ -7,6 +7,5 @@ use Rattle.pst_open_ends.proofs.among.is_previous.Goals as goal
 pub returns : goal.returns
 returns c =
     let acts = c.args.acts.now in
-    let need = c.args.need.now in
     let to = link_of c.args.to in
-    c.some_links.ensures ∙ ap (list_any (links_from acts to)) c.requires.ends ∙ previous_is acts need.flow need.pool to c.requires.writer
+    c.some_links.ensures ∙ ap (list_any (links_from acts to)) c.requires ∙ previous_is acts c.args._need.now.pool to

@@ -1,14 +1,19 @@
-use Rattle.std.proofs.Common.{take, sym, subst}
+use Rattle.std.proofs.Common.{sym, subst}
 use Rattle.pst_pool_sources.specs.Offers.{AreSources}
-use Rattle.pst_supply.proofs.Sources.{are_undone}
+use Rattle.pst_open_ends.specs.Changes.{ends_undone, undone}
+use Rattle.pst_free_ends.specs.Steps.{Follows, HasRoom}
 use Rattle.pst_supply.proofs.walk.go_back.Goals as goal
 
-pub shrink-requires : goal.shrink-requires
-shrink-requires c = subst (AreSources c.args.among.now) (sym c.deref.ensures.value) c.requires
+pub leave-requires-clause-known : goal.leave-requires-clause-known
+leave-requires-clause-known c = subst (AreSources c.args.among.now) (sym c.deref.ensures.value) c.requires.known
+
+pub leave-requires-clause-follows : goal.leave-requires-clause-follows
+leave-requires-clause-follows c = subst (Follows c.args.taken.now c.args.change.now) (sym c.deref.ensures.value) c.requires.follows
+
+pub leave-requires-clause-has_room : goal.leave-requires-clause-has_room
+leave-requires-clause-has_room c = subst (λ l. HasRoom c.args.among.now (ends_undone c.args.change.now.ends l)) (sym c.deref.ensures.value) c.requires.has_room
 
 pub returns-clause-among : goal.returns-clause-among
 returns-clause-among c =
-    let among = c.shrink.new.self in
-    let change = c.args.change.now in
-    subst (AreSources among) (sym c.take_back.ensures)
-    (are_undone among change c.args.acts.now.items (subst (λ l. AreSources among (take change.count l)) c.deref.ensures.value c.shrink.ensures))
+    subst (AreSources c.leave.new.sources) (sym c.take_back.ensures)
+    (subst (λ l. AreSources c.leave.new.sources (undone c.args.change.now l)) c.deref.ensures.value c.leave.ensures.sources)

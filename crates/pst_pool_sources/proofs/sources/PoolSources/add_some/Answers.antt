@@ -23,4 +23,6 @@ loop-filled-preserved c =
           ∙ ap (λ k. old ++ (front ++ end_if (offers need p x) (record { act = a; reference = k }))) (c.loop-filled.invariant.0 ∙ z)
           ∙ ap (λ l. old ++ l) (sym (fitting_more need p a 0 i xs x is))
           ∙ ap (λ n. old ++ fitting_in need p a 0 (take n xs)) (sym (add-one i)),
+      λ need p. omega (arith, c.loop-filled.invariant.2 need p, c.add_end.ensures.room need p),
+      λ p. c.add_end.ensures.begun p ∙ c.loop-filled.invariant.3 p,
     )

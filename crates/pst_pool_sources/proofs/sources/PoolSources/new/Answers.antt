@@ -6,7 +6,7 @@ use Rattle.pst_pool_sources.proofs.sources.PoolSources.new.Goals as goal
 pub loop-act-init : goal.loop-act-init
 loop-act-init c =
     let acts = c.args.acts.now in
-    (refl, λ need p. ap (λ l. l ++ fitting_from need p 0 acts) (c.in_ok-sources.ensures need p) ∙ sym (fitting_is need p acts))
+    (refl, λ need p. ap (λ l. l ++ fitting_from need p 0 acts) (c.in_ok-sources.ensures.ends need p) ∙ sym (fitting_is need p acts), c.in_ok-sources.ensures.begun)
 
 pub loop-act-preserved : goal.loop-act-preserved
 loop-act-preserved c =
@@ -24,4 +24,5 @@ loop-act-preserved c =
           ∙ append_assoc old here later
           ∙ ap (λ l. old ++ l) (sym step)
           ∙ c.loop-act.invariant.1 need p,
+      λ p. c.add_act.ensures.begun p ∙ c.loop-act.invariant.2 p,
     )

@@ -1,16 +1,15 @@
-use Rattle.std.proofs.Common.{◌≤◌, length, take, drop, ap, ◌∙◌, arith}
-use Rattle.std.proofs.lemmas.List.{take_rest}
-use Rattle.pst_pool_sources.specs.Offers.{but_last, ends_at, fitting, fitting_from, count_from}
-use Rattle.pst_pool_sources.proofs.Lists.{but_appended, length-fitting_from, split_at}
+use Rattle.std.proofs.Common.{sym, ap, ◌∙◌, arith}
+use Rattle.std.proofs.lemmas.List.{drop_all, take_rest}
+use Rattle.pst_pool_sources.specs.Offers.{but_last, ends_at, count_from}
+use Rattle.pst_pool_sources.proofs.Lists.{but_none}
 use Rattle.pst_pool_sources.proofs.sources.PoolSources.shrink.Goals as goal
 
-pub returns : goal.returns
-returns c = λ need p.
-    let acts = c.args.acts.now in
-    let n = c.args.count in
-    let within : n ≤ length acts = omega arith in
+pub returns-then-count-acts-clause-ends : goal.returns-then-count-acts-clause-ends
+returns-then-count-acts-clause-ends c = λ need p.
     let ends = ends_at need p c.args.self.now in
-    c.take_acts.ensures need p
-    ∙ ap (λ l. but_last (count_from need p l) ends) (take_rest acts n)
-    ∙ ap (but_last (count_from need p (drop n acts))) (c.requires need p ∙ split_at need p n acts within)
-    ∙ but_appended (count_from need p (drop n acts)) (fitting need p (take n acts)) (fitting_from need p n (drop n acts)) (length-fitting_from need p n (drop n acts))
+    sym (ap (λ l. but_last (count_from need p l) ends) (drop_all c.args.count c.args.acts.now (omega arith)) ∙ but_none ends)
+
+pub returns-clause-ends : goal.returns-clause-ends
+returns-clause-ends c = λ need p.
+    let ends = ends_at need p c.args.self.now in
+    c.take_acts.ensures.ends need p ∙ ap (λ l. but_last (count_from need p l) ends) (take_rest c.args.acts.now c.args.count)

@@ -15,8 +15,10 @@ use Rattle.pst_supply.specs.declared.walk.Made.{Made}
 use Rattle.pst_supply.specs.Walks.{HasDigit, answer}
 use Rattle.pst_supply.specs.Stops.{options_at, IsStop, stop_after}
 use Rattle.pst_supply.specs.Choices.{NamesSource}
-use Rattle.pst_supply.specs.Made.{AllStand, ground_of}
-use Rattle.pst_supply.proofs.Stands.{made_digit, one_more}
+use Rattle.pst_open_ends.specs.Changes.{undone}
+use Rattle.pst_supply.specs.Made.{AllStand, CanLeave, ground_of}
+use Rattle.pst_supply.proofs.Stands.{made_digit, one_more, stops}
+use Rattle.pst_supply.proofs.Sources.{turn_is, open_is, still_leaves}
 use Rattle.pst_supply.proofs.walk.SupplyWalk.choose.Goals as goal
 
 same_options : (m : ModelTree) (a b : List Bound) (acts more : List Act) (j k level : ℕ) (need : Spot) → a ≡ b → acts ≡ more → j ≡ k → options_at m a acts j level need ≡ options_at m b more k level need
@@ -37,6 +39,17 @@ pick-requires-clause-digit c =
     let need : t.need ≡ c.in-Some.need = sym (same_Some c.in-Some.need t.need (sym c.in-Some.is ∙ ap (λ s. s.need) at ∙ t.is)) in
     subst (λ (l : List Source). c.args.digit < length l) (sym (same_options m w.ties (bounds_of m w.nodes.items) c.deref-2.result.now w.acts.items w.count (length (leaves_of w.nodes.items)) w.level c.in-Some.need c.self.invariant.ties c.deref-2.ensures.value c.self.invariant.count))
     (subst (λ n. c.args.digit < length (options_at m (bounds_of m w.nodes.items) w.acts.items (length (leaves_of w.nodes.items)) w.level n)) need t.below)
+
+pub go_on-requires-clause-turn : goal.go_on-requires-clause-turn
+go_on-requires-clause-turn c =
+    let w = c.self.inside in
+    let m = view_model w.model.now in
+    let g = ground_of w in
+    let made = reverse w.made.items in
+    let need = c.in-Some.need in
+    let at : c.stop_of.result ≡ stop_after w.first made = c.stop_of.ensures ∙ ap (λ l. stop_after w.first (reverse l)) (c.deref.ensures.value ∙ c.reserve.ensures.items) in
+    let turn : (stop_after w.first made).need ≡ Some need = ap (λ s. s.need) (sym at) ∙ c.in-Some.is in
+    turn_is (bounds_of m w.nodes.items) w.acts.items need (sym turn ∙ (stops g w.first made w.acts.items c.self.invariant.stands).next) (open_is need c.is_nothing.result c.is_nothing.ensures c.if-not-is_nothing.false)
 
 pub invariant_of-self-2 : goal.invariant_of-self-2
 invariant_of-self-2 c =
@@ -65,6 +78,12 @@ invariant_of-self-2 c =
       count = c.self.invariant.count;
       ties = c.self.invariant.ties;
       among = c.go_on.ensures.among;
+      ahead = c.go_on.ensures.ahead;
+      leave = subst (λ l. CanLeave c.go_on.new.among l new) (sym all) (
+        c.in_ok-went.ensures.follows,
+        c.in_ok-went.ensures.has_room,
+        still_leaves w.among c.go_on.new.among c.go_on.ensures.room made (undone x.change new) (subst (CanLeave w.among made) c.in_ok-went.ensures.gone.supplies.back c.self.invariant.leave),
+      );
       stands = subst (λ l. AllStand g w.first l new) (sym all)
           (one_more g w.first made w.acts.items new x need (given_source c.in_ok-source.source) c.self.invariant.stands turn below named c.in_ok-went.ensures.gone.supplies stop);
     }
