@@ -1,3 +1,4 @@
 pub mod Grown
 pub mod Found
 pub mod Indexed
+pub mod Tabling

@@ -5,8 +5,10 @@ mod operators;
 mod reading;
 mod same;
 mod slots;
+mod table;
 mod walk;
+mod whole;
 
 pub use reading::{KeptSlot, OwnSlot, PathReader, PathReading};
 pub use slots::{number_of, slots_of};
-pub use walk::add_expr;
+pub use whole::add_expr;

@@ -10,7 +10,7 @@ use pst_ast::PathNode;
 use pst_base::NoMemory;
 
 /// A slot of an action or object, without the handle or the inline constraint that it is seen through.
-#[derive(Clone, Copy, Debug, PartialEq, Eq)]
+#[derive(Clone, Copy, Debug, PartialEq, Eq, Hash)]
 pub enum OwnSlot {
     /// A field of the action or object.
     Own {
@@ -63,7 +63,7 @@ pub enum OwnSlot {
 }
 
 /// A slot, as it is kept while its expression is made.
-#[derive(Clone, Copy, Debug, PartialEq, Eq)]
+#[derive(Clone, Copy, Debug, PartialEq, Eq, Hash)]
 pub struct KeptSlot {
     /// Whether it is one of the action round an inline constraint.
     pub outer: bool,

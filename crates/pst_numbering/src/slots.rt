@@ -6,6 +6,7 @@ ghost use Rattle.pst_numbering.specs.Kept.{elements_of, view_all, view_kept, vie
 
 use crate::reading::{KeptSlot, OwnSlot};
 use crate::same::same_kept;
+use crate::table::SlotTable;
 use pst_base::NoMemory;
 use pst_model::Slot;
 use std::alloc::Global;
@@ -34,11 +35,11 @@ fn narrow(number: usize) -> Result<u32, NoMemory>
 
 /// The number of a slot, which goes last where it isn't there.
 #[tactic(auto, using(crate::proofs::Found::new_slots, crate::proofs::Found::new_number, crate::proofs::Found::kept_slots))]
-pub fn add_slot(slots: &mut Vec<KeptSlot>, slot: KeptSlot) -> Result<u32, NoMemory>
-    ensures slots { OnOk result (view_all slots.new.items ≡ with_slot (view_all slots.old.items) (view_kept slot)) }
-    ensures number { IfOk result (λ n. n ≡ slot_number (view_all slots.new.items) (view_kept slot)) }
+pub fn add_slot(slots: &mut SlotTable, slot: KeptSlot) -> Result<u32, NoMemory>
+    ensures slots { OnOk result (view_all slots.new ≡ with_slot (view_all slots.old) (view_kept slot)) }
+    ensures number { IfOk result (λ n. n ≡ slot_number (view_all slots.new) (view_kept slot)) }
 {
-    let number = number_of(slots.as_slice(), slot);
+    let number = slots.number_of(slot);
     if number == slots.len() {
         slots.push(slot)?;
     }
@@ -46,9 +47,9 @@ pub fn add_slot(slots: &mut Vec<KeptSlot>, slot: KeptSlot) -> Result<u32, NoMemo
 }
 
 /// The number of the first element of an array, whose elements go last as far as they aren't there.
-pub fn add_elements(slots: &mut Vec<KeptSlot>, first: KeptSlot, count: u32) -> Result<u32, NoMemory>
-    ensures slots { OnOk result (view_all slots.new.items ≡ with_slots (view_all slots.old.items) (elements_of first count)) }
-    ensures number { IfOk result (λ n. n ≡ first_number (view_all slots.new.items) (elements_of first count)) }
+pub fn add_elements(slots: &mut SlotTable, first: KeptSlot, count: u32) -> Result<u32, NoMemory>
+    ensures slots { OnOk result (view_all slots.new ≡ with_slots (view_all slots.old) (elements_of first count)) }
+    ensures number { IfOk result (λ n. n ≡ first_number (view_all slots.new) (elements_of first count)) }
 {
     let from = first.field();
     let Some(end) = from.checked_add(count) else {
@@ -60,7 +61,7 @@ pub fn add_elements(slots: &mut Vec<KeptSlot>, first: KeptSlot, count: u32) -> R
     if count == 0 {
         return Ok(0);
     }
-    narrow(number_of(slots.as_slice(), first.with_field(from)))
+    narrow(slots.number_of(first.with_field(from)))
 }
 
 // A slot of a model without a handle.

@@ -12,6 +12,7 @@ ghost use Rattle.pst_numbering.specs.Made.{as_range, indexed, list_index, or_eac
 use crate::operators::{binary_op, unary_op};
 use crate::reading::{KeptSlot, PathReader, PathReading};
 use crate::slots::{add_elements, add_slot};
+use crate::table::SlotTable;
 use pst_ast::{
     ExprNode, NextPart, NextRange, PartNode, PathNode, PrimaryNode, RangeNode, RangesNode,
     UnaryNode,
@@ -32,14 +33,14 @@ fn binary(alloc: Global, op: BinaryOp, left: Expr, right: Expr) -> Result<Expr, 
 /// An expression over the numbers of its slots, which go behind those that are there.
 #[cycle(making)]
 #[tactic(auto, using(crate::proofs::Grown::numbered_stays))]
-pub fn add_expr<R: PathReader>(
+pub fn add_operators<R: PathReader>(
     alloc: Global,
     reader: &R,
-    slots: &mut Vec<KeptSlot>,
+    slots: &mut SlotTable,
     expr: &ExprNode,
 ) -> Result<Expr, NoMemory>
-    ensures slots { OnOk result (view_all slots.new.items ≡ with_term (view_all slots.old.items) (term_of (R.reads reader.now) (view_expr expr.now))) }
-    ensures expr { IfOk result (λ e. view e ≡ numbered (view_all slots.new.items) (term_of (R.reads reader.now) (view_expr expr.now))) }
+    ensures slots { OnOk result (view_all slots.new ≡ with_term (view_all slots.old) (term_of (R.reads reader.now) (view_expr expr.now))) }
+    ensures expr { IfOk result (λ e. view e ≡ numbered (view_all slots.new) (term_of (R.reads reader.now) (view_expr expr.now))) }
 {
     match expr {
         ExprNode::Unary(unary) => add_unary(alloc, reader, slots, unary),
@@ -49,8 +50,8 @@ pub fn add_expr<R: PathReader>(
             right,
             ..
         } => {
-            let left = add_expr(alloc, reader, slots, left)?;
-            let right = add_expr(alloc, reader, slots, right)?;
+            let left = add_operators(alloc, reader, slots, left)?;
+            let right = add_operators(alloc, reader, slots, right)?;
             binary(alloc, binary_op(*operator), left, right)
         }
         ExprNode::In { left, ranges, .. } => add_ranges(alloc, reader, slots, left, ranges),
@@ -61,11 +62,11 @@ pub fn add_expr<R: PathReader>(
 fn add_unary<R: PathReader>(
     alloc: Global,
     reader: &R,
-    slots: &mut Vec<KeptSlot>,
+    slots: &mut SlotTable,
     unary: &UnaryNode,
 ) -> Result<Expr, NoMemory>
-    ensures slots { OnOk result (view_all slots.new.items ≡ with_term (view_all slots.old.items) (unary_term (R.reads reader.now) (view_unary unary.now))) }
-    ensures expr { IfOk result (λ e. view e ≡ numbered (view_all slots.new.items) (unary_term (R.reads reader.now) (view_unary unary.now))) }
+    ensures slots { OnOk result (view_all slots.new ≡ with_term (view_all slots.old) (unary_term (R.reads reader.now) (view_unary unary.now))) }
+    ensures expr { IfOk result (λ e. view e ≡ numbered (view_all slots.new) (unary_term (R.reads reader.now) (view_unary unary.now))) }
 {
     match unary {
         UnaryNode::Prefix {
@@ -84,18 +85,18 @@ fn add_unary<R: PathReader>(
 fn add_primary<R: PathReader>(
     alloc: Global,
     reader: &R,
-    slots: &mut Vec<KeptSlot>,
+    slots: &mut SlotTable,
     primary: &PrimaryNode,
 ) -> Result<Expr, NoMemory>
-    ensures slots { OnOk result (view_all slots.new.items ≡ with_term (view_all slots.old.items) (primary_term (R.reads reader.now) (view_primary primary.now))) }
-    ensures expr { IfOk result (λ e. view e ≡ numbered (view_all slots.new.items) (primary_term (R.reads reader.now) (view_primary primary.now))) }
+    ensures slots { OnOk result (view_all slots.new ≡ with_term (view_all slots.old) (primary_term (R.reads reader.now) (view_primary primary.now))) }
+    ensures expr { IfOk result (λ e. view e ≡ numbered (view_all slots.new) (primary_term (R.reads reader.now) (view_primary primary.now))) }
 {
     match primary {
         PrimaryNode::Number(number) => Ok(Expr::Constant(number.value)),
         PrimaryNode::True(_) => Ok(Expr::Constant(1)),
         PrimaryNode::False(_) => Ok(Expr::Constant(0)),
         PrimaryNode::Path(path) => add_path(alloc, reader, slots, path),
-        PrimaryNode::Group { expr, .. } => add_expr(alloc, reader, slots, expr),
+        PrimaryNode::Group { expr, .. } => add_operators(alloc, reader, slots, expr),
     }
 }
 
@@ -104,11 +105,11 @@ fn add_primary<R: PathReader>(
 fn add_path<R: PathReader>(
     alloc: Global,
     reader: &R,
-    slots: &mut Vec<KeptSlot>,
+    slots: &mut SlotTable,
     path: &PathNode,
 ) -> Result<Expr, NoMemory>
-    ensures slots { OnOk result (view_all slots.new.items ≡ with_term (view_all slots.old.items) (term_at (R.reads reader.now (view_path path.now)) (path_index (R.reads reader.now) (view_path path.now)))) }
-    ensures expr { IfOk result (λ e. view e ≡ numbered (view_all slots.new.items) (term_at (R.reads reader.now (view_path path.now)) (path_index (R.reads reader.now) (view_path path.now)))) }
+    ensures slots { OnOk result (view_all slots.new ≡ with_term (view_all slots.old) (term_at (R.reads reader.now (view_path path.now)) (path_index (R.reads reader.now) (view_path path.now)))) }
+    ensures expr { IfOk result (λ e. view e ≡ numbered (view_all slots.new) (term_at (R.reads reader.now (view_path path.now)) (path_index (R.reads reader.now) (view_path path.now)))) }
 {
     match reader.read(path)? {
         PathReading::Number(number) => Ok(Expr::Constant(number)),
@@ -127,13 +128,13 @@ fn add_path<R: PathReader>(
 fn add_element<R: PathReader>(
     alloc: Global,
     reader: &R,
-    slots: &mut Vec<KeptSlot>,
+    slots: &mut SlotTable,
     path: &PathNode,
     first: KeptSlot,
     count: u32,
 ) -> Result<Option<Expr>, NoMemory>
-    ensures slots { OnOk result (view_all slots.new.items ≡ with_maybe (view_all slots.old.items) (indexed (elements_of first count) (path_index (R.reads reader.now) (view_path path.now)))) }
-    ensures expr { IfOk result (λ e. option_map view e ≡ numbered_maybe (view_all slots.new.items) (indexed (elements_of first count) (path_index (R.reads reader.now) (view_path path.now)))) }
+    ensures slots { OnOk result (view_all slots.new ≡ with_maybe (view_all slots.old) (indexed (elements_of first count) (path_index (R.reads reader.now) (view_path path.now)))) }
+    ensures expr { IfOk result (λ e. option_map view e ≡ numbered_maybe (view_all slots.new) (indexed (elements_of first count) (path_index (R.reads reader.now) (view_path path.now)))) }
 {
     match path {
         PathNode::Dotted { first: part, rest } => {
@@ -152,19 +153,19 @@ fn add_element<R: PathReader>(
 fn add_part_element<R: PathReader>(
     alloc: Global,
     reader: &R,
-    slots: &mut Vec<KeptSlot>,
+    slots: &mut SlotTable,
     part: &PartNode,
     first: KeptSlot,
     count: u32,
 ) -> Result<Option<Expr>, NoMemory>
-    ensures slots { OnOk result (view_all slots.new.items ≡ with_maybe (view_all slots.old.items) (indexed (elements_of first count) (part_index (R.reads reader.now) (view_part part.now)))) }
-    ensures expr { IfOk result (λ e. option_map view e ≡ numbered_maybe (view_all slots.new.items) (indexed (elements_of first count) (part_index (R.reads reader.now) (view_part part.now)))) }
+    ensures slots { OnOk result (view_all slots.new ≡ with_maybe (view_all slots.old) (indexed (elements_of first count) (part_index (R.reads reader.now) (view_part part.now)))) }
+    ensures expr { IfOk result (λ e. option_map view e ≡ numbered_maybe (view_all slots.new) (indexed (elements_of first count) (part_index (R.reads reader.now) (view_part part.now)))) }
 {
     match &part.index {
         None => Ok(None),
         Some(index) => {
             let number = add_elements(slots, first, count)?;
-            let index = add_expr(alloc, reader, slots, &index.expr)?;
+            let index = add_operators(alloc, reader, slots, &index.expr)?;
             Ok(Some(Expr::Element(number, count, Box::new(alloc, index)?)))
         }
     }
@@ -174,13 +175,13 @@ fn add_part_element<R: PathReader>(
 fn add_next_element<R: PathReader>(
     alloc: Global,
     reader: &R,
-    slots: &mut Vec<KeptSlot>,
+    slots: &mut SlotTable,
     parts: &[NextPart],
     first: KeptSlot,
     count: u32,
 ) -> Result<Option<Expr>, NoMemory>
-    ensures slots { OnOk result (view_all slots.new.items ≡ with_maybe (view_all slots.old.items) (indexed (elements_of first count) (list_index (R.reads reader.now) (map view_next_part parts.now)))) }
-    ensures expr { IfOk result (λ e. option_map view e ≡ numbered_maybe (view_all slots.new.items) (indexed (elements_of first count) (list_index (R.reads reader.now) (map view_next_part parts.now)))) }
+    ensures slots { OnOk result (view_all slots.new ≡ with_maybe (view_all slots.old) (indexed (elements_of first count) (list_index (R.reads reader.now) (map view_next_part parts.now)))) }
+    ensures expr { IfOk result (λ e. option_map view e ≡ numbered_maybe (view_all slots.new) (indexed (elements_of first count) (list_index (R.reads reader.now) (map view_next_part parts.now)))) }
 {
     for next in parts {
         if let Some(element) = add_part_element(alloc, reader, slots, &next.part, first, count)? {
@@ -195,12 +196,12 @@ fn add_next_element<R: PathReader>(
 fn add_ranges<R: PathReader>(
     alloc: Global,
     reader: &R,
-    slots: &mut Vec<KeptSlot>,
+    slots: &mut SlotTable,
     left: &ExprNode,
     ranges: &RangesNode,
 ) -> Result<Expr, NoMemory>
-    ensures slots { OnOk result (view_all slots.new.items ≡ with_term (view_all slots.old.items) (ranges_term (R.reads reader.now) (term_of (R.reads reader.now) (view_expr left.now)) (view_ranges ranges.now))) }
-    ensures expr { IfOk result (λ e. view e ≡ numbered (view_all slots.new.items) (ranges_term (R.reads reader.now) (term_of (R.reads reader.now) (view_expr left.now)) (view_ranges ranges.now))) }
+    ensures slots { OnOk result (view_all slots.new ≡ with_term (view_all slots.old) (ranges_term (R.reads reader.now) (term_of (R.reads reader.now) (view_expr left.now)) (view_ranges ranges.now))) }
+    ensures expr { IfOk result (λ e. view e ≡ numbered (view_all slots.new) (ranges_term (R.reads reader.now) (term_of (R.reads reader.now) (view_expr left.now)) (view_ranges ranges.now))) }
 {
     let mut found = add_range(alloc, reader, slots, left, &ranges.first)?;
     let rest = ranges.rest.as_slice();
@@ -217,12 +218,12 @@ fn add_ranges<R: PathReader>(
 fn add_range<R: PathReader>(
     alloc: Global,
     reader: &R,
-    slots: &mut Vec<KeptSlot>,
+    slots: &mut SlotTable,
     left: &ExprNode,
     range: &RangeNode,
 ) -> Result<Expr, NoMemory>
-    ensures slots { OnOk result (view_all slots.new.items ≡ with_term (view_all slots.old.items) (range_term (R.reads reader.now) (term_of (R.reads reader.now) (view_expr left.now)) (view_range range.now))) }
-    ensures expr { IfOk result (λ e. view e ≡ numbered (view_all slots.new.items) (range_term (R.reads reader.now) (term_of (R.reads reader.now) (view_expr left.now)) (view_range range.now))) }
+    ensures slots { OnOk result (view_all slots.new ≡ with_term (view_all slots.old) (range_term (R.reads reader.now) (term_of (R.reads reader.now) (view_expr left.now)) (view_range range.now))) }
+    ensures expr { IfOk result (λ e. view e ≡ numbered (view_all slots.new) (range_term (R.reads reader.now) (term_of (R.reads reader.now) (view_expr left.now)) (view_range range.now))) }
 {
     match range {
         RangeNode::Single(expr) => add_comparison(
@@ -247,15 +248,15 @@ fn add_range<R: PathReader>(
 fn add_comparison<R: PathReader>(
     alloc: Global,
     reader: &R,
-    slots: &mut Vec<KeptSlot>,
+    slots: &mut SlotTable,
     left: &ExprNode,
     op: BinaryOp,
     right: &ExprNode,
 ) -> Result<Expr, NoMemory>
-    ensures slots { OnOk result (view_all slots.new.items ≡ with_term (view_all slots.old.items) (Rattle.pst_terms.specs.Terms.Infix op (term_of (R.reads reader.now) (view_expr left.now)) (term_of (R.reads reader.now) (view_expr right.now)))) }
-    ensures expr { IfOk result (λ e. view e ≡ numbered (view_all slots.new.items) (Rattle.pst_terms.specs.Terms.Infix op (term_of (R.reads reader.now) (view_expr left.now)) (term_of (R.reads reader.now) (view_expr right.now)))) }
+    ensures slots { OnOk result (view_all slots.new ≡ with_term (view_all slots.old) (Rattle.pst_terms.specs.Terms.Infix op (term_of (R.reads reader.now) (view_expr left.now)) (term_of (R.reads reader.now) (view_expr right.now)))) }
+    ensures expr { IfOk result (λ e. view e ≡ numbered (view_all slots.new) (Rattle.pst_terms.specs.Terms.Infix op (term_of (R.reads reader.now) (view_expr left.now)) (term_of (R.reads reader.now) (view_expr right.now)))) }
 {
-    let left = add_expr(alloc, reader, slots, left)?;
-    let right = add_expr(alloc, reader, slots, right)?;
+    let left = add_operators(alloc, reader, slots, left)?;
+    let right = add_operators(alloc, reader, slots, right)?;
     binary(alloc, op, left, right)
 }

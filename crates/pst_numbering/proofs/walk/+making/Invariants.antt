@@ -18,22 +18,22 @@ use Rattle.pst_numbering.proofs.walk.+making.Given as goal
 
 abbrev pub invariant-add_next_element-loop-next : goal.invariant-add_next_element-loop-next
 invariant-add_next_element-loop-next g l = record {
-  slots : view_all l.slots.items ≡ view_all l.initial.slots.items;
+  slots : view_all l.slots ≡ view_all l.initial.slots;
   index : list_index (g.R.PathReader.reads l.reader) (map view_next_part (drop l.next-index l.parts)) ≡ list_index (g.R.PathReader.reads l.reader) (map view_next_part l.parts);
 }
 
 abbrev pub invariant-add_ranges-loop-next : goal.invariant-add_ranges-loop-next
 invariant-add_ranges-loop-next g l = record {
   before : Term SlotTree;
-  slots : view_all l.slots.items ≡ with_term (view_all l.fn.slots.items) before;
-  found : view l.found ≡ numbered (view_all l.slots.items) before;
+  slots : view_all l.slots ≡ with_term (view_all l.fn.slots) before;
+  found : view l.found ≡ numbered (view_all l.slots) before;
   rest : or_each (g.R.PathReader.reads l.reader) (term_of (g.R.PathReader.reads l.reader) (view_expr l.left)) before (map as_range (drop l.next-index l.rest)) ≡ ranges_term (g.R.PathReader.reads l.reader) (term_of (g.R.PathReader.reads l.reader) (view_expr l.left)) (view_ranges l.ranges);
 }
 
 -- what is walked behind `in` counts by its deepest part, of those that are walked together
 
-abbrev pub decreases-add_expr : goal.decreases-add_expr
-decreases-add_expr g l = 8 * size-ExprNode l.expr.now
+abbrev pub decreases-add_operators : goal.decreases-add_operators
+decreases-add_operators g l = 8 * size-ExprNode l.expr.now
 
 abbrev pub decreases-add_unary : goal.decreases-add_unary
 decreases-add_unary g l = 8 * size-UnaryNode l.unary.now

@@ -1,0 +1,5 @@
+pub mod Marked
+pub mod Leads
+pub mod Shown
+pub mod Kept
+pub mod PassedOn
