@@ -1,5 +1,5 @@
 //! The desk of a run behind its lock, and where the workers sleep.
-ghost use Rattle.std.specs.Prelude.{◌≡◌, ◌<◌, ◌≤◌, ◌++◌, ◌∷◌, [], true, MatchOption, MatchResult};
+ghost use Rattle.std.specs.Prelude.{◌≡◌, ◌<◌, ◌≤◌, ◌++◌, ◌∷◌, [], length, true, MatchOption, MatchResult};
 
 use crate::leave::Leave;
 use crate::signals::Signals;
@@ -15,10 +15,12 @@ pub struct SharedDesk<'a, N: Name> {
     signals: Signals,
 }
 
-// The lanes but the worker's own on which actions start in these events.
-fn starts_elsewhere(events: &[Event], own: u32) -> [bool; MOST_LANES] {
+// The lanes but the worker's own on which actions start in the events behind the first ones.
+fn starts_elsewhere(trace: &[Event], before: usize, own: u32) -> [bool; MOST_LANES]
+    requires { before ≤ length trace.now }
+{
     let mut started = [false; MOST_LANES];
-    for event in events {
+    for event in &trace[before..] {
         if let Event::Start { lane, .. } = event {
             if *lane != own {
                 if let Some(here) = started.get_mut(*lane as usize) {
@@ -45,7 +47,7 @@ fn move_on<N: Name>(desk: &mut Desk<'_, N>, post: &Post, lane: u32) -> [bool; MO
     if desk.stopped() || desk.book().finished() {
         return [true; MOST_LANES];
     }
-    starts_elsewhere(&desk.book().trace()[before..], lane)
+    starts_elsewhere(desk.book().trace(), before, lane)
 }
 
 // The leave of a desk from which nothing more comes. None: more may come.

@@ -1,4 +1,4 @@
-use Rattle.std.specs.Prelude.{◌≡◌, ℕ, ◌+◌, ◌<◌, ◌≤◌, MatchResult, get_or, vec_items, vec_len}
+use Rattle.std.specs.Prelude.{◌≡◌, ◌+◌, ◌≤◌, MatchResult, vec_items, vec_len}
 use Rattle.std.specs.Vec.{vec_capacity}
 use Rattle.pst_model.specs.ModelView.{view_model}
 use Rattle.pst_workers.specs.Told.{told}
