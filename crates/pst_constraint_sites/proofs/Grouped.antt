@@ -54,6 +54,11 @@ in_numbers m pool object is =
     option_and_then_some {P = In pool (range_with_len 0 (length m.pools))} (λ (p : Pool). slice_get m.objects p.object) (slice_get m.pools pool) object is
     (λ p at has. let l = slice_get_within m.pools pool p at in to_range 0 (length m.pools) pool (omega arith) (omega (arith, l)))
 
+-- a group of which a constraint is told is there
+in_one : (site : SiteTree) (constraints : List ConstraintTree) (k : ConstraintTree) → Contains constraints k → In (record { site = site; constraints = constraints }) (one_group site constraints)
+in_one site [] k has = let l = has.1 in absurd (omega (arith, l))
+in_one site (x ∷ xs) k has = inl refl
+
 module _ (m : ModelTree) (s t : Scenario) (firsts : HasFirstObjects m s) (earlier : StandEarlier t.nodes) (same : IsSameButValues s t) where
   abbrev nodes : List GroupTree
   nodes = flat_map (node_groups m s.nodes) (enumerate_from 0 s.nodes)
@@ -83,16 +88,21 @@ module _ (m : ModelTree) (s t : Scenario) (firsts : HasFirstObjects m s) (earlie
   pub has_group : (k : ConstraintTree) (standing : SlotTree → Standing) → HasConstraint m t k standing → Grouped k standing
   has_group _ _ (OfCompound n action instance fields node type k is filled typed has) =
       let own = action_constraints (type_of m action) in
-      let here : In (record { site = AtNode n; constraints = own }) (fill_groups m n node.fill) = subst (λ f. In (record { site = AtNode n; constraints = own }) (fill_groups m n f)) (sym filled) (inl refl) in
+      let holds : Contains own k = subst (λ o. Contains (action_constraints o) k) (sym typed) has in
+      let here : In (record { site = AtNode n; constraints = own }) (fill_groups m n node.fill) = subst (λ f. In (record { site = AtNode n; constraints = own }) (fill_groups m n f)) (sym filled) (in_one (AtNode n) own k holds) in
       grouped (AtNode n) own k _
       (of_node n node (record { site = AtNode n; constraints = own }) is (to_left (fill_groups m n node.fill) (stated_groups n (statement_of m t.nodes n)) (record { site = AtNode n; constraints = own }) here))
-      (subst (λ o. Contains (action_constraints o) k) (sym typed) has) (λ slot. refl)
+      holds (λ slot. refl)
   has_group _ _ (OfAct a act type k is has) =
       let x = was IsSameAct act (slice_get s.actions a) (slice_get t.actions a) is.is (same.acts a) in
       let own = action_constraints (type_of m x.0.action) in
       let typed : type_of m x.0.action ≡ Some type = ap (type_of m) (sym x.2.action) ∙ is.of_type in
-      grouped (AtAct a) own k _ (of_act a x.0 (record { site = AtAct a; constraints = own }) x.1 (inl refl))
-      (subst (λ o. Contains (action_constraints o) k) (sym typed) has) (λ slot. ap (λ p. maybe_act_slot m t a p slot) is.is)
+      let holds : Contains own k = subst (λ o. Contains (action_constraints o) k) (sym typed) has in
+      let outputs = flat_map (output_groups m a) (enumerate_from 0 x.0.references) in
+      let claims = flat_map (claim_groups m a) (enumerate_from 0 (claims_of (type_of m x.0.action))) in
+      grouped (AtAct a) own k _
+      (of_act a x.0 (record { site = AtAct a; constraints = own }) x.1 (to_left (one_group (AtAct a) own) (outputs ++ claims) (record { site = AtAct a; constraints = own }) (in_one (AtAct a) own k holds)))
+      holds (λ slot. ap (λ p. maybe_act_slot m t a p slot) is.is)
   has_group _ _ (OfOutput a r filled object k is output of_pool has) = by_output (slice_get t.actions a) refl
     where
       by_output : (p : Option Act) → slice_get t.actions a ≡ p → Grouped k (output_slot m t a r filled)
@@ -103,25 +113,27 @@ module _ (m : ModelTree) (s t : Scenario) (firsts : HasFirstObjects m s) (earlie
           let f = was IsSameReference filled (slice_get x.0.references r) (slice_get y.references r) there (x.2.references r) in
           let own = object_constraints (pool_object m f.0.pool) in
           let group : GroupTree = record { site = AtOutput a r; constraints = own } in
-          let inside : In group (output_groups m a (r, f.0)) = in_if (is_output f.0.flow) (one_group (AtOutput a r) own) group (ap is_output (sym f.2.flow) ∙ output) (inl refl) in
+          let holds : Contains own k = subst (λ o. Contains (object_constraints o) k) (sym (ap (pool_object m) (sym f.2.pool) ∙ of_pool)) has in
+          let inside : In group (output_groups m a (r, f.0)) = in_if (is_output f.0.flow) (one_group (AtOutput a r) own) group (ap is_output (sym f.2.flow) ∙ output) (in_one (AtOutput a r) own k holds) in
           let outputs = flat_map (output_groups m a) (enumerate_from 0 x.0.references) in
           let claims = flat_map (claim_groups m a) (enumerate_from 0 (claims_of (type_of m x.0.action))) in
           grouped (AtOutput a r) own k _
           (of_act a x.0 group x.1 (to_right (one_group (AtAct a) (action_constraints (type_of m x.0.action))) (outputs ++ claims) group
           (to_left outputs claims group (to_flat_map (output_groups m a) (enumerate_from 0 x.0.references) (r, f.0) group (to_numbered x.0.references r f.0 f.1) inside))))
-          (subst (λ o. Contains (object_constraints o) k) (sym (ap (pool_object m) (sym f.2.pool) ∙ of_pool)) has) (λ slot. ap (λ p. maybe_output_slot m t a r p slot) is)
+          holds (λ slot. ap (λ p. maybe_output_slot m t a r p slot) is)
   has_group _ _ (OfClaim a c act type claim object k is claimed of_object has) =
       let x = was IsSameAct act (slice_get s.actions a) (slice_get t.actions a) is.is (same.acts a) in
       let typed : type_of m x.0.action ≡ Some type = ap (type_of m) (sym x.2.action) ∙ is.of_type in
       let own = object_constraints (slice_get m.objects claim.object) in
       let group : GroupTree = record { site = AtClaim a c; constraints = own } in
+      let holds : Contains own k = subst (λ o. Contains (object_constraints o) k) (sym of_object) has in
       let there : slice_get (claims_of (type_of m x.0.action)) c ≡ Some claim = ap (λ o. slice_get (claims_of o) c) typed ∙ claimed in
       let outputs = flat_map (output_groups m a) (enumerate_from 0 x.0.references) in
       let claims = flat_map (claim_groups m a) (enumerate_from 0 (claims_of (type_of m x.0.action))) in
       grouped (AtClaim a c) own k _
       (of_act a x.0 group x.1 (to_right (one_group (AtAct a) (action_constraints (type_of m x.0.action))) (outputs ++ claims) group
-      (to_right outputs claims group (to_flat_map (claim_groups m a) (enumerate_from 0 (claims_of (type_of m x.0.action))) (c, claim) group (to_numbered (claims_of (type_of m x.0.action)) c claim there) (inl refl)))))
-      (subst (λ o. Contains (object_constraints o) k) (sym of_object) has) (λ slot. ap (λ p. maybe_resource_slot m a p c slot) is.is)
+      (to_right outputs claims group (to_flat_map (claim_groups m a) (enumerate_from 0 (claims_of (type_of m x.0.action))) (c, claim) group (to_numbered (claims_of (type_of m x.0.action)) c claim there) (in_one (AtClaim a c) own k holds)))))
+      holds (λ slot. ap (λ p. maybe_resource_slot m a p c slot) is.is)
   has_group _ _ (OfFirst a r filled object k is state of_pool has) = by_first (slice_get t.actions a) refl
     where
       by_first : (p : Option Act) → slice_get t.actions a ≡ p → Grouped k (first_object_slot m t filled.pool)
@@ -139,14 +151,15 @@ module _ (m : ModelTree) (s t : Scenario) (firsts : HasFirstObjects m s) (earlie
           let first = in_map (λ (g : First). g.pool) s.firsts pool (subst (In pool) (sym firsts) listed) in
           let own = object_constraints (pool_object m first.0.pool) in
           let group : GroupTree = record { site = AtFirst first.0.pool; constraints = own } in
+          let holds : Contains own k = subst (λ o. Contains (object_constraints o) k) (sym (ap (pool_object m) first.2 ∙ of_pool)) has in
           grouped (AtFirst first.0.pool) own k _
-          (to_right nodes (acts ++ objects) group (to_right acts objects group (to_flat_map (first_object_groups m) s.firsts first.0 group first.1 (inl refl))))
-          (subst (λ o. Contains (object_constraints o) k) (sym (ap (pool_object m) first.2 ∙ of_pool)) has) (λ slot. ap (λ p. first_object_slot m t p slot) first.2)
+          (to_right nodes (acts ++ objects) group (to_right acts objects group (to_flat_map (first_object_groups m) s.firsts first.0 group first.1 (in_one (AtFirst first.0.pool) own k holds))))
+          holds (λ slot. ap (λ p. first_object_slot m t p slot) first.2)
   has_group _ _ (Inline n top action handle inline indices k stands has) =
       let found = all_found m t.nodes earlier n top (Traverse action handle inline) indices stands in
       let node = stands_at m t.nodes top stands in
       let group : GroupTree = record { site = AtTraversal n top indices; constraints = inline } in
-      let here : In group (stated_groups n (statement_of m t.nodes n)) = subst (λ o. In group (stated_groups n o)) (sym found) (inl refl) in
+      let here : In group (stated_groups n (statement_of m t.nodes n)) = subst (λ o. In group (stated_groups n o)) (sym found) (in_one (AtTraversal n top indices) inline k has) in
       grouped (AtTraversal n top indices) inline k _
       (of_node n node.0 group node.1 (to_right (fill_groups m n node.0.fill) (stated_groups n (statement_of m t.nodes n)) group here)) has (λ slot. refl)
 

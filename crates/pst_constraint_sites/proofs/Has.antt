@@ -1,5 +1,5 @@
 -- Each constraint of a group is one of every scenario that differs in values alone.
-use Rattle.std.proofs.Common.{◌≡◌, ℕ, List, [], ◌++◌, length, Contains, nat_eq, ◌&&◌, Option, Some, None, refl, sym, ap, ◌∙◌, subst, inl, inr, ⊎_elim, arith}
+use Rattle.std.proofs.Common.{◌≡◌, ℕ, List, [], ◌∷◌, ◌++◌, length, Contains, nat_eq, ◌&&◌, Option, Some, None, refl, sym, ap, ◌∙◌, subst, inl, inr, ⊎_elim, arith}
 use Rattle.std.specs.Prelude.{slice_get, flat_map}
 use Rattle.std.specs.List.{enumerate_from, list_any, range_with_len}
 use Rattle.std.specs.Option.{option_and_then}
@@ -64,8 +64,9 @@ module _ (m : ModelTree) (s t : Scenario) (same : IsSameButValues s t) where
 
   -- the only group of a list
   only : (site : SiteTree) (constraints : List ConstraintTree) (group : GroupTree) → Has (record { site = site; constraints = constraints }) → In group (one_group site constraints) → Has group
-  only site constraints group has (inl e) = subst Has e has
-  only site constraints group has (inr none) = absurd none
+  only site [] group has inside = absurd inside
+  only site (x ∷ xs) group has (inl e) = subst Has e has
+  only site (x ∷ xs) group has (inr none) = absurd none
 
   -- ---- nodes
 

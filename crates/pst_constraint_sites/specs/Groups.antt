@@ -23,8 +23,10 @@ pub record GroupTree : Type 0 where
   pub site : SiteTree
   pub constraints : List ConstraintTree
 
+-- nothing where no constraint stands at the site
 abbrev pub one_group : SiteTree → List ConstraintTree → List GroupTree
-one_group site constraints = record { site = site; constraints = constraints } ∷ []
+one_group site [] = []
+one_group site (k ∷ more) = record { site = site; constraints = k ∷ more } ∷ []
 
 abbrev pub fill_groups : ModelTree → ℕ → Fill → List GroupTree
 fill_groups m n (fill.Compound action instance fields) = one_group (AtNode n) (action_constraints (type_of m action))
@@ -40,6 +42,10 @@ stated_groups n (Some stated) = step_groups n stated.top stated.indices stated.s
 
 abbrev pub node_groups : ModelTree → List Node → ℕ × Node → List GroupTree
 node_groups m nodes e = fill_groups m e.0 e.1.fill ++ stated_groups e.0 (statement_of m nodes e.0)
+
+-- the same where no traversal has a constraint
+abbrev pub compound_groups : ModelTree → ℕ × Node → List GroupTree
+compound_groups m e = fill_groups m e.0 e.1.fill
 
 abbrev pub output_groups : ModelTree → ℕ → ℕ × Filled → List GroupTree
 output_groups m a e = if is_output e.1.flow then one_group (AtOutput a e.0) (object_constraints (pool_object m e.1.pool)) else []

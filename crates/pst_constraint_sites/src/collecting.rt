@@ -5,16 +5,16 @@ ghost use Rattle.pst_model.specs.ModelView.{view_model, view_step};
 ghost use Rattle.pst_known.specs.Known.{seen};
 ghost use Rattle.pst_slots.specs.Stated.{statement_of as statement_in};
 ghost use Rattle.pst_refusals.specs.Places.{ArePlaces};
-ghost use Rattle.pst_constraint_sites.specs.Groups.{fill_groups, step_groups, stated_groups, node_groups, groups};
+ghost use Rattle.pst_constraint_sites.specs.Groups.{fill_groups, compound_groups, step_groups, stated_groups, node_groups, groups};
 ghost use Rattle.pst_constraint_sites.specs.Views.{view_group};
 
-use crate::listing::{add_acts, add_firsts};
+use crate::listing::{add_acts, add_firsts, add_group};
 use crate::parts::action_constraints;
 use crate::site::{Group, Site};
 use pst_base::NoMemory;
 use pst_known::Scene;
 use pst_model::{Model, Step};
-use pst_refusals::{places_of, statement_of};
+use pst_refusals::{has_inlines, places_of, statement_of};
 use pst_scen::{Fill, Node};
 use std::alloc::Global;
 
@@ -29,11 +29,8 @@ fn add_fill<'a>(
 {
     match fill {
         Fill::Compound { action, .. } => {
-            groups.push(Group {
-                site: Site::Node { node },
-                constraints: action_constraints(model, *action),
-            })?;
-            Ok(())
+            let constraints = action_constraints(model, *action);
+            add_group(groups, Site::Node { node }, constraints)
         }
         _ => Ok(()),
     }
@@ -51,11 +48,8 @@ fn add_step<'a>(
 {
     match step {
         Step::Traverse { inline, .. } => {
-            groups.push(Group {
-                site: Site::Traversal { node, top, indices },
-                constraints: inline.as_slice(),
-            })?;
-            Ok(())
+            let site = Site::Traversal { node, top, indices };
+            add_group(groups, site, inline.as_slice())
         }
         _ => Ok(()),
     }
@@ -96,8 +90,24 @@ fn add_node<'a>(
     add_stated(alloc, groups, model, nodes, places, number)
 }
 
-// Adds those of all nodes.
-fn add_nodes<'a>(
+// Adds those of all compound actions.
+fn add_fills<'a>(
+    groups: &mut Vec<Group<'a>>,
+    model: &'a Model,
+    nodes: &[Node],
+) -> Result<(), NoMemory>
+    ensures { OnOk result (map view_group groups.new.items ≡ map view_group groups.old.items ++ flat_map (compound_groups (view_model model.now)) (enumerate_from 0 nodes.now)) }
+{
+    let mut number = 0;
+    for node in nodes {
+        add_fill(groups, model, number, &node.fill)?;
+        number += 1;
+    }
+    Ok(())
+}
+
+// Adds those of all nodes, where traversals may have some too.
+fn add_all<'a>(
     alloc: Global,
     groups: &mut Vec<Group<'a>>,
     model: &'a Model,
@@ -111,6 +121,23 @@ fn add_nodes<'a>(
         add_node(alloc, groups, model, nodes, &places, number, node)?;
         number += 1;
     }
+    Ok(())
+}
+
+// Adds those of all nodes. Statements are looked for only where some traversal of the model has a
+// constraint.
+fn add_nodes<'a>(
+    alloc: Global,
+    groups: &mut Vec<Group<'a>>,
+    model: &'a Model,
+    nodes: &[Node],
+) -> Result<(), NoMemory>
+    ensures { OnOk result (map view_group groups.new.items ≡ map view_group groups.old.items ++ flat_map (node_groups (view_model model.now) nodes.now) (enumerate_from 0 nodes.now)) }
+{
+    if has_inlines(model) {
+        return add_all(alloc, groups, model, nodes);
+    }
+    add_fills(groups, model, nodes)?;
     Ok(())
 }
 

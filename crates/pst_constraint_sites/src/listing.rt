@@ -1,20 +1,36 @@
 //! The constraints of atomic actions, of what they write and claim, and of first objects.
 ghost use Rattle.std.specs.Prelude.{◌≡◌, ◌++◌, OnOk, flat_map, map};
 ghost use Rattle.std.specs.List.{enumerate_from};
+ghost use Rattle.pst_model.specs.ConstraintTree.{view_constraint};
 ghost use Rattle.pst_model.specs.ModelView.{view_model};
 ghost use Rattle.pst_legal.specs.Types.{type_of};
 ghost use Rattle.pst_slots.specs.Listed.{action_constraints};
 ghost use Rattle.pst_constraint_sites.specs.Sites.{AtAct};
 ghost use Rattle.pst_constraint_sites.specs.Groups.{one_group, output_groups, claim_groups, act_groups, first_object_groups};
-ghost use Rattle.pst_constraint_sites.specs.Views.{view_group};
+ghost use Rattle.pst_constraint_sites.specs.Views.{view_site, view_group};
 
 use crate::parts::{
     action_constraints, claims_of, is_output, narrow, object_constraints, pool_constraints,
 };
 use crate::site::{Group, Site};
 use pst_base::NoMemory;
-use pst_model::{Claim, Model};
+use pst_model::{Claim, Constraint, Model};
 use pst_scen::{Act, Filled, First};
+
+/// Adds those that stand at a site, where there are any.
+pub(crate) fn add_group<'a>(
+    groups: &mut Vec<Group<'a>>,
+    site: Site,
+    constraints: &'a [Constraint],
+) -> Result<(), NoMemory>
+    ensures { OnOk result (map view_group groups.new.items ≡ map view_group groups.old.items ++ one_group (view_site site) (map view_constraint constraints.now)) }
+{
+    if constraints.is_empty() {
+        return Ok(());
+    }
+    groups.push(Group { site, constraints })?;
+    Ok(())
+}
 
 // Adds those of the object that a reference writes.
 fn add_output<'a>(
@@ -29,11 +45,8 @@ fn add_output<'a>(
     if !is_output(filled.flow) {
         return Ok(());
     }
-    groups.push(Group {
-        site: Site::Output { act, reference },
-        constraints: pool_constraints(model, filled.pool),
-    })?;
-    Ok(())
+    let constraints = pool_constraints(model, filled.pool);
+    add_group(groups, Site::Output { act, reference }, constraints)
 }
 
 // Adds those of the objects that references write.
@@ -63,11 +76,8 @@ fn add_claim<'a>(
 ) -> Result<(), NoMemory>
     ensures { OnOk result (map view_group groups.new.items ≡ map view_group groups.old.items ++ claim_groups (view_model model.now) act (number, claim.now)) }
 {
-    groups.push(Group {
-        site: Site::Claim { act, claim: number },
-        constraints: object_constraints(model, claim.object),
-    })?;
-    Ok(())
+    let constraints = object_constraints(model, claim.object);
+    add_group(groups, Site::Claim { act, claim: number }, constraints)
 }
 
 // Adds those of the resources that claims claim.
@@ -96,11 +106,8 @@ fn add_own<'a>(
 ) -> Result<(), NoMemory>
     ensures { OnOk result (map view_group groups.new.items ≡ map view_group groups.old.items ++ one_group (AtAct number) (action_constraints (type_of (view_model model.now) act.now.action))) }
 {
-    groups.push(Group {
-        site: Site::Act { act: number },
-        constraints: action_constraints(model, act.action),
-    })?;
-    Ok(())
+    let constraints = action_constraints(model, act.action);
+    add_group(groups, Site::Act { act: number }, constraints)
 }
 
 // Adds those of an action, of what it writes and of what it claims.
@@ -141,11 +148,8 @@ fn add_first<'a>(
 ) -> Result<(), NoMemory>
     ensures { OnOk result (map view_group groups.new.items ≡ map view_group groups.old.items ++ first_object_groups (view_model model.now) first.now) }
 {
-    groups.push(Group {
-        site: Site::First { pool: first.pool },
-        constraints: pool_constraints(model, first.pool),
-    })?;
-    Ok(())
+    let constraints = pool_constraints(model, first.pool);
+    add_group(groups, Site::First { pool: first.pool }, constraints)
 }
 
 /// Adds those of first objects.

@@ -42,6 +42,8 @@ struct Listing<'a> {
     beside: &'a [bool],
     // For each claim the one before it on its pool.
     previous: &'a [Option<u32>],
+    // Whether streams join some actions.
+    joined: bool,
 }
 
 // Whether each claim's action stands in a `parallel`.
@@ -90,11 +92,43 @@ fn previous_of(
     Ok(previous)
 }
 
+// Whether streams join some of the actions with these groups.
+fn are_joined(groups: &[u32]) -> bool {
+    let mut number = 0u32;
+    for group in groups {
+        if *group != number {
+            return true;
+        }
+        number = number.saturating_add(1);
+    }
+    false
+}
+
 // The claim before this one on its pool.
 fn before(previous: &[Option<u32>], at: u32) -> Option<u32> {
     match previous.get(at as usize) {
         None => None,
         Some(before) => *before,
+    }
+}
+
+// Whether both claims are of one action.
+fn are_of_one(claims: &[OpenClaim], earlier: u32, later: u32) -> bool {
+    match (claims.get(earlier as usize), claims.get(later as usize)) {
+        (Some(one), Some(other)) => one.act == other.act,
+        _ => false,
+    }
+}
+
+// Whether a claim may have rivals before it: where its action stands in a `parallel`, or streams join actions, or the
+// claim before it on its pool is of its own action.
+fn may_have_rivals(listing: &Listing<'_>, later: u32) -> bool {
+    if listing.joined || are_beside(listing.beside, later, later) {
+        return true;
+    }
+    match before(listing.previous, later) {
+        None => false,
+        Some(earlier) => are_of_one(listing.claims, earlier, later),
     }
 }
 
@@ -154,6 +188,9 @@ fn pair(
     requires { IsKnown listing.now.scenario.now listing.now.groups.now }
     ensures { OnOk result (All (IsPairOf listing.now.scenario.now listing.now.claims.now) pairs.old.items → All (IsPairOf listing.now.scenario.now listing.now.claims.now) pairs.new.items) }
 {
+    if !may_have_rivals(listing, later) {
+        return Ok(0);
+    }
     let mut at = later;
     for compared in 0..most {
         let Some(earlier) = before(listing.previous, at) else {
@@ -205,6 +242,7 @@ fn pairs_by(
         claims: &claims,
         beside: &beside,
         previous: &previous,
+        joined: are_joined(groups),
     };
     pairs_of(alloc, &listing)
 }
@@ -213,9 +251,10 @@ fn pairs_by(
 /// and that a plan doesn't refuse, of a scenario whose activity and sources are read, and of which no claim and
 /// no value is read. Of a scenario of which more is read there is none.
 ///
-/// A claim is compared with at most 64 earlier ones on its pool, the nearest first; what an earlier claim didn't
-/// use of these a later one may. No more pairs are looked for behind 65,536. So not every pair has to be here: the
-/// others are left to the plan of the whole scenario.
+/// A claim of an action that stands in no `parallel` is compared with none where no streams join actions and
+/// its action has no other on its pool. Else a claim is compared with at most 64 earlier ones on its pool, the
+/// nearest first; what an earlier claim didn't use of these a later one may. No more pairs are looked for behind
+/// 65,536. So not every pair has to be here: the others are left to the plan of the whole scenario.
 pub fn rivals(alloc: Global, model: &Model, scenario: &Scenario) -> Result<Vec<Rival>, NoMemory>
     requires { IsBuilt scenario.now }
     ensures { IfOk result (λ pairs. All (MustDiffer (view_model model.now) scenario.now) pairs.items) }

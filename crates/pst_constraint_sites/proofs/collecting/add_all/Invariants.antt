@@ -4,7 +4,7 @@ use Rattle.std.specs.List.{enumerate_from}
 use Rattle.pst_model.specs.ModelView.{view_model}
 use Rattle.pst_constraint_sites.specs.Groups.{node_groups}
 use Rattle.pst_constraint_sites.specs.Views.{view_group}
-use Rattle.pst_constraint_sites.proofs.collecting.add_nodes.Given as goal
+use Rattle.pst_constraint_sites.proofs.collecting.add_all.Given as goal
 
 abbrev pub invariant-loop-node : goal.invariant-loop-node
 invariant-loop-node l = (l.number ≡ l.node-index) × (map view_group l.groups.items ++ flat_map (node_groups (view_model l.model) l.nodes) (enumerate_from l.node-index (drop l.node-index l.nodes)) ≡ map view_group l.initial.groups.items ++ flat_map (node_groups (view_model l.model) l.nodes) (enumerate_from 0 l.nodes))
