@@ -1,3 +1,4 @@
 pub mod Rowed
 pub mod Listing
 pub mod Standing
+pub mod Skipping
