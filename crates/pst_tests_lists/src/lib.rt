@@ -4,10 +4,7 @@
 #![tactic(auto)]
 
 mod activity_walk;
-mod shown;
 mod source_walk;
-mod task;
-mod value_walk;
 
 pub use activity_walk::read_list;
-pub use task::Task;
+pub use pst_tests_shown::Task;

@@ -1,11 +1,10 @@
 //! What a list of choices reads of the sources, and then of claims and values.
-use crate::shown::{show_need, show_sources};
-use crate::task::Task;
-use crate::value_walk::read_values;
 use pst_base::NoMemory;
+use pst_open_ends::Spot;
 use pst_scen::Next;
 use pst_shape::Walk;
 use pst_supply::SupplyWalk;
+use pst_tests_shown::{Task, read_values, show_actions};
 use std::alloc::Global;
 
 // Makes the last choice of the place where the walk stands, if it stands at one, and takes it back.
@@ -42,6 +41,46 @@ fn choose_all<'d>(walk: &mut SupplyWalk<'_>, digits: &'d [u64]) -> Result<&'d [u
     Ok(&digits[digits.len()..])
 }
 
+// How many options there are, the need whose turn it is, its action and its reference, and what stands before.
+fn show_place(
+    alloc: Global,
+    count: u64,
+    need: Option<Spot>,
+    before: &str,
+) -> Result<String, NoMemory> {
+    match need {
+        None => Ok(format!(in alloc; "{count} no need{before}")?),
+        Some(Spot { act, reference, .. }) => {
+            Ok(format!(in alloc; "{count} need {act}.{reference}{before}")?)
+        }
+    }
+}
+
+// What choices read from where the walk stands on.
+fn read_on(
+    alloc: Global,
+    task: &Task<'_>,
+    tree: &Walk<'_>,
+    walk: &mut SupplyWalk<'_>,
+    count: usize,
+    digits: &[u64],
+    before: &str,
+) -> Result<String, NoMemory> {
+    let left = choose_all(walk, digits)?;
+    let mut shown = String::from_str(alloc, before)?;
+    if left.is_empty() {
+        show_actions(&mut shown, walk.actions(), task.brief)?;
+    }
+    match walk.next() {
+        Next::Whole => {
+            let (nodes, actions) = (tree.nodes(), walk.actions());
+            read_values(alloc, task, nodes, actions, count, left, shown.as_str())
+        }
+        Next::Options(n) if left.is_empty() => show_place(alloc, n, walk.need(), shown.as_str()),
+        _ => Ok(String::from_str(alloc, "dead")?),
+    }
+}
+
 /// What choices read behind an activity that is read whole. So many choices there are in all.
 pub fn read_sources(
     alloc: Global,
@@ -51,28 +90,14 @@ pub fn read_sources(
     digits: &[u64],
     before: &str,
 ) -> Result<String, NoMemory> {
-    let place = count.saturating_sub(digits.len()) as u64;
     let mut walk = SupplyWalk::new(
         alloc,
         task.model,
         tree.nodes(),
         tree.leaves(),
         task.seed,
-        place,
+        count.saturating_sub(digits.len()) as u64,
         task.level,
     )?;
-    let left = choose_all(&mut walk, digits)?;
-    let mut shown = String::from_str(alloc, before)?;
-    if left.is_empty() {
-        show_sources(&mut shown, walk.actions(), task.brief)?;
-    }
-    match walk.next() {
-        Next::Whole => read_values(alloc, task, tree, &walk, count, left, shown.as_str()),
-        Next::Options(n) if left.is_empty() => {
-            let mut need = String::new(alloc);
-            show_need(&mut need, walk.need())?;
-            Ok(format!(in alloc; "{n}{need}{shown}")?)
-        }
-        _ => Ok(String::from_str(alloc, "dead")?),
-    }
+    read_on(alloc, task, tree, &mut walk, count, digits, before)
 }

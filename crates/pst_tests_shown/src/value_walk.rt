@@ -1,11 +1,10 @@
 //! What a list of choices reads of claims and values.
-use crate::shown::{show_blank, show_filled};
+use crate::blanks::show_blank;
 use crate::task::Task;
+use crate::values::show_values;
 use pst_base::{Items, NoMemory};
 use pst_copies::{copy_acts, copy_nodes};
-use pst_scen::{Next, Scenario};
-use pst_shape::Walk;
-use pst_supply::SupplyWalk;
+use pst_scen::{Act, Next, Node, Scenario};
 use pst_value_walk::ValueWalk;
 use std::alloc::Global;
 
@@ -47,11 +46,11 @@ fn choose_all<'d>(walk: &mut ValueWalk<'_>, digits: &'d [u64]) -> Result<&'d [u6
 fn linked(
     alloc: Global,
     level: u32,
-    tree: &Walk<'_>,
-    sources: &SupplyWalk<'_>,
+    nodes: &[Node],
+    actions: &[Act],
 ) -> Result<Scenario, NoMemory> {
-    let nodes = Items::from_vec(copy_nodes(alloc, tree.nodes())?);
-    let actions = Items::from_vec(copy_acts(alloc, sources.actions())?);
+    let nodes = Items::from_vec(copy_nodes(alloc, nodes)?);
+    let actions = Items::from_vec(copy_acts(alloc, actions)?);
     Ok(Scenario {
         level,
         nodes,
@@ -60,26 +59,21 @@ fn linked(
     })
 }
 
-/// What choices read behind sources that are read whole. So many choices there are in all.
-pub fn read_values(
+// What choices read from where the walk stands on.
+fn read_on(
     alloc: Global,
     task: &Task<'_>,
-    tree: &Walk<'_>,
-    sources: &SupplyWalk<'_>,
-    count: usize,
+    walk: &mut ValueWalk<'_>,
     digits: &[u64],
     before: &str,
 ) -> Result<String, NoMemory> {
-    let place = count.saturating_sub(digits.len()) as u64;
-    let linked = linked(alloc, task.level, tree, sources)?;
-    let mut walk = ValueWalk::new(alloc, task.model, linked, task.seed, place)?;
-    let left = choose_all(&mut walk, digits)?;
+    let left = choose_all(walk, digits)?;
     let mut shown = String::new(alloc);
     show_blank(&mut shown, walk.blank())?;
     shown.push_str(before)?;
     if !task.brief {
         let scenario = walk.scenario();
-        show_filled(
+        show_values(
             &mut shown,
             scenario.firsts.as_slice(),
             scenario.actions.as_slice(),
@@ -90,4 +84,21 @@ pub fn read_values(
         Next::Options(n) if left.is_empty() => Ok(format!(in alloc; "{n}{shown}")?),
         _ => Ok(String::from_str(alloc, "dead")?),
     }
+}
+
+/// What choices read of claims and values, behind an activity and sources that are read whole and came
+/// to these nodes and actions. So many choices there are in all.
+pub fn read_values(
+    alloc: Global,
+    task: &Task<'_>,
+    nodes: &[Node],
+    actions: &[Act],
+    count: usize,
+    digits: &[u64],
+    before: &str,
+) -> Result<String, NoMemory> {
+    let place = count.saturating_sub(digits.len()) as u64;
+    let linked = linked(alloc, task.level, nodes, actions)?;
+    let mut walk = ValueWalk::new(alloc, task.model, linked, task.seed, place)?;
+    read_on(alloc, task, &mut walk, digits, before)
 }
