@@ -1,5 +1,5 @@
 -- The references that may be sources, before a choice and after it.
-use Rattle.std.proofs.Common.{◌≡◌, ℕ, ◌≤◌, List, [], ◌∷◌, map, Bool, true, false, not, ◌&&◌, ◌||◌, nat_eq, if◌then◌else◌, Option, Some, None, refl, sym, ap, ◌∙◌, subst, arith}
+use Rattle.std.proofs.Common.{◌≡◌, ℕ, ◌≤◌, List, [], ◌∷◌, map, Bool, true, false, ◌&&◌, ◌||◌, nat_eq, if◌then◌else◌, Option, Some, None, refl, sym, ap, ◌∙◌, subst, arith}
 use Rattle.std.specs.List.{find, list_any}
 use Rattle.std.specs.Option.{option_map}
 use Rattle.std.proofs.lemmas.Bool.{eq-eqb, false≢true}
@@ -88,13 +88,13 @@ turn_is bounds acts need e free = go (find (turns bounds) (spots acts)) refl e
           free = ap (λ (n : Spot). n.link) (sym same) ∙ free;
         })
 
-pub open_is : (need : Spot) (r : Bool) → r ≡ same_link need.link link.Nothing → not r ≡ false → need.link ≡ link.Nothing
-open_is need r e n = go need.link (ap not (sym e) ∙ n)
+pub open_is : (need : Spot) (r : Bool) → r ≡ same_link need.link link.Nothing → r ≡ true → need.link ≡ link.Nothing
+open_is need r e n = go need.link (sym e ∙ n)
   where
-    go : (to : Link) → not (same_link to link.Nothing) ≡ false → to ≡ link.Nothing
+    go : (to : Link) → same_link to link.Nothing ≡ true → to ≡ link.Nothing
     go link.Nothing n = refl
-    go link.Initial n = absurd (false≢true (sym n))
-    go (link.Act a r) n = absurd (false≢true (sym n))
+    go link.Initial n = absurd (false≢true n)
+    go (link.Act a r) n = absurd (false≢true n)
 
 -- ---- a choice
 

@@ -71,7 +71,7 @@ invariant_of-self-2 c =
     (subst (λ l. NamesSource w.seed (w.place + c.len.result) l c.args.digit (given_source c.in_ok-source.source)) options c.in_ok-source.ensures) in
     let stop = subst (λ k. IsStop m (bounds_of m w.nodes.items) new k w.level c.in_ok-went.went.stop) c.self.invariant.count
     (subst (λ b. IsStop m b new w.count w.level c.in_ok-went.went.stop) c.self.invariant.ties c.in_ok-went.ensures.gone.stop) in
-    let x : Made = record { digit = c.args.digit; change = c.in_ok-went.went.change; stop = c.in_ok-went.went.stop } in
+    let x : Made = record { digit = c.args.digit; change = c.in_ok-went.went.change; taken = c.in_ok-went.went.taken; stop = c.in_ok-went.went.stop } in
     let items : c.push.new.self.items ≡ w.made.items ++ x ∷ [] = c.in-Ok.ensures.items ∙ ap (λ l. l ++ x ∷ []) c.reserve.ensures.items in
     let all : reverse c.push.new.self.items ≡ x ∷ made = ap reverse items ∙ reverse-append w.made.items (x ∷ []) in
     record {
@@ -86,4 +86,22 @@ invariant_of-self-2 c =
       );
       stands = subst (λ l. AllStand g w.first l new) (sym all)
           (one_more g w.first made w.acts.items new x need (given_source c.in_ok-source.source) c.self.invariant.stands turn below named c.in_ok-went.ensures.gone.supplies stop);
+    }
+
+pub invariant_of-self-in_err-went : goal.invariant_of-self-in_err-went
+invariant_of-self-in_err-went c =
+    let w = c.self.inside in
+    let g = ground_of w in
+    let among = c.go_on.new.among in
+    let acts = c.go_on.new.acts.items in
+    let made = reverse w.made.items in
+    let same : acts ≡ w.acts.items = c.in_err-went.ensures.err in
+    let all : reverse c.reserve.new.self.items ≡ made = ap reverse c.reserve.ensures.items in
+    record {
+      count = c.self.invariant.count;
+      ties = c.self.invariant.ties;
+      among = c.go_on.ensures.among;
+      ahead = c.go_on.ensures.ahead;
+      leave = subst (λ l. CanLeave among l acts) (sym all) (subst (CanLeave among made) (sym same) (still_leaves w.among among c.go_on.ensures.room made w.acts.items c.self.invariant.leave));
+      stands = subst (λ l. AllStand g w.first l acts) (sym all) (subst (AllStand g w.first made) (sym same) c.self.invariant.stands);
     }
