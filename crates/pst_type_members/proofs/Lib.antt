@@ -1,4 +1,3 @@
 pub mod Rowed
 pub mod Listing
 pub mod Standing
-pub mod Skipping

@@ -6,8 +6,8 @@ use Rattle.std.proofs.lemmas.List.Elements.{filter-append}
 use Rattle.pst_ast.specs.declared.scope_declaration.Declaration.{Declaration}
 use Rattle.pst_ast.specs.declared.scope_declaration.Sort.{Sort}
 use Rattle.pst_type_rules.specs.Members.{those_that, own_members}
-use Rattle.pst_marked_bases.specs.PassedOn.{with_bases, members_that}
-use Rattle.pst_marked_bases.specs.PassedOn.{needs_within}
+use Rattle.pst_tree.specs.Bases.{with_bases, members_that}
+use Rattle.pst_tree.specs.Needed.{needs_within}
 
 those_of_each : (test : Sort → Bool) (ds bases : List Declaration) → those_that test (flat_map (own_members ds) bases) ≡ flat_map (needs_within test ds) bases
 those_of_each test ds [] = refl

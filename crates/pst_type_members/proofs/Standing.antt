@@ -11,7 +11,7 @@ use Rattle.pst_places.specs.Numbers.{number_in, number_from}
 use Rattle.pst_ast.specs.declared.scope_declaration.Declaration.{Declaration}
 use Rattle.pst_ast.specs.Sorts.{is_handle, same_place}
 use Rattle.pst_type_rules.specs.Members.{those_that}
-use Rattle.pst_marked_bases.specs.PassedOn as bases
+use Rattle.pst_tree.specs.Bases as bases
 use Rattle.pst_type_members.specs.declared.among.Among.{Among}
 use Rattle.pst_type_members.specs.declared.handles.HandleRow.{HandleRow}
 use Rattle.pst_type_members.specs.declared.handles.HandleRows.{HandleRows}

@@ -1,7 +1,7 @@
 -- Where a declaration stands among others.
 use Rattle.std.specs.Prelude.{◌≡◌, List, length}
 use Rattle.pst_ast.specs.declared.scope_declaration.Declaration.{Declaration}
-use Rattle.pst_marked_bases.specs.PassedOn as Bases
+use Rattle.pst_tree.specs.Bases
 use Rattle.pst_type_members.specs.declared.among.Among.{Among}
 
 pub record IsAmong (list : List Declaration) (d : Declaration) (a : Among) : Type 0 where

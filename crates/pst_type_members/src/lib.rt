@@ -7,7 +7,6 @@ mod key;
 mod lists;
 mod rows;
 mod scopes;
-mod sorted;
 
 pub use lists::{MemberSort, number_in};
 pub use rows::Members;

@@ -1,8 +1,8 @@
 //! The members of one sort that a type has with its bases.
 ghost use Rattle.std.specs.Prelude.{◌≡◌, ◌++◌, IfOk, OnOk};
 ghost use Rattle.std.specs.List.{flat_map};
-ghost use Rattle.pst_marked_bases.specs.PassedOn as Bases;
-ghost use Rattle.pst_marked_bases.specs.PassedOn.{needs_within};
+ghost use Rattle.pst_tree.specs.Bases;
+ghost use Rattle.pst_tree.specs.Needed.{needs_within};
 ghost use Rattle.pst_type_rules.specs.Members.{those_that};
 ghost use Rattle.pst_type_members.specs.Among.{IsAmong};
 ghost use Rattle.pst_type_members.specs.Listed.{is_of};
@@ -11,6 +11,7 @@ use crate::among::Among;
 use crate::rows::Members;
 use pst_ast::{Declaration, Sort};
 use pst_base::NoMemory;
+use pst_tree::with_bases;
 use std::alloc::Global;
 
 /// A sort of members.
@@ -38,8 +39,8 @@ fn is_of_sort(by: MemberSort, sort: Sort) -> bool
     }
 }
 
-/// Adds those of that sort.
-pub(crate) fn add_those(
+// Adds those of that sort.
+fn add_those(
     found: &mut Vec<Declaration>,
     by: MemberSort,
     declarations: &[Declaration],
@@ -50,16 +51,6 @@ pub(crate) fn add_those(
         if is_of_sort(by, declaration.sort) {
             found.push(*declaration)?;
         }
-    }
-    Ok(())
-}
-
-// Adds all of a row.
-fn add_row(found: &mut Vec<Declaration>, row: &[Declaration]) -> Result<(), NoMemory>
-    ensures { OnOk result (found.new.items ≡ found.old.items ++ row.now) }
-{
-    for declaration in row {
-        found.push(*declaration)?;
     }
     Ok(())
 }
@@ -87,12 +78,13 @@ impl<'a> Members<'a> {
         ensures { OnOk result (found.new.items ≡ found.old.items ++ flat_map (needs_within (is_of by) self.now) bases.now) }
     {
         for base in bases {
-            add_row(found, self.own_of(by, base))?;
+            add_those(found, by, self.own(base))?;
         }
         Ok(())
     }
 
     /// The members of one sort that a type has, its base's first.
+    #[tactic(auto, using(crate::proofs::Listing::members_are))]
     pub fn those(
         &self,
         alloc: Global,
@@ -101,39 +93,53 @@ impl<'a> Members<'a> {
     ) -> Result<Vec<Declaration>, NoMemory>
         ensures { IfOk result (λ v. v.items ≡ Bases.members_that (is_of by) self.now type_.now) }
     {
-        let bases = self.bases_with(alloc, by, type_)?;
+        let bases = with_bases(alloc, self.index(), type_)?;
         let mut found = Vec::new(alloc);
         self.add_each(&mut found, by, bases.as_slice())?;
         Ok(found)
     }
 
     // Where a member stands among those of its sort that a type declares itself.
-    fn among_own(&self, by: MemberSort, type_: &Declaration, member: &Declaration) -> Among
-        ensures { IsAmong (needs_within (is_of by) self.now type_.now) member.now result }
+    fn among_own(
+        &self,
+        alloc: Global,
+        by: MemberSort,
+        type_: &Declaration,
+        member: &Declaration,
+    ) -> Result<Among, NoMemory>
+        ensures { IfOk result (IsAmong (needs_within (is_of by) self.now type_.now) member.now) }
     {
-        let own = self.own_of(by, type_);
-        Among {
-            number: number_in(own, member),
-            count: own.len(),
-        }
+        let mut found = Vec::new(alloc);
+        add_those(&mut found, by, self.own(type_))?;
+        Ok(Among {
+            number: number_in(found.as_slice(), member),
+            count: found.len(),
+        })
     }
 
     // The same, where the handles of types are looked up.
-    fn among(&self, by: MemberSort, type_: &Declaration, member: &Declaration) -> Among
-        ensures { IsAmong (needs_within (is_of by) self.now type_.now) member.now result }
+    fn among(
+        &self,
+        alloc: Global,
+        by: MemberSort,
+        type_: &Declaration,
+        member: &Declaration,
+    ) -> Result<Among, NoMemory>
+        ensures { IfOk result (IsAmong (needs_within (is_of by) self.now type_.now) member.now) }
     {
         match by {
             MemberSort::Handle => match self.among_handles(type_, member) {
-                Some(found) => found,
-                None => self.among_own(by, type_, member),
+                Some(found) => Ok(found),
+                None => self.among_own(alloc, by, type_, member),
             },
-            _ => self.among_own(by, type_, member),
+            _ => self.among_own(alloc, by, type_, member),
         }
     }
 
     // How many members of a sort that types declare stand before one; all, where it isn't there.
     fn number_behind(
         &self,
+        alloc: Global,
         by: MemberSort,
         types: &[Declaration],
         member: &Declaration,
@@ -142,7 +148,7 @@ impl<'a> Members<'a> {
     {
         let mut before: usize = 0;
         for type_ in types {
-            let stands = self.among(by, type_, member);
+            let stands = self.among(alloc, by, type_, member)?;
             let Some(number) = before.checked_add(stands.number) else {
                 return Err(NoMemory);
             };
@@ -156,8 +162,8 @@ impl<'a> Members<'a> {
 
     /// The number of a member among those of its sort that a type has.
     ///
-    /// Of the type and its bases only those are gone through that declare such a member. A handle is
-    /// looked up in each of them; other members are counted.
+    /// A handle is looked up in each base's; other members are counted.
+    #[tactic(auto, using(crate::proofs::Listing::members_are))]
     pub fn number(
         &self,
         alloc: Global,
@@ -167,8 +173,8 @@ impl<'a> Members<'a> {
     ) -> Result<u32, NoMemory>
         ensures { IfOk result (λ n. n ≡ Bases.number_in (Bases.members_that (is_of by) self.now type_.now) member.now) }
     {
-        let bases = self.bases_with(alloc, by, type_)?;
-        let number = self.number_behind(by, bases.as_slice(), member)?;
+        let bases = with_bases(alloc, self.index(), type_)?;
+        let number = self.number_behind(alloc, by, bases.as_slice(), member)?;
         match u32::try_from(number) {
             Ok(number) => Ok(number),
             Err(_) => Err(NoMemory),

@@ -1,5 +1,5 @@
 use Rattle.std.proofs.Common.{◌≡◌, ◌+◌, drop}
-use Rattle.pst_marked_bases.specs.PassedOn as Bases
+use Rattle.pst_tree.specs.Bases
 use Rattle.pst_type_members.proofs.lists.number_in.Given as goal
 
 abbrev pub invariant-loop-number : goal.invariant-loop-number

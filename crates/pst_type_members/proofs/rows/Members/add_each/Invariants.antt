@@ -1,6 +1,6 @@
 use Rattle.std.proofs.Common.{◌≡◌, ◌++◌, drop}
 use Rattle.std.specs.List.{flat_map}
-use Rattle.pst_marked_bases.specs.PassedOn.{needs_within}
+use Rattle.pst_tree.specs.Needed.{needs_within}
 use Rattle.pst_type_members.specs.Listed.{is_of}
 use Rattle.pst_type_members.proofs.rows.Members.add_each.Given as goal
 
