@@ -1,5 +1,0 @@
-pub mod Marked
-pub mod Leads
-pub mod Shown
-pub mod Kept
-pub mod PassedOn
