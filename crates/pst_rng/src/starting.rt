@@ -5,12 +5,13 @@ ghost use Rattle.pst_rng.specs.Weights.{IsWeight, IsLeastAbove, weighted_start_o
 use crate::reading::{Words, word};
 use crate::weights::weighted_index;
 
-/// Returns where `seed` begins among `n` options at `place`: the word there, modulo `n`.
+/// Returns where `seed` begins among `n` options at `place`: the word there, modulo `n`. A single
+/// option needs no word.
 pub fn start(seed: u64, place: u64, n: u64) -> u64
     requires { 0 < n }
     ensures { result ≡ start_of seed place n }
 {
-    word(seed, place) % n
+    if n == 1 { 0 } else { word(seed, place) % n }
 }
 
 /// Returns where `seed` begins at `place` among options that have weights: the least index whose
