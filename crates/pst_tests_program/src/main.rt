@@ -9,6 +9,13 @@
 //!
 //! - `alone`: on one lane. `lanes`: on so many as `number` says.
 //! - `failing`: on a lane whose call of that number fails; behind the text ` |`, and the lane's calls.
+//! - `faulty`: on 16 lanes, of which lane 0 fails at its call of that number; behind the text the lanes' calls.
+//! - `shared`: on 16; in place of the text how many lines it has, the second of them and the last, what
+//!   `check` answers to it, and how many lanes have other calls than the trace says.
+//! - `each`: for how many of the first calls of the first lanes, so many of both, a run in which that
+//!   one fails is neither whole nor begins a whole one.
+//! - `behind`: lane 0 waits at the gate until lane 1 has come; what starts first, and whether it came.
+//! - `together`: so many lanes wait at the gate until all of them have come; the same.
 //! - `ends`: in place of the text how many lines it has, the second of them and the last.
 //! - `judged`: what `check` answers to the text.
 //! - `writes`: the status, and for how many writes of the text, where that one fails, the status isn't
@@ -18,10 +25,12 @@
 
 mod calls;
 mod cuts;
-mod lanes;
+mod judged;
+mod runs;
 mod writes;
 
 use pst_cases::{Heading, Score, framed, joined_lines, repeated};
+use pst_tests_settings::Meeting;
 use std::alloc::AllocError;
 use std::io;
 use std::io::Read;
@@ -30,6 +39,26 @@ use std::thread::Threads;
 
 /// The most bytes that are read.
 const LIMIT: u64 = 1 << 24;
+
+// What is answered to a call on a text that runs on several lanes.
+fn on_several<R: Threads + Wait + Sync + AllocGlobal>(
+    rt: &R,
+    heading: &Heading,
+    text: &str,
+) -> Result<String, AllocError> {
+    let number = heading.number;
+    match heading.call.as_str() {
+        "lanes" => runs::on_lanes(rt, number, text),
+        "faulty" => runs::on_failing(rt, number, text),
+        "shared" => runs::shared(rt, number, text),
+        "each" => runs::each_failing(rt, number, text),
+        "behind" => runs::at_gate(rt, &Meeting::new(1, 2), text),
+        _ => {
+            let all = 1u64.wrapping_shl(number).wrapping_sub(1);
+            runs::at_gate(rt, &Meeting::new(all, all), text)
+        }
+    }
+}
 
 // What is answered to a call on a text.
 fn answer<R: Threads + Wait + Sync + AllocGlobal>(
@@ -40,12 +69,12 @@ fn answer<R: Threads + Wait + Sync + AllocGlobal>(
     let alloc = rt.alloc();
     match heading.call.as_str() {
         "alone" => calls::alone(alloc, text),
-        "lanes" => lanes::on_lanes(rt, heading.number, text),
         "failing" => calls::on_failing(alloc, heading.number, text),
         "ends" => calls::ends(alloc, text),
         "judged" => calls::judged(alloc, text),
         "writes" => writes::breaks(alloc, text),
-        _ => cuts::answers(alloc, text),
+        "cuts" => cuts::answers(alloc, text),
+        _ => on_several(rt, heading, text),
     }
 }
 
