@@ -35,23 +35,29 @@ use std::snapshot::Snapshot;
 use std::sync::Wait;
 use std::thread::Threads;
 
-// The lists that a run on several lanes fills. They have room for all lanes.
+// The lists that a run on several lanes fills. Three have room for the lanes of the run, the last one for all that were handed in.
 #[derive(Drop)]
 struct Room<N: Name, T: Target> {
     crew: Vec<SeatedLane<T>>,
     begun: Vec<Begun<N, T>>,
     returned: Vec<Returned<N, T>>,
+    back: Vec<T>,
 }
 
-// Room for so many lanes.
-fn room_for<N: Name, T: Target>(alloc: Global, lanes: usize) -> Result<Room<N, T>, AllocError>
-    ensures empty { IfOk result (λ r. (vec_len r.crew ≡ 0) × (vec_len r.begun ≡ 0) × (vec_len r.returned ≡ 0)) }
-    ensures room { IfOk result (λ r. (vec_capacity r.crew ≡ lanes) × (vec_capacity r.begun ≡ lanes) × (vec_capacity r.returned ≡ lanes)) }
+// Room for so many lanes of a run, of so many that were handed in.
+fn room_for<N: Name, T: Target>(
+    alloc: Global,
+    count: usize,
+    all: usize,
+) -> Result<Room<N, T>, AllocError>
+    ensures empty { IfOk result (λ r. (vec_len r.crew ≡ 0) × (vec_len r.begun ≡ 0) × (vec_len r.returned ≡ 0) × (vec_len r.back ≡ 0)) }
+    ensures room { IfOk result (λ r. (vec_capacity r.crew ≡ count) × (vec_capacity r.begun ≡ count) × (vec_capacity r.returned ≡ count) × (vec_capacity r.back ≡ all)) }
 {
     Ok(Room {
-        crew: Vec::with_capacity(alloc, lanes)?,
-        begun: Vec::with_capacity(alloc, lanes)?,
-        returned: Vec::with_capacity(alloc, lanes)?,
+        crew: Vec::with_capacity(alloc, count)?,
+        begun: Vec::with_capacity(alloc, count)?,
+        returned: Vec::with_capacity(alloc, count)?,
+        back: Vec::with_capacity(alloc, all)?,
     })
 }
 
@@ -144,6 +150,45 @@ fn end_run<'a, T: Target, G: Gate>(
     }
 }
 
+// A run of which the desk has a name, in lists that have room for it.
+fn run_in<'a, N: Name + Send + Sync, T: Target + Send, G: Gate + Sync, R: Threads + Wait + Sync>(
+    rt: &R,
+    job: &Job<'_, G>,
+    post: Post,
+    seat: BookSeat,
+    book: Book<'a>,
+    lanes: &mut Vec<T>,
+    room: Room<N, T>,
+) -> Result<Book<'a>, RunEnd<'a>>
+    requires sound { IsSound (view_model job.now.model.now) }
+    requires types { HasTypes (view_model job.now.model.now) job.now.scenario.now }
+    requires scenario { N.scenario ≡ job.now.scenario.now }
+    requires post { (post ≡ N.table) × (N.table.words ≡ N.lanes) }
+    requires seat { seat ≡ fresh_book N.table N.lanes }
+    requires book { book ≡ book_of N.scenario N.plan N.lanes [] }
+    requires lanes { N.lanes ≤ length lanes.old.items }
+    requires empty { (vec_len room.crew ≡ 0) × (vec_len room.begun ≡ 0) × (vec_len room.returned ≡ 0) × (vec_len room.back ≡ 0) }
+    requires room { (vec_capacity room.crew ≡ N.lanes) × (vec_capacity room.begun ≡ N.lanes) × (vec_capacity room.returned ≡ N.lanes) × (vec_capacity room.back ≡ length lanes.old.items) }
+    ensures runs { RunsMany (view_model job.now.model.now) job.now.scenario.now book.entry.plan book.entry.lanes (told_of T.calls T.faults lanes.old.items) (told_of T.calls T.faults lanes.new.items) result }
+    ensures narrow { IsNarrow result → ⊥ }
+    ensures others { drop book.entry.lanes lanes.new.items ≡ drop book.entry.lanes lanes.old.items }
+    ensures as_many { length lanes.new.items ≡ length lanes.old.items }
+{
+    let Room {
+        crew,
+        begun,
+        returned,
+        back,
+    } = room;
+    let mut seat = seat;
+    let mut rest = mem::replace(lanes, back).into_iter();
+    let crew = seat_lanes(&post, &mut seat, &mut rest, crew);
+    let (book, first) = run_together(rt, job, post, seat, book, crew, begun, returned, lanes);
+    let ended = end_run(job, book, lanes.as_mut_slice(), first);
+    put_behind(lanes, rest);
+    ended
+}
+
 // A run of which the desk has a name. Nothing of its signature but N depends on the name, so a call may pick it.
 fn run_on<'a, N: Name + Send + Sync, T: Target + Send, G: Gate + Sync, R: Threads + Wait + Sync>(
     rt: &R,
@@ -165,25 +210,10 @@ fn run_on<'a, N: Name + Send + Sync, T: Target + Send, G: Gate + Sync, R: Thread
     ensures others { drop book.entry.lanes lanes.new.items ≡ drop book.entry.lanes lanes.old.items }
     ensures as_many { length lanes.new.items ≡ length lanes.old.items }
 {
-    let count = book.lanes() as usize;
-    let Ok(room) = room_for::<N, T>(job.alloc, count) else {
-        return Err(RunEnd::NoMemory);
-    };
-    let Ok(back) = Vec::with_capacity(job.alloc, lanes.len()) else {
-        return Err(RunEnd::NoMemory);
-    };
-    let Room {
-        crew,
-        begun,
-        returned,
-    } = room;
-    let mut seat = seat;
-    let mut rest = mem::replace(lanes, back).into_iter();
-    let crew = seat_lanes(&post, &mut seat, &mut rest, crew);
-    let (book, first) = run_together(rt, job, post, seat, book, crew, begun, returned, lanes);
-    let ended = end_run(job, book, lanes.as_mut_slice(), first);
-    put_behind(lanes, rest);
-    ended
+    match room_for::<N, T>(job.alloc, book.lanes() as usize, lanes.len()) {
+        Ok(room) => run_in(rt, job, post, seat, book, lanes, room),
+        Err(_) => Err(RunEnd::NoMemory),
+    }
 }
 
 /// Runs a scenario on the first lanes of a list, as many as `count` says, each with a worker of its own.

@@ -13,9 +13,9 @@ use Rattle.pst_workers.specs.Told.{Told, told, told_of, lane_at}
 use Rattle.pst_run_many.specs.Stops.{Came}
 use Rattle.pst_run_many.specs.Many.{RunsMany}
 use Rattle.pst_run_many.proofs.Lanes.{told_at, told_before}
-use Rattle.pst_run_many.proofs.many.run_on.Given.{Over}
-use Rattle.pst_run_many.proofs.many.run_on.Goals as goal
-use Rattle.pst_run_many.proofs.many.run_on.Goals.{After-put_behind}
+use Rattle.pst_run_many.proofs.many.run_in.Given.{Over}
+use Rattle.pst_run_many.proofs.many.run_in.Goals as goal
+use Rattle.pst_run_many.proofs.many.run_in.Goals.{After-put_behind}
 
 -- the lanes that were handed in, as they are handed out again
 owned_is : (g : Over) (c : After-put_behind g) → into_iter_items c.into_iter-rest.result ≡ c.args.lanes.now.items
