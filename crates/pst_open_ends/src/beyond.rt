@@ -34,8 +34,8 @@ pub struct NewSources<'a> {
     pub pools: Vec<NewEnds>,
 }
 
-// Whether the entries for what serves references stand in order.
-fn serves_in_order(model: &Model) -> bool
+/// Whether the entries for what serves references stand in order.
+pub(crate) fn serves_in_order(model: &Model) -> bool
     ensures { IsTrue result → IsInOrder (view_model model.now).served }
 {
     is_in_order(model.served.as_slice())

@@ -16,7 +16,7 @@ mod options;
 mod spot;
 mod turns;
 
-pub use acts::{leaf_count, open_acts};
+pub use acts::{leaf_count, open_acts, open_leaves};
 pub use beyond::NewSources;
 pub use links::{Change, Ends, Relinked, supply, take_back};
 pub use new_ends::NewEnds;

@@ -256,7 +256,11 @@ pub fn supply(
             alloc,
             beyond.model,
             beyond.in_order,
-            acts, need, action, instance, reference,
+            acts,
+            need,
+            action,
+            instance,
+            reference,
         ),
     }
 }

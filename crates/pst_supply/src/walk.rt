@@ -23,7 +23,8 @@ use pst_copies::{copy_acts, copy_nodes};
 use pst_free_ends::{Taken, follow, leave};
 use pst_model::Model;
 use pst_open_ends::{
-    Change, NewSources, Source, Spot, leaf_count, next_need, open_acts, sources, supply, take_back,
+    Change, NewSources, Source, Spot, leaf_count, next_need, open_leaves, sources, supply,
+    take_back,
 };
 use pst_pool_sources::PoolSources;
 use pst_rng::start;
@@ -260,15 +261,7 @@ fn look_behind(
     ensures room { (n : the_flow) (p : ℕ) → room_at n p among.old ≤ room_at n p among.new }
 {
     let taken = follow(among, acts, need, source, change)?;
-    match look(
-        alloc,
-        beyond,
-        ties,
-        acts,
-        among,
-        leaves,
-        change.lowest,
-    ) {
+    match look(alloc, beyond, ties, acts, among, leaves, change.lowest) {
         Ok(stop) => Ok((taken, stop)),
         Err(error) => {
             leave(among, acts, &taken, change);
@@ -357,7 +350,7 @@ fn begin<'a>(
     ensures { IfOk result (λ begun. Begins model.now ties.now leaves.now count level begun) }
 {
     let beyond = NewSources::new(alloc, model, level)?;
-    let acts = open_acts(alloc, &beyond, leaves)?;
+    let acts = open_leaves(alloc, &beyond, leaves)?;
     let among = PoolSources::new(alloc, model.pools.len(), &acts)?;
     let first = look(alloc, &beyond, ties, &acts, &among, count, 0)?;
     Ok(Begun {

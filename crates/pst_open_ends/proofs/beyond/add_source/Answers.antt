@@ -3,7 +3,7 @@ use Rattle.std.specs.Prelude.{slice_get}
 use Rattle.std.proofs.lemmas.Option.{slice_get_read}
 use Rattle.std.proofs.lemmas.Result.{on_ok_weaker}
 use Rattle.pst_legal.specs.Supplied.{is_source_for}
-use Rattle.pst_open_ends.proofs.Beyond.{added_at}
+use Rattle.pst_open_ends.proofs.News.{added_at}
 use Rattle.pst_open_ends.proofs.beyond.add_source.Goals as goal
 
 pub returns : goal.returns
