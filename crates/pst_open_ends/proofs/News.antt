@@ -1,5 +1,5 @@
 -- What the references of a new action add to those that are kept.
-use Rattle.std.proofs.Common.{◌≡◌, ◌≢◌, ℕ, zero, suc, ◌+◌, ◌<◌, List, [], ◌∷◌, ◌++◌, map, length, Bool, true, false, ◌&&◌, nat_eq, if◌then◌else◌, Option, Some, None, refl, sym, ap, ◌∙◌, arith}
+use Rattle.std.proofs.Common.{◌≡◌, ◌≢◌, ℕ, zero, suc, ◌+◌, ◌<◌, List, [], ◌∷◌, ◌++◌, map, length, Bool, true, false, ◌&&◌, nat_eq, if◌then◌else◌, Some, refl, sym, ap, ◌∙◌, arith}
 use Rattle.std.specs.Prelude.{flat_map, slice_get, slice_set}
 use Rattle.std.specs.List.{enumerate_from, filter}
 use Rattle.std.proofs.lemmas.Bool.{eqb-true, eqb-false}
@@ -12,7 +12,7 @@ use Rattle.pst_scen.specs.declared.act.Filled.{Filled}
 use Rattle.pst_scen.specs.declared.act.Flow.{Flow}
 use Rattle.pst_legal.specs.Types.{same_name}
 use Rattle.pst_legal.specs.Growing.{open_reference}
-use Rattle.pst_legal.specs.SupplyReading.{Source as Given, New, fits, sources_in}
+use Rattle.pst_legal.specs.SupplyReading.{Source as Given, New, fits}
 use Rattle.pst_open_ends.specs.declared.spot.Source.{Source}
 use Rattle.pst_open_ends.specs.declared.spot.Source.TheVariants as source
 use Rattle.pst_open_ends.specs.declared.new_ends.NewEnds.{NewEnds}

@@ -1,4 +1,4 @@
-use Rattle.std.proofs.Common.{◌≡◌, ℕ, ◌++◌, sym, ap, ◌∙◌, map}
+use Rattle.std.proofs.Common.{◌++◌, sym, ap, ◌∙◌, map}
 use Rattle.std.specs.List.{enumerate_from, filter}
 use Rattle.std.proofs.lemmas.Result.{on_ok_weaker}
 use Rattle.pst_legal.specs.SupplyReading.{New, fits}
