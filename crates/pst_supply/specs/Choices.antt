@@ -38,9 +38,9 @@ pub record Advances (m : ModelTree) (bounds : List Bound) (leaves level : ℕ) (
   pub stop : IsStop m bounds new leaves level went.stop
 
 -- what a walk of these leaves knows before its first choice
-pub record Begins (model : Model) (bounds : List Bound) (leaves : List Act) (count level : ℕ) (begun : Begun) : Type 0 where
-  pub model : begun.beyond.model.now ≡ model
-  pub level : begun.beyond.level ≡ level
+pub record Begins (m : Model) (bounds : List Bound) (leaves : List Act) (count n : ℕ) (begun : Begun) : Type 0 where
+  pub model : begun.beyond.model.now ≡ m
+  pub level : begun.beyond.level ≡ n
   pub beyond : AreNew begun.beyond
   pub acts : begun.acts.items ≡ map (opened (view_model begun.beyond.model.now)) leaves
   pub among : AreSources begun.among begun.acts.items

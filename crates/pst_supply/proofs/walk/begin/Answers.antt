@@ -1,7 +1,6 @@
-use Rattle.std.proofs.Common.{◌≡◌, map, sym, ap, subst, ◌∙◌}
+use Rattle.std.proofs.Common.{sym, ap, subst, ◌∙◌}
 use Rattle.pst_model.specs.ModelView.{view_model}
 use Rattle.pst_pool_sources.specs.Offers.{AreSources, fitting}
-use Rattle.pst_open_ends.specs.Changes.{opened}
 use Rattle.pst_supply.specs.Stops.{IsStop}
 use Rattle.pst_supply.proofs.Sources.{begin_free, begin_ahead}
 use Rattle.pst_supply.proofs.walk.begin.Goals as goal
@@ -13,8 +12,8 @@ look-requires-clause-among c =
     subst (AreSources sources) (sym c.deref-2.ensures.value)
     (begin_free (view_model c.in_ok-beyond.beyond.model.now) c.args.leaves.now acts c.in_ok-acts.ensures sources (λ n p. c.in_ok-among.ensures.ends n p ∙ ap (fitting n p) c.deref.ensures.value) c.in_ok-among.ensures.begun)
 
-pub returns-in_ok-first : goal.returns-in_ok-first
-returns-in_ok-first c =
+pub returns : goal.returns
+returns c =
     let news = c.in_ok-beyond.beyond in
     let m = view_model news.model.now in
     let acts = c.in_ok-acts.acts.items in

@@ -1,7 +1,5 @@
-use Rattle.std.proofs.Common.{◌∙◌, ap}
+use Rattle.std.proofs.Common.{◌∙◌}
 use Rattle.pst_scen.specs.declared.act.Flow.TheVariants as flow
-use Rattle.pst_open_ends.specs.Spots.{read_spot}
-use Rattle.pst_open_ends.specs.Options.{options_with}
 use Rattle.pst_supply.proofs.walk.options.Goals as goal
 
 pub sources-requires-clause-free : goal.sources-requires-clause-free

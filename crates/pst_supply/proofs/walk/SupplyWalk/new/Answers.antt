@@ -32,6 +32,6 @@ invariant_of-result c =
       ties = ties;
       among = h.among;
       ahead = h.ahead;
-      leave = subst (λ l. CanLeave begun.among (reverse l) acts) (sym c.new.ensures.items) tt;
-      stands = subst (λ l. AllStand g begun.first (reverse l) acts) (sym c.new.ensures.items) (is, stop);
+      leave = subst (λ l. CanLeave begun.among (reverse l) acts) (sym c.new-2.ensures.items) tt;
+      stands = subst (λ l. AllStand g begun.first (reverse l) acts) (sym c.new-2.ensures.items) (is, stop);
     }
