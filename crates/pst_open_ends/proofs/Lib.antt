@@ -3,3 +3,4 @@ pub mod Finds
 pub mod Supplies
 pub mod Rows
 pub mod Lookups
+pub mod News

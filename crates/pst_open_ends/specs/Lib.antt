@@ -1,4 +1,5 @@
 pub mod Spots
 pub mod Options
+pub mod Beyond
 pub mod Turns
 pub mod Changes

@@ -73,14 +73,17 @@ all_new m need = flat_map (sources_of_type m need) (enumerate_from 0 m.actions)
 abbrev pub new_sources_if : ModelTree → Bool → Filled → List Source
 new_sources_if m more need = if more then all_new m need else []
 
--- the sources of a need that no bind fixes
-abbrev pub free_by : ModelTree → List Act → Bool → Spot → List Source
-free_by m acts more need = initial_sources acts need.filled ++ (old_sources acts need ++ new_sources_if m more need.filled)
+-- the sources of a need that no bind fixes, with those among new actions
+abbrev pub free_with : List Act → List Source → Spot → List Source
+free_with acts new need = initial_sources acts need.filled ++ (old_sources acts need ++ new)
 
 -- the source of one that a bind fixes, where it may still be linked
 abbrev pub fixed_by : List Act → Spot → ℕ × ℕ → List Source
 fixed_by acts need source = if is_open need then fixed_among acts need source (spots acts) else []
 
+abbrev pub options_with : List Act → List Source → Spot → Option (ℕ × ℕ) → List Source
+options_with acts new need None = free_with acts new need
+options_with acts new need (Some source) = fixed_by acts need source
+
 abbrev pub options_by : ModelTree → List Act → Bool → Spot → Option (ℕ × ℕ) → List Source
-options_by m acts more need None = free_by m acts more need
-options_by m acts more need (Some source) = fixed_by acts need source
+options_by m acts more need fixed = options_with acts (new_sources_if m more need.filled) need fixed

@@ -7,8 +7,9 @@ ghost use Rattle.pst_scen.specs.Scenarios.{leaves_of};
 ghost use Rattle.pst_legal.specs.Growing.{open_reference, open_references, open_act};
 ghost use Rattle.pst_legal.specs.Types.{type_of};
 ghost use Rattle.pst_open_ends.specs.Changes.{opened, is_leaf};
+ghost use Rattle.pst_open_ends.specs.Beyond.{AreNew};
 
-use crate::beyond::{pool_of, reference_flow, serves_in_order};
+use crate::beyond::{NewSources, pool_of, reference_flow, serves_in_order};
 use pst_base::{Items, NoMemory};
 use pst_model::{Model, Reference};
 use pst_scen::{Act, Fill, Filled, Link, Node};
@@ -94,11 +95,17 @@ pub(crate) fn open_act(
     })
 }
 
-/// The leaves with their references, none of which is linked yet.
-pub fn open_acts(alloc: Global, model: &Model, leaves: &[Act]) -> Result<Vec<Act>, NoMemory>
+// The leaves with their references, none of which is linked yet. `in_order`: the entries for what
+// serves references stand in order.
+fn open_all(
+    alloc: Global,
+    model: &Model,
+    in_order: bool,
+    leaves: &[Act],
+) -> Result<Vec<Act>, NoMemory>
+    requires { IsTrue in_order → IsInOrder (view_model model.now).served }
     ensures { IfOk result (λ acts. acts.items ≡ map (opened (view_model model.now)) leaves.now) }
 {
-    let in_order = serves_in_order(model);
     let mut acts = Vec::new(alloc);
     for leaf in leaves {
         let act = open_act(
@@ -112,6 +119,25 @@ pub fn open_acts(alloc: Global, model: &Model, leaves: &[Act]) -> Result<Vec<Act
         acts.push(act)?;
     }
     Ok(acts)
+}
+
+/// The leaves with their references, none of which is linked yet.
+pub fn open_acts(alloc: Global, model: &Model, leaves: &[Act]) -> Result<Vec<Act>, NoMemory>
+    ensures { IfOk result (λ acts. acts.items ≡ map (opened (view_model model.now)) leaves.now) }
+{
+    open_all(alloc, model, serves_in_order(model), leaves)
+}
+
+/// The same, where the references of new actions are known.
+pub fn open_leaves(
+    alloc: Global,
+    beyond: &NewSources<'_>,
+    leaves: &[Act],
+) -> Result<Vec<Act>, NoMemory>
+    requires { AreNew beyond.now }
+    ensures { IfOk result (λ acts. acts.items ≡ map (opened (view_model beyond.now.model.now)) leaves.now) }
+{
+    open_all(alloc, beyond.model, beyond.in_order, leaves)
 }
 
 fn is_leaf(fill: &Fill) -> bool

@@ -1,22 +1,38 @@
 //! The sources among new actions.
-ghost use Rattle.std.specs.Prelude.{◌≡◌, ℕ, ◌++◌, OnOk, map, Some, None, IsTrue};
+ghost use Rattle.std.specs.Prelude.{◌≡◌, ℕ, ◌<◌, ◌++◌, ◌&&◌, nat_eq, [], OnOk, IfOk, map, Some, None, IsTrue};
 ghost use Rattle.std.specs.List.{flat_map, enumerate_from};
 ghost use Rattle.std.specs.Option.{unwrap_or};
 ghost use Rattle.pst_model.specs.Served.{IsInOrder, pool_in};
 ghost use Rattle.pst_model.specs.ModelView.{view_model, view_action, view_content};
+ghost use Rattle.pst_scen.specs.declared.act.Flow.{Flow as the_flow};
 ghost use Rattle.pst_scen.specs.declared.act.Flow.TheVariants as flow;
 ghost use Rattle.pst_legal.specs.Growing.{open_reference, open_references};
 ghost use Rattle.pst_legal.specs.Types.{type_of, flow_of, reference_flow, action_instances};
+ghost use Rattle.pst_legal.specs.Supplied.{is_source_for};
 ghost use Rattle.pst_legal.specs.SupplyReading.{sources_in, is_inferable};
-ghost use Rattle.pst_open_ends.specs.Spots.{read_spot, given_sources};
-ghost use Rattle.pst_open_ends.specs.Options.{new_in, all_new};
+ghost use Rattle.pst_open_ends.specs.Options.{new_in};
+ghost use Rattle.pst_open_ends.specs.Beyond.{wanted, beyond, kept_at, given_at, source_if, AreNew};
 
-use crate::flows::fits;
-use crate::spot::{Source, Spot};
+use crate::new_ends::NewEnds;
+use crate::spot::Source;
 use pst_base::NoMemory;
 use pst_model::{ActionType, Content, Model, ObjectKind, Reference, Serve};
 use pst_scen::Flow;
 use pst_sound_parts::{is_in_order, pool_in};
+use std::alloc::Global;
+
+/// For each pool the references of new actions that may be sources.
+#[derive(Drop)]
+pub struct NewSources<'a> {
+    /// The model that says which actions there may be.
+    pub model: &'a Model,
+    /// How many actions are to be inferred. Where none is, no reference is kept.
+    pub level: u32,
+    /// Whether the entries for what serves references are known to stand in order.
+    pub in_order: bool,
+    /// By the number of the pool.
+    pub pools: Vec<NewEnds>,
+}
 
 /// Whether the entries for what serves references stand in order.
 pub(crate) fn serves_in_order(model: &Model) -> bool
@@ -92,18 +108,33 @@ pub(crate) fn reference_flow(model: &Model, reference: &Reference) -> Flow
     }
 }
 
-// Adds the references of a new action that may be the source of a need.
-fn add_new_in(
-    found: &mut Vec<Source>,
+// Adds a reference of a new action to those of a pool.
+fn add_source(
+    pools: &mut Vec<NewEnds>,
+    pool: u32,
+    flow: Flow,
+    source: Source,
+) -> Result<(), NoMemory>
+    ensures { OnOk result ((need : the_flow) (p : ℕ) → kept_at need p pools.new.items ≡ kept_at need p pools.old.items ++ source_if (is_source_for need flow && nat_eq pool p) source) }
+{
+    let pool = pool as usize;
+    if pool >= pools.len() {
+        return Err(NoMemory);
+    }
+    pools[pool].add(flow, source)
+}
+
+// Adds the references of a new action of a type in an instance.
+fn add_each(
+    pools: &mut Vec<NewEnds>,
     model: &Model,
     in_order: bool,
-    need: &Spot,
     action: usize,
     instance: usize,
     references: &[Reference],
 ) -> Result<(), NoMemory>
     requires { IsTrue in_order → IsInOrder (view_model model.now).served }
-    ensures { OnOk result (given_sources found.new.items ≡ given_sources found.old.items ++ new_in (view_model model.now) (read_spot need.now).filled action instance 0 references.now) }
+    ensures { OnOk result ((need : the_flow) (p : ℕ) → given_at need p pools.new.items ≡ given_at need p pools.old.items ++ new_in (view_model model.now) (wanted need p) action instance 0 references.now) }
 {
     let mut reference = 0;
     for kind in references {
@@ -114,13 +145,12 @@ fn add_new_in(
             instance,
             reference,
         );
-        if fits(need, pool, reference_flow(model, kind)) {
-            found.push(Source::New {
-                action,
-                instance,
-                reference,
-            })?;
-        }
+        let source = Source::New {
+            action,
+            instance,
+            reference,
+        };
+        add_source(pools, pool, reference_flow(model, kind), source)?;
         reference += 1;
     }
     Ok(())
@@ -136,38 +166,36 @@ fn references_of(model: &Model, action: usize) -> &[Reference]
     }
 }
 
-// Adds the sources among the references of a new action of a type in an instance.
-fn add_sources_in(
-    found: &mut Vec<Source>,
+// Adds the references of a new action of the type with that number.
+fn add_act(
+    pools: &mut Vec<NewEnds>,
     model: &Model,
     in_order: bool,
-    need: &Spot,
     action: usize,
     instance: usize,
 ) -> Result<(), NoMemory>
     requires { IsTrue in_order → IsInOrder (view_model model.now).served }
-    ensures { OnOk result (given_sources found.new.items ≡ given_sources found.old.items ++ sources_in (view_model model.now) (read_spot need.now).filled action instance) }
+    ensures { OnOk result ((need : the_flow) (p : ℕ) → given_at need p pools.new.items ≡ given_at need p pools.old.items ++ sources_in (view_model model.now) (wanted need p) action instance) }
 {
     let references = references_of(model, action);
-    add_new_in(found, model, in_order, need, action, instance, references)
+    add_each(pools, model, in_order, action, instance, references)
 }
 
-// Adds the sources among the new actions of a type, by instance.
+// Adds the references of the new actions of a type, by instance.
 fn add_instances(
-    found: &mut Vec<Source>,
+    pools: &mut Vec<NewEnds>,
     model: &Model,
     in_order: bool,
-    need: &Spot,
     action: usize,
     kind: &ActionType,
 ) -> Result<(), NoMemory>
     requires { IsTrue in_order → IsInOrder (view_model model.now).served }
-    ensures { OnOk result (given_sources found.new.items ≡ given_sources found.old.items ++ flat_map (sources_in (view_model model.now) (read_spot need.now).filled action) (action_instances (view_model model.now) (Some (view_action kind.now)) None)) }
+    ensures { OnOk result ((need : the_flow) (p : ℕ) → given_at need p pools.new.items ≡ given_at need p pools.old.items ++ flat_map (sources_in (view_model model.now) (wanted need p) action) (action_instances (view_model model.now) (Some (view_action kind.now)) None)) }
 {
     let mut number = 0;
     for part in model.instances.as_slice() {
         if part.component == kind.component {
-            add_sources_in(found, model, in_order, need, action, number)?;
+            add_act(pools, model, in_order, action, number)?;
         }
         number += 1;
     }
@@ -184,17 +212,70 @@ fn is_inferable(kind: &ActionType) -> bool
     }
 }
 
-/// Adds the sources among new actions, by type, instance and reference.
-pub(crate) fn add_new(found: &mut Vec<Source>, model: &Model, need: &Spot) -> Result<(), NoMemory>
-    ensures { OnOk result (given_sources found.new.items ≡ given_sources found.old.items ++ all_new (view_model model.now) (read_spot need.now).filled) }
+// Adds the references of new actions, by type, instance and reference.
+fn add_types(pools: &mut Vec<NewEnds>, model: &Model, in_order: bool) -> Result<(), NoMemory>
+    requires { IsTrue in_order → IsInOrder (view_model model.now).served }
+    ensures { OnOk result ((need : the_flow) (p : ℕ) → given_at need p pools.new.items ≡ given_at need p pools.old.items ++ beyond (view_model model.now) need p) }
 {
-    let in_order = serves_in_order(model);
     let mut action = 0;
     for kind in model.actions.as_slice() {
         if is_inferable(kind) {
-            add_instances(found, model, in_order, need, action, kind)?;
+            add_instances(pools, model, in_order, action, kind)?;
         }
         action += 1;
     }
     Ok(())
+}
+
+// So many pools without a reference.
+fn empty_pools(alloc: Global, count: usize) -> Result<Vec<NewEnds>, NoMemory>
+    ensures { IfOk result (λ pools. (need : the_flow) (p : ℕ) → kept_at need p pools.items ≡ []) }
+{
+    let mut pools = Vec::new(alloc);
+    for _ in 0..count {
+        pools.push(NewEnds::new(alloc))?;
+    }
+    Ok(pools)
+}
+
+// The references of new actions, by pool.
+fn all_pools(alloc: Global, model: &Model, in_order: bool) -> Result<Vec<NewEnds>, NoMemory>
+    requires { IsTrue in_order → IsInOrder (view_model model.now).served }
+    ensures { IfOk result (λ pools. (need : the_flow) (p : ℕ) → given_at need p pools.items ≡ beyond (view_model model.now) need p) }
+{
+    let mut pools = empty_pools(alloc, model.pools.len())?;
+    add_types(&mut pools, model, in_order)?;
+    Ok(pools)
+}
+
+impl<'a> NewSources<'a> {
+    /// Those of a model, where so many actions are to be inferred.
+    pub fn new(alloc: Global, model: &'a Model, level: u32) -> Result<NewSources<'a>, NoMemory>
+        ensures model { IfOk result (λ news. news.model.now ≡ model.now) }
+        ensures level { IfOk result (λ news. news.level ≡ level) }
+        ensures new { IfOk result (λ news. AreNew news) }
+    {
+        let in_order = serves_in_order(model);
+        let pools = if level == 0 {
+            Vec::new(alloc)
+        } else {
+            all_pools(alloc, model, in_order)?
+        };
+        Ok(NewSources {
+            model,
+            level,
+            in_order,
+            pools,
+        })
+    }
+
+    /// Those that may be the source of a need of a kind in a pool, by type, instance and reference.
+    pub fn of_need(&self, need: Flow, pool: u32) -> &[Source]
+        ensures { result.now ≡ kept_at need pool self.now.pools.items }
+    {
+        match self.pools.get(pool as usize) {
+            None => &[],
+            Some(ends) => ends.of_need(need),
+        }
+    }
 }

@@ -11,12 +11,15 @@ mod beyond;
 mod flows;
 mod links;
 mod lookup;
+mod new_ends;
 mod options;
 mod spot;
 mod turns;
 
-pub use acts::{leaf_count, open_acts};
+pub use acts::{leaf_count, open_acts, open_leaves};
+pub use beyond::NewSources;
 pub use links::{Change, Ends, Relinked, supply, take_back};
+pub use new_ends::NewEnds;
 pub use options::sources;
 pub use spot::{Source, Spot};
 pub use turns::next_need;

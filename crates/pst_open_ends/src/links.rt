@@ -1,14 +1,16 @@
 //! Linking a need to a source, and taking the link back.
-ghost use Rattle.std.specs.Prelude.{◌≡◌, IfOk, OnErr};
+ghost use Rattle.std.specs.Prelude.{◌≡◌, IfOk, OnErr, IsTrue};
 ghost use Rattle.pst_model.specs.ModelTree.{ModelTree};
 ghost use Rattle.pst_model.specs.ModelView.{view_model};
+ghost use Rattle.pst_model.specs.Served.{IsInOrder};
 ghost use Rattle.pst_scen.specs.declared.act.Link.TheVariants as link;
 ghost use Rattle.pst_legal.specs.SupplyReading.{Initially, From, New, alter, with_link, put_link};
 ghost use Rattle.pst_open_ends.specs.Spots.{read_spot, given_source};
+ghost use Rattle.pst_open_ends.specs.Beyond.{AreNew};
 ghost use Rattle.pst_open_ends.specs.Changes.{Unlinks, unlinked, Joins, lowest_of, undone, Supplies};
 
 use crate::acts::open_act;
-use crate::beyond::serves_in_order;
+use crate::beyond::NewSources;
 use crate::flows::is_stream;
 use crate::spot::{Source, Spot};
 use pst_base::{Items, NoMemory};
@@ -197,12 +199,14 @@ fn supply_old(
 fn supply_new(
     alloc: Global,
     model: &Model,
+    in_order: bool,
     acts: &mut Vec<Act>,
     need: &Spot,
     action: usize,
     instance: usize,
     reference: usize,
 ) -> Result<Change, NoMemory>
+    requires { IsTrue in_order → IsInOrder (view_model model.now).served }
     ensures supplied { IfOk result (λ change. Supplies (view_model model.now) (read_spot need.now) (New action instance reference) change acts.old.items acts.new.items) }
     ensures err { OnErr result (acts.new.items ≡ acts.old.items) }
 {
@@ -210,7 +214,7 @@ fn supply_new(
     let act = open_act(
         alloc,
         model,
-        serves_in_order(model),
+        in_order,
         narrow(action)?,
         narrow(instance)?,
         None,
@@ -232,12 +236,13 @@ fn supply_new(
 /// Links a need to a source. Gives what was changed.
 pub fn supply(
     alloc: Global,
-    model: &Model,
+    beyond: &NewSources<'_>,
     acts: &mut Vec<Act>,
     need: &Spot,
     source: Source,
 ) -> Result<Change, NoMemory>
-    ensures supplied { IfOk result (λ change. Supplies (view_model model.now) (read_spot need.now) (given_source source) change acts.old.items acts.new.items) }
+    requires { AreNew beyond.now }
+    ensures supplied { IfOk result (λ change. Supplies (view_model beyond.now.model.now) (read_spot need.now) (given_source source) change acts.old.items acts.new.items) }
     ensures err { OnErr result (acts.new.items ≡ acts.old.items) }
 {
     match source {
@@ -247,7 +252,16 @@ pub fn supply(
             action,
             instance,
             reference,
-        } => supply_new(alloc, model, acts, need, action, instance, reference),
+        } => supply_new(
+            alloc,
+            beyond.model,
+            beyond.in_order,
+            acts,
+            need,
+            action,
+            instance,
+            reference,
+        ),
     }
 }
 

@@ -11,7 +11,6 @@ use Rattle.pst_scen.specs.declared.act.Link.{Link}
 use Rattle.pst_scen.specs.declared.act.Link.TheVariants as link
 use Rattle.pst_legal.specs.Binds.{Bound}
 use Rattle.pst_legal.specs.SupplyReading.{Spot as Read, Source, spots, same_link}
-use Rattle.pst_ties.specs.declared.tied.End.{End}
 use Rattle.pst_ties.specs.Tieds.{same_end}
 use Rattle.pst_pool_sources.specs.declared.sources.PoolSources.{PoolSources}
 use Rattle.pst_pool_sources.specs.Offers.{end_of, fitting, ends_at, begun_at, room_at, AreSources}

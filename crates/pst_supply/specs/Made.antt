@@ -9,6 +9,7 @@ use Rattle.pst_legal.specs.Binds.{bounds_of}
 use Rattle.pst_legal.specs.SupplyReading.{read_supply}
 use Rattle.pst_pool_sources.specs.Offers.{AreSources}
 use Rattle.pst_pool_sources.specs.declared.sources.PoolSources.{PoolSources}
+use Rattle.pst_open_ends.specs.Beyond.{AreNew}
 use Rattle.pst_open_ends.specs.Changes.{opened, ends_undone, undone}
 use Rattle.pst_free_ends.specs.Steps.{NoneAhead, Follows, HasRoom}
 use Rattle.pst_supply.specs.declared.walk.Made.{Made}
@@ -46,18 +47,19 @@ CanLeave among [] acts = Unit {0}
 CanLeave among (made ∷ older) acts = Follows made.taken made.change acts × HasRoom among (ends_undone made.change.ends acts) × CanLeave among older (undone made.change acts)
 
 abbrev pub ground_of : Inside → Ground
-ground_of w = record { model = view_model w.model.now; nodes = w.nodes.items; leaves = w.leaves.items; seed = w.seed; place = w.place; level = w.level }
+ground_of w = record { model = view_model w.beyond.model.now; nodes = w.nodes.items; leaves = w.leaves.items; seed = w.seed; place = w.place; level = w.beyond.level }
 
 -- the walk with these choices, latest first
 abbrev pub kept_with : Inside → List Made → Kept
-kept_with w made = record { model = w.model.now; nodes = w.nodes.items; leaves = w.leaves.items; seed = w.seed; place = w.place; level = w.level; choices = digits_of made }
+kept_with w made = record { model = w.beyond.model.now; nodes = w.nodes.items; leaves = w.leaves.items; seed = w.seed; place = w.place; level = w.beyond.level; choices = digits_of made }
 
 abbrev pub kept_by : Inside → Kept
 kept_by w = kept_with w (reverse w.made.items)
 
 pub record IsKept (w : Inside) : Type 0 where
   pub count : w.count ≡ length (leaves_of w.nodes.items)
-  pub ties : w.ties ≡ bounds_of (view_model w.model.now) w.nodes.items
+  pub beyond : AreNew w.beyond
+  pub ties : w.ties ≡ bounds_of (view_model w.beyond.model.now) w.nodes.items
   pub among : AreSources w.among w.acts.items
   pub ahead : NoneAhead w.acts.items
   pub leave : CanLeave w.among (reverse w.made.items) w.acts.items

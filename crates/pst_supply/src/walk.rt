@@ -7,6 +7,8 @@ ghost use Rattle.pst_legal.specs.SupplyReading.{next_need, same_link};
 ghost use Rattle.pst_legal.specs.Reading.{option_at};
 ghost use Rattle.pst_pool_sources.specs.Offers.{AreSources, room_at};
 ghost use Rattle.pst_open_ends.specs.Spots.{read_spot, kept_spot, given_source, given_sources};
+ghost use Rattle.pst_open_ends.specs.Options.{new_sources_if};
+ghost use Rattle.pst_open_ends.specs.Beyond.{AreNew};
 ghost use Rattle.pst_open_ends.specs.Changes.{ends_undone, undone};
 ghost use Rattle.pst_free_ends.specs.Steps.{IsTurn, NoneAhead, Follows, HasRoom, IsStep};
 ghost use Rattle.pst_scen.specs.declared.act.Flow.{Flow as the_flow};
@@ -14,14 +16,15 @@ ghost use Rattle.pst_scen.specs.declared.act.Link.TheVariants as link;
 ghost use Rattle.pst_open_ends.specs.Turns.{AreDone};
 ghost use Rattle.pst_supply.specs.Walks.{with_choice, answer, next_of, IfRead, HasDigit, IsChange};
 ghost use Rattle.pst_supply.specs.Stops.{options_at, IsStop, stop_after, may_infer, shown_at};
-ghost use Rattle.pst_supply.specs.Choices.{NamesSource, Advances, change_after};
+ghost use Rattle.pst_supply.specs.Choices.{NamesSource, Advances, Begins, change_after};
 
 use pst_base::NoMemory;
 use pst_copies::{copy_acts, copy_nodes};
 use pst_free_ends::{Taken, follow, leave};
 use pst_model::Model;
 use pst_open_ends::{
-    Change, Source, Spot, leaf_count, next_need, open_acts, sources, supply, take_back,
+    Change, NewSources, Source, Spot, leaf_count, next_need, open_leaves, sources, supply,
+    take_back,
 };
 use pst_pool_sources::PoolSources;
 use pst_rng::start;
@@ -62,42 +65,58 @@ fn may_infer(count: usize, leaves: usize, level: u32) -> bool
     count.saturating_sub(leaves) < level as usize && count < MOST_ACTS
 }
 
+// The sources of a need among new actions, where there are so many actions.
+fn new_options<'s>(
+    beyond: &'s NewSources<'_>,
+    count: usize,
+    leaves: usize,
+    need: &Spot,
+) -> &'s [Source]
+    requires { AreNew beyond.now }
+    ensures { given_sources result.now ≡ new_sources_if (view_model beyond.now.model.now) (may_infer count leaves beyond.now.level) (read_spot need.now).filled }
+{
+    if may_infer(count, leaves, beyond.level) {
+        return beyond.of_need(need.flow, need.pool);
+    }
+    &[]
+}
+
 // The sources of a need.
 fn options(
     alloc: Global,
-    model: &Model,
+    beyond: &NewSources<'_>,
     ties: &Ties,
     acts: &[Act],
     among: &PoolSources,
     leaves: usize,
-    level: u32,
     need: &Spot,
 ) -> Result<Vec<Source>, NoMemory>
-    requires { AreSources among.now acts.now }
-    ensures { IfOk result (λ found. given_sources found.items ≡ options_at (view_model model.now) ties.now acts.now leaves level need.now) }
+    requires beyond { AreNew beyond.now }
+    requires among { AreSources among.now acts.now }
+    ensures { IfOk result (λ found. given_sources found.items ≡ options_at (view_model beyond.now.model.now) ties.now acts.now leaves beyond.now.level need.now) }
 {
-    let more = may_infer(acts.len(), leaves, level);
+    let new = new_options(beyond, acts.len(), leaves, need);
     let fixed = ties.fixed(need.act, need.reference, need.flow);
     let free = among.ends(need.flow, need.pool);
     let writers = among.ends(Flow::StateIn, need.pool);
     let begun = among.is_begun(need.pool);
-    sources(alloc, model, acts, free, writers, begun, more, need, fixed)
+    sources(alloc, acts, free, writers, begun, new, need, fixed)
 }
 
 // Looks where reading stands, where no action below `from` has a turn.
 fn look(
     alloc: Global,
-    model: &Model,
+    beyond: &NewSources<'_>,
     ties: &Ties,
     acts: &[Act],
     among: &PoolSources,
     leaves: usize,
-    level: u32,
     from: usize,
 ) -> Result<Stop, NoMemory>
     requires done { AreDone ties.now acts.now from }
+    requires beyond { AreNew beyond.now }
     requires among { AreSources among.now acts.now }
-    ensures { IfOk result (λ stop. IsStop (view_model model.now) ties.now acts.now leaves level stop) }
+    ensures { IfOk result (λ stop. IsStop (view_model beyond.now.model.now) ties.now acts.now leaves beyond.now.level stop) }
 {
     match next_need(ties, acts, from) {
         None => Ok(Stop {
@@ -105,7 +124,7 @@ fn look(
             count: 0,
         }),
         Some(need) => {
-            let found = options(alloc, model, ties, acts, among, leaves, level, &need)?;
+            let found = options(alloc, beyond, ties, acts, among, leaves, &need)?;
             Ok(Stop {
                 need: Some(need),
                 count: found.len() as u64,
@@ -185,23 +204,23 @@ fn next_at(stop: Stop, count: usize, leaves: usize, level: u32) -> Next
 // The source that a digit names behind so many choices.
 fn pick(
     alloc: Global,
-    model: &Model,
+    beyond: &NewSources<'_>,
     ties: &Ties,
     acts: &[Act],
     among: &PoolSources,
     leaves: usize,
-    level: u32,
     need: &Spot,
     seed: u64,
     place: u64,
     made: usize,
     digit: u64,
 ) -> Result<Source, NoMemory>
+    requires beyond { AreNew beyond.now }
     requires among { AreSources among.now acts.now }
-    requires digit { digit < length (options_at (view_model model.now) ties.now acts.now leaves level need.now) }
-    ensures { IfOk result (λ source. NamesSource seed (place + made) (options_at (view_model model.now) ties.now acts.now leaves level need.now) digit (given_source source)) }
+    requires digit { digit < length (options_at (view_model beyond.now.model.now) ties.now acts.now leaves beyond.now.level need.now) }
+    ensures { IfOk result (λ source. NamesSource seed (place + made) (options_at (view_model beyond.now.model.now) ties.now acts.now leaves beyond.now.level need.now) digit (given_source source)) }
 {
-    let found = options(alloc, model, ties, acts, among, leaves, level, need)?;
+    let found = options(alloc, beyond, ties, acts, among, leaves, need)?;
     let place = place_after(place, made)?;
     Ok(named(found.as_slice(), seed, place, digit))
 }
@@ -220,20 +239,20 @@ fn is_nothing(to: Link) -> bool
 // Without memory they are those of the actions before.
 fn look_behind(
     alloc: Global,
-    model: &Model,
+    beyond: &NewSources<'_>,
     ties: &Ties,
     acts: &[Act],
     among: &mut PoolSources,
     leaves: usize,
-    level: u32,
     need: &Spot,
     source: Source,
     change: &Change,
 ) -> Result<(Taken, Stop), NoMemory>
     requires done { AreDone ties.now acts.now change.now.lowest }
     requires step { IsStep need.now (given_source source) change.now acts.now }
+    requires beyond { AreNew beyond.now }
     requires known { AreSources among.old (undone change.now acts.now) }
-    ensures stop { IfOk result (λ went. IsStop (view_model model.now) ties.now acts.now leaves level went.1) }
+    ensures stop { IfOk result (λ went. IsStop (view_model beyond.now.model.now) ties.now acts.now leaves beyond.now.level went.1) }
     ensures ok { IfOk result (λ went. AreSources among.new acts.now) }
     ensures follows { IfOk result (λ went. Follows went.0 change.now acts.now) }
     ensures ahead { IfOk result (λ went. NoneAhead acts.now) }
@@ -242,16 +261,7 @@ fn look_behind(
     ensures room { (n : the_flow) (p : ℕ) → room_at n p among.old ≤ room_at n p among.new }
 {
     let taken = follow(among, acts, need, source, change)?;
-    match look(
-        alloc,
-        model,
-        ties,
-        acts,
-        among,
-        leaves,
-        level,
-        change.lowest,
-    ) {
+    match look(alloc, beyond, ties, acts, among, leaves, change.lowest) {
         Ok(stop) => Ok((taken, stop)),
         Err(error) => {
             leave(among, acts, &taken, change);
@@ -263,20 +273,20 @@ fn look_behind(
 // Links a need to a source, and looks where reading stands then.
 fn go_on(
     alloc: Global,
-    model: &Model,
+    beyond: &NewSources<'_>,
     ties: &Ties,
     acts: &mut Vec<Act>,
     among: &mut PoolSources,
     leaves: usize,
-    level: u32,
     need: &Spot,
     source: Source,
 ) -> Result<Went, NoMemory>
     requires done { AreDone ties.now acts.old.items need.now.act }
+    requires beyond { AreNew beyond.now }
     requires among { AreSources among.old acts.old.items }
     requires ahead { NoneAhead acts.old.items }
     requires turn { IsTurn need.now acts.old.items }
-    ensures gone { IfOk result (λ went. Advances (view_model model.now) ties.now leaves level (read_spot need.now) (given_source source) went acts.old.items acts.new.items) }
+    ensures gone { IfOk result (λ went. Advances (view_model beyond.now.model.now) ties.now leaves beyond.now.level (read_spot need.now) (given_source source) went acts.old.items acts.new.items) }
     ensures follows { IfOk result (λ went. Follows went.taken went.change acts.new.items) }
     ensures has_room { IfOk result (λ went. HasRoom among.new (ends_undone went.change.ends acts.new.items)) }
     ensures ahead { NoneAhead acts.new.items }
@@ -284,9 +294,9 @@ fn go_on(
     ensures err { OnErr result (acts.new.items ≡ acts.old.items) }
     ensures room { (n : the_flow) (p : ℕ) → room_at n p among.old ≤ room_at n p among.new }
 {
-    let change = supply(alloc, model, acts, need, source)?;
+    let change = supply(alloc, beyond, acts, need, source)?;
     match look_behind(
-        alloc, model, ties, acts, among, leaves, level, need, source, &change,
+        alloc, beyond, ties, acts, among, leaves, need, source, &change,
     ) {
         Ok((taken, stop)) => Ok(Went {
             change,
@@ -319,18 +329,49 @@ fn go_back(
     take_back(alloc, acts, change);
 }
 
+// What a walk knows before its first choice.
+#[derive(Drop)]
+struct Begun<'a> {
+    beyond: NewSources<'a>,
+    acts: Vec<Act>,
+    among: PoolSources,
+    first: Stop,
+}
+
+// Opens the leaves, so many, and looks where reading stands then.
+fn begin<'a>(
+    alloc: Global,
+    model: &'a Model,
+    ties: &Ties,
+    leaves: &[Act],
+    count: usize,
+    level: u32,
+) -> Result<Begun<'a>, NoMemory>
+    ensures { IfOk result (λ begun. Begins model.now ties.now leaves.now count level begun) }
+{
+    let beyond = NewSources::new(alloc, model, level)?;
+    let acts = open_leaves(alloc, &beyond, leaves)?;
+    let among = PoolSources::new(alloc, model.pools.len(), &acts)?;
+    let first = look(alloc, &beyond, ties, &acts, &among, count, 0)?;
+    Ok(Begun {
+        beyond,
+        acts,
+        among,
+        first,
+    })
+}
+
 /// A walk through the lists of choices that give the needs their sources, behind a list that fills
 /// the activity. Contracts see its model, the nodes and leaves of the filled-in activity, its seed,
 /// the number of its first place, its level and its choices.
 #[derive(Drop)]
 pub struct SupplyWalk<'a> {
     alloc: Global,
-    model: &'a Model,
+    beyond: NewSources<'a>,
     nodes: Vec<Node>,
     leaves: Vec<Act>,
     seed: u64,
     place: u64,
-    level: u32,
     count: usize,
     ties: Ties,
     first: Stop,
@@ -374,25 +415,22 @@ impl<'a> SupplyWalk<'a> {
     {
         let count = leaf_count(nodes);
         let ties = Ties::new(alloc, model, nodes)?;
-        let acts = open_acts(alloc, model, leaves)?;
-        let among = PoolSources::new(alloc, model.pools.len(), &acts)?;
-        let first = look(alloc, model, &ties, &acts, &among, count, level, 0)?;
+        let begun = begin(alloc, model, &ties, leaves, count, level)?;
         let nodes = copy_nodes(alloc, nodes)?;
         let leaves = copy_acts(alloc, leaves)?;
         Ok(SupplyWalk {
             alloc,
-            model,
+            beyond: begun.beyond,
             nodes,
             leaves,
             seed,
             place,
-            level,
             count,
             ties,
-            first,
+            first: begun.first,
             made: Vec::new(alloc),
-            acts,
-            among,
+            acts: begun.acts,
+            among: begun.among,
         })
     }
 
@@ -404,7 +442,7 @@ impl<'a> SupplyWalk<'a> {
             stop_of(&self.made, self.first),
             self.acts.len(),
             self.count,
-            self.level,
+            self.beyond.level,
         )
     }
 
@@ -445,12 +483,11 @@ impl<'a> SupplyWalk<'a> {
         }
         let source = pick(
             self.alloc,
-            self.model,
+            &self.beyond,
             &self.ties,
             &self.acts,
             &self.among,
             self.count,
-            self.level,
             &need,
             self.seed,
             self.place,
@@ -459,12 +496,11 @@ impl<'a> SupplyWalk<'a> {
         )?;
         let went = go_on(
             self.alloc,
-            self.model,
+            &self.beyond,
             &self.ties,
             &mut self.acts,
             &mut self.among,
             self.count,
-            self.level,
             &need,
             source,
         )?;

@@ -11,7 +11,7 @@ pub look_behind-requires-clause-step : goal.look_behind-requires-clause-step
 look_behind-requires-clause-step c =
     let change = c.in_ok-change.change in
     subst (IsStep c.args.need.now (given_source c.args.source) change) (sym c.deref.ensures.value)
-    (step_is (view_model c.args.model.now) c.args.need.now (given_source c.args.source) change c.args.acts.now.items c.supply.new.acts.items c.in_ok-change.ensures.supplied c.requires.turn c.requires.ahead)
+    (step_is (view_model c.args.beyond.now.model.now) c.args.need.now (given_source c.args.source) change c.args.acts.now.items c.supply.new.acts.items c.in_ok-change.ensures.supplied c.requires.turn c.requires.ahead)
 
 pub look_behind-requires-clause-known : goal.look_behind-requires-clause-known
 look_behind-requires-clause-known c =

@@ -33,6 +33,7 @@ invariant_of-self c =
     let stands = subst (λ l. AllStand g w.first l w.acts.items) all c.self.invariant.stands in
     record {
       count = c.self.invariant.count;
+      beyond = c.self.invariant.beyond;
       ties = c.self.invariant.ties;
       among = c.go_back.ensures.among;
       ahead = subst NoneAhead (sym c.go_back.ensures.undone) leave.0.ahead;

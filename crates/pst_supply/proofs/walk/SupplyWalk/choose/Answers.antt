@@ -31,19 +31,19 @@ pick-requires-clause-among c = subst (AreSources c.self.inside.among) (sym c.der
 pub pick-requires-clause-digit : goal.pick-requires-clause-digit
 pick-requires-clause-digit c =
     let w = c.self.inside in
-    let m = view_model w.model.now in
+    let m = view_model w.beyond.model.now in
     let made = reverse w.made.items in
     let at : c.stop_of.result ≡ stop_after w.first made = c.stop_of.ensures ∙ ap (λ l. stop_after w.first (reverse l)) (c.deref.ensures.value ∙ c.reserve.ensures.items) in
     let has = subst (λ k. HasDigit (answer k) c.args.digit) (sym c.self.view_is) c.requires in
     let t = made_digit (ground_of w) w.first made w.acts.items c.args.digit c.self.invariant.stands has in
     let need : t.need ≡ c.in-Some.need = sym (same_Some c.in-Some.need t.need (sym c.in-Some.is ∙ ap (λ s. s.need) at ∙ t.is)) in
-    subst (λ (l : List Source). c.args.digit < length l) (sym (same_options m w.ties (bounds_of m w.nodes.items) c.deref-2.result.now w.acts.items w.count (length (leaves_of w.nodes.items)) w.level c.in-Some.need c.self.invariant.ties c.deref-2.ensures.value c.self.invariant.count))
-    (subst (λ n. c.args.digit < length (options_at m (bounds_of m w.nodes.items) w.acts.items (length (leaves_of w.nodes.items)) w.level n)) need t.below)
+    subst (λ (l : List Source). c.args.digit < length l) (sym (same_options m w.ties (bounds_of m w.nodes.items) c.deref-2.result.now w.acts.items w.count (length (leaves_of w.nodes.items)) w.beyond.level c.in-Some.need c.self.invariant.ties c.deref-2.ensures.value c.self.invariant.count))
+    (subst (λ n. c.args.digit < length (options_at m (bounds_of m w.nodes.items) w.acts.items (length (leaves_of w.nodes.items)) w.beyond.level n)) need t.below)
 
 pub go_on-requires-clause-turn : goal.go_on-requires-clause-turn
 go_on-requires-clause-turn c =
     let w = c.self.inside in
-    let m = view_model w.model.now in
+    let m = view_model w.beyond.model.now in
     let g = ground_of w in
     let made = reverse w.made.items in
     let need = c.in-Some.need in
@@ -54,7 +54,7 @@ go_on-requires-clause-turn c =
 pub invariant_of-self-2 : goal.invariant_of-self-2
 invariant_of-self-2 c =
     let w = c.self.inside in
-    let m = view_model w.model.now in
+    let m = view_model w.beyond.model.now in
     let g = ground_of w in
     let made = reverse w.made.items in
     let need = c.in-Some.need in
@@ -63,19 +63,20 @@ invariant_of-self-2 c =
     let has = subst (λ k. HasDigit (answer k) c.args.digit) (sym c.self.view_is) c.requires in
     let t = made_digit g w.first made w.acts.items c.args.digit c.self.invariant.stands has in
     let same : t.need ≡ need = sym (same_Some need t.need (sym c.in-Some.is ∙ ap (λ s. s.need) at ∙ t.is)) in
-    let below = subst (λ n. c.args.digit < length (options_at m (bounds_of m w.nodes.items) w.acts.items (length (leaves_of w.nodes.items)) w.level n)) same t.below in
+    let below = subst (λ n. c.args.digit < length (options_at m (bounds_of m w.nodes.items) w.acts.items (length (leaves_of w.nodes.items)) w.beyond.level n)) same t.below in
     let turn : (stop_after w.first made).need ≡ Some need = ap (λ s. s.need) (sym at) ∙ c.in-Some.is in
-    let options = same_options m w.ties (bounds_of m w.nodes.items) c.deref-2.result.now w.acts.items w.count (length (leaves_of w.nodes.items)) w.level need c.self.invariant.ties c.deref-2.ensures.value c.self.invariant.count in
+    let options = same_options m w.ties (bounds_of m w.nodes.items) c.deref-2.result.now w.acts.items w.count (length (leaves_of w.nodes.items)) w.beyond.level need c.self.invariant.ties c.deref-2.ensures.value c.self.invariant.count in
     let many : c.len.result ≡ length made = c.len.ensures ∙ c.reserve.ensures.len ∙ w.made.ok.0 ∙ sym (length-reverse w.made.items) in
-    let named = subst (λ k. NamesSource w.seed (w.place + k) (options_at m (bounds_of m w.nodes.items) w.acts.items (length (leaves_of w.nodes.items)) w.level need) c.args.digit (given_source c.in_ok-source.source)) many
+    let named = subst (λ k. NamesSource w.seed (w.place + k) (options_at m (bounds_of m w.nodes.items) w.acts.items (length (leaves_of w.nodes.items)) w.beyond.level need) c.args.digit (given_source c.in_ok-source.source)) many
     (subst (λ l. NamesSource w.seed (w.place + c.len.result) l c.args.digit (given_source c.in_ok-source.source)) options c.in_ok-source.ensures) in
-    let stop = subst (λ k. IsStop m (bounds_of m w.nodes.items) new k w.level c.in_ok-went.went.stop) c.self.invariant.count
-    (subst (λ b. IsStop m b new w.count w.level c.in_ok-went.went.stop) c.self.invariant.ties c.in_ok-went.ensures.gone.stop) in
+    let stop = subst (λ k. IsStop m (bounds_of m w.nodes.items) new k w.beyond.level c.in_ok-went.went.stop) c.self.invariant.count
+    (subst (λ b. IsStop m b new w.count w.beyond.level c.in_ok-went.went.stop) c.self.invariant.ties c.in_ok-went.ensures.gone.stop) in
     let x : Made = record { digit = c.args.digit; change = c.in_ok-went.went.change; taken = c.in_ok-went.went.taken; stop = c.in_ok-went.went.stop } in
     let items : c.push.new.self.items ≡ w.made.items ++ x ∷ [] = c.in-Ok.ensures.items ∙ ap (λ l. l ++ x ∷ []) c.reserve.ensures.items in
     let all : reverse c.push.new.self.items ≡ x ∷ made = ap reverse items ∙ reverse-append w.made.items (x ∷ []) in
     record {
       count = c.self.invariant.count;
+      beyond = c.self.invariant.beyond;
       ties = c.self.invariant.ties;
       among = c.go_on.ensures.among;
       ahead = c.go_on.ensures.ahead;
@@ -99,6 +100,7 @@ invariant_of-self-in_err-went c =
     let all : reverse c.reserve.new.self.items ≡ made = ap reverse c.reserve.ensures.items in
     record {
       count = c.self.invariant.count;
+      beyond = c.self.invariant.beyond;
       ties = c.self.invariant.ties;
       among = c.go_on.ensures.among;
       ahead = c.go_on.ensures.ahead;

@@ -12,8 +12,8 @@ returns c =
     let made = reverse w.made.items in
     let at : c.stop_of.result ≡ stop_after w.first made = c.stop_of.ensures ∙ ap (λ l. stop_after w.first (reverse l)) c.deref.ensures.value in
     c.next_at.ensures
-    ∙ ap (λ s. shown_at s c.len.result w.count w.level) at
-    ∙ ap (λ n. shown_at (stop_after w.first made) n w.count w.level) (c.len.ensures ∙ w.acts.ok.0)
-    ∙ ap (λ n. shown_at (stop_after w.first made) (length w.acts.items) n w.level) c.self.invariant.count
+    ∙ ap (λ s. shown_at s c.len.result w.count w.beyond.level) at
+    ∙ ap (λ n. shown_at (stop_after w.first made) n w.count w.beyond.level) (c.len.ensures ∙ w.acts.ok.0)
+    ∙ ap (λ n. shown_at (stop_after w.first made) (length w.acts.items) n w.beyond.level) c.self.invariant.count
     ∙ sym (made_next (ground_of w) w.first made w.acts.items c.self.invariant.stands)
     ∙ ap (λ k. next_of (answer k)) c.self.view_is
