@@ -166,3 +166,32 @@ impl Site for InlineSite<'_> {
         inline_slot(alloc, self.scene, self.node, self.top, self.indices, slot)
     }
 }
+
+/// A constraint at the traversal of an action that is looked at by itself, in the activity of the
+/// compound action of node `top`, in turns of these numbers.
+#[derive(Clone, Copy)]
+pub(crate) struct MadeSite<'a> {
+    pub(crate) scene: &'a Scene<'a>,
+    pub(crate) act: &'a Act,
+    pub(crate) top: usize,
+    pub(crate) indices: &'a [u32],
+}
+
+impl Site for MadeSite<'_> {
+    ghost use Rattle.pst_model.specs.ModelView.{view_model};
+    ghost use Rattle.pst_known.specs.Known.{seen};
+    ghost use Rattle.pst_refusals.specs.Made.{made_slot as made_standing};
+
+    ghost of = { λ x. view_model x.scene.now.model.now };
+
+    ghost standing = { λ x. made_standing (view_model x.scene.now.model.now) (seen x.scene.now) x.act.now x.top x.indices.now };
+
+    fn known(&self, alloc: Global, slot: &Slot) -> Result<Known, NoMemory> {
+        match slot {
+            Slot::Outer { .. } | Slot::Index { .. } => {
+                inline_slot(alloc, self.scene, 0, self.top, self.indices, slot)
+            }
+            _ => Ok(act_slot(self.scene, self.act, slot)),
+        }
+    }
+}
