@@ -116,21 +116,22 @@ module _ (m : ModelTree) (old new : List Node) (more : Each MoreNode old new) (e
         ∙ ap (option_and_then (at_place m parent values.action)) place
         ∙ sym (ap (below m old (stated_within m old levels) n parent) values.was)
 
+  by_parent : (levels n : ℕ) → n < length old → ((k : ℕ) → k < length old → stated_within m new levels k ≡ stated_within m old levels k) → (o : Option ℕ) → parent_of old n ≡ o
+      → option_and_then (below_node m new (stated_within m new levels) n) o ≡ option_and_then (below_node m old (stated_within m old levels) n) o
+  by_parent levels n l each None e = refl
+  by_parent levels n l each (Some parent) e =
+      let lower : parent < n = parent_before new earlier n parent (same_parent n l ∙ e) in
+      let within : parent < length old = omega (arith, lower, l) in
+      let x = there old parent within in
+      let y = more parent x.0 x.1 in
+      ap (option_and_then (λ (node : Node). below m new (stated_within m new levels) n parent node.fill)) y.1
+      ∙ more_below levels n parent (same_place n parent l e) (same_parent parent within) (each parent within)
+      (λ p up. let less = parent_before new earlier parent p (same_parent parent within ∙ up) in each p (omega (arith, less, within))) x.0.fill y.0.fill y.2.fill
+      ∙ sym (ap (option_and_then (λ (node : Node). below m old (stated_within m old levels) n parent node.fill)) x.1)
+
   same_stated : (levels n : ℕ) → n < length old → stated_within m new levels n ≡ stated_within m old levels n
   same_stated zero n l = refl
-  same_stated (suc levels) n l = ap (option_and_then (below_node m new (stated_within m new levels) n)) (same_parent n l) ∙ by (parent_of old n) refl
-    where
-      by : (o : Option ℕ) → parent_of old n ≡ o → option_and_then (below_node m new (stated_within m new levels) n) o ≡ option_and_then (below_node m old (stated_within m old levels) n) o
-      by None e = refl
-      by (Some parent) e =
-          let lower : parent < n = parent_before new earlier n parent (same_parent n l ∙ e) in
-          let within : parent < length old = omega (arith, lower, l) in
-          let x = there old parent within in
-          let y = more parent x.0 x.1 in
-          ap (option_and_then (λ (node : Node). below m new (stated_within m new levels) n parent node.fill)) y.1
-          ∙ more_below levels n parent (same_place n parent l e) (same_parent parent within) (same_stated levels parent within)
-          (λ p up. let less = parent_before new earlier parent p (same_parent parent within ∙ up) in same_stated levels p (omega (arith, less, within))) x.0.fill y.0.fill y.2.fill
-          ∙ sym (ap (option_and_then (λ (node : Node). below m old (stated_within m old levels) n parent node.fill)) x.1)
+  same_stated (suc levels) n l = ap (option_and_then (below_node m new (stated_within m new levels) n)) (same_parent n l) ∙ by_parent levels n l (λ k under. same_stated levels k under) (parent_of old n) refl
 
   -- so it stands for the statement among the old nodes
   pub stood : (top n : ℕ) (step : StepTree) (indices : List ℕ) → n < length old → StandsFor m new top n step indices → StandsFor m old top n step indices

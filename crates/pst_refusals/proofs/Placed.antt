@@ -35,18 +35,19 @@ module _ (m : ModelTree) (nodes : List Node) (place : ℕ → ℕ → Option ℕ
   same_below one other same n parent (fill.If taken) at = part one other same n parent (fill.If taken) at
   same_below one other same n parent (fill.Match arm) at = part one other same n parent (fill.Match arm) at
 
+  by_parent : (levels n : ℕ) → ((k : ℕ) → stated_by m nodes place levels k ≡ stated_within m nodes levels k) → (o : Option ℕ) → parent_of nodes n ≡ o
+      → option_and_then (below_node_by m nodes place (stated_by m nodes place levels) n) o ≡ option_and_then (below_node m nodes (stated_within m nodes levels) n) o
+  by_parent levels n each None e = refl
+  by_parent levels n each (Some parent) e = at (slice_get nodes parent) refl
+    where
+      at : (o : Option Node) → slice_get nodes parent ≡ o
+          → option_and_then (λ node. below_by m nodes place (stated_by m nodes place levels) n parent node.fill) o ≡ option_and_then (λ node. below m nodes (stated_within m nodes levels) n parent node.fill) o
+      at None is = refl
+      at (Some node) is = same_below (stated_by m nodes place levels) (stated_within m nodes levels) each n parent node.fill (are n parent e (slice_get_within nodes parent node is))
+
   pub same_stated : (levels n : ℕ) → stated_by m nodes place levels n ≡ stated_within m nodes levels n
   same_stated zero n = refl
-  same_stated (suc levels) n = by (parent_of nodes n) refl
-    where
-      by : (o : Option ℕ) → parent_of nodes n ≡ o → option_and_then (below_node_by m nodes place (stated_by m nodes place levels) n) o ≡ option_and_then (below_node m nodes (stated_within m nodes levels) n) o
-      by None e = refl
-      by (Some parent) e = at (slice_get nodes parent) refl
-        where
-          at : (o : Option Node) → slice_get nodes parent ≡ o
-              → option_and_then (λ node. below_by m nodes place (stated_by m nodes place levels) n parent node.fill) o ≡ option_and_then (λ node. below m nodes (stated_within m nodes levels) n parent node.fill) o
-          at None is = refl
-          at (Some node) is = same_below (stated_by m nodes place levels) (stated_within m nodes levels) (λ k. same_stated levels k) n parent node.fill (are n parent e (slice_get_within nodes parent node is))
+  same_stated (suc levels) n = by_parent levels n (λ k. same_stated levels k) (parent_of nodes n) refl
 
 -- by a table
 pub by_table : (m : ModelTree) (nodes : List Node) (table : List ℕ) → ArePlaces nodes table → (levels n : ℕ) → stated_by m nodes (place_by nodes (Some table)) levels n ≡ stated_within m nodes levels n

@@ -137,7 +137,7 @@ pub(crate) fn place_of(
     parent: usize,
 ) -> Option<usize>
     requires { n ≤ length nodes.now }
-    ensures { result ≡ place_by nodes.now (option_map (λ t. t.now) places) n parent }
+    ensures { result ≡ place_by nodes.now (option_map (λ t. t.now) places.entry) n parent }
 {
     match places {
         Some(places) => place_at(places, n),

@@ -227,7 +227,7 @@ fn in_turn<'a>(
     parent: usize,
     index: u32,
 ) -> Result<Option<Stated<'a>>, NoMemory>
-    ensures { IfOk result (λ found. option_map stated_of found ≡ option_and_then (repeated_in index) (option_and_then (stated_by (view_model model.now) nodes.now (place_by nodes.now (option_map (λ t. t.now) places)) levels) (parent_in nodes.now parent))) }
+    ensures { IfOk result (λ found. option_map stated_of found ≡ option_and_then (repeated_in index) (option_and_then (stated_by (view_model model.now) nodes.now (place_by nodes.now (option_map (λ t. t.now) places.entry)) levels) (parent_in nodes.now parent))) }
 {
     let Some(over) = parent_of(nodes, parent) else {
         return Ok(None);
@@ -250,7 +250,7 @@ fn in_part<'a>(
     fill: &Fill,
     place: Option<usize>,
 ) -> Result<Option<Stated<'a>>, NoMemory>
-    ensures { IfOk result (λ found. option_map stated_of found ≡ option_and_then (λ above. option_and_then (part_at fill.now above) place) (stated_by (view_model model.now) nodes.now (place_by nodes.now (option_map (λ t. t.now) places)) levels parent)) }
+    ensures { IfOk result (λ found. option_map stated_of found ≡ option_and_then (λ above. option_and_then (part_at fill.now above) place) (stated_by (view_model model.now) nodes.now (place_by nodes.now (option_map (λ t. t.now) places.entry)) levels parent)) }
 {
     match stated_by(alloc, model, nodes, places, levels, parent)? {
         None => Ok(None),
@@ -271,7 +271,7 @@ fn stated_by<'a>(
     levels: usize,
     n: usize,
 ) -> Result<Option<Stated<'a>>, NoMemory>
-    ensures { IfOk result (λ found. option_map stated_of found ≡ stated_by (view_model model.now) nodes.now (place_by nodes.now (option_map (λ t. t.now) places)) levels n) }
+    ensures { IfOk result (λ found. option_map stated_of found ≡ stated_by (view_model model.now) nodes.now (place_by nodes.now (option_map (λ t. t.now) places.entry)) levels n) }
 {
     if levels == 0 {
         return Ok(None);

@@ -12,7 +12,7 @@ use Rattle.pst_refusals.proofs.inlines.+inlines.Goals as goal
 pub has_inline-returns-in-Sequence : goal.has_inline-returns-in-Sequence
 has_inline-returns-in-Sequence t c =
     c.steps_have.ensures
-    ∙ ap (λ (xs : List Step). list_any (has_inline c.args.far) (map view_step xs)) c.as_slice.ensures.value
+    ∙ ap (λ (xs : List Step). list_any (has_inline c.args.far) (map view_step xs)) c.as_slice-in-Sequence.ensures.value
     ∙ sym (ap (λ (s : Step). has_inline c.args.far (view_step s)) c.in-Sequence.is ∙ in_sequence c.args.far c.in-Sequence.steps)
 
 pub has_inline-returns-in-Parallel : goal.has_inline-returns-in-Parallel
