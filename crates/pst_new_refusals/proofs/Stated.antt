@@ -1,5 +1,5 @@
 -- An old node stands for the same statement where nodes and values were only added.
-use Rattle.std.proofs.Common.{◌≡◌, ◌⊎◌, ℕ, zero, suc, ◌+◌, ◌<◌, ◌≤◌, List, [], ◌∷◌, length, cond, Option, Some, None, refl, sym, ap, ap₂, ◌∙◌, subst, inl, inr, arith}
+use Rattle.std.proofs.Common.{◌≡◌, ◌⊎◌, ℕ, ℤ, zero, suc, ◌+◌, ◌<◌, ◌≤◌, List, [], ◌∷◌, length, cond, Option, Some, None, refl, sym, ap, ap₂, ◌∙◌, subst, inl, inr, arith}
 use Rattle.std.specs.Prelude.{slice_get}
 use Rattle.std.specs.Option.{option_and_then}
 use Rattle.std.proofs.lemmas.Option.{slice_get_within, option_and_then_some}
@@ -50,7 +50,7 @@ pub record IsCompoundAt (nodes : List Node) (n : ℕ) : Type 0 where
   pub node : Node
   pub action : ℕ
   pub instance : ℕ
-  pub fields : List _
+  pub fields : List ℤ
   pub is : slice_get nodes n ≡ Some node
   pub of : node.fill ≡ fill.Compound action instance fields
 
