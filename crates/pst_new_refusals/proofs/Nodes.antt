@@ -1,13 +1,11 @@
 -- Nodes that are looked through from a number on.
-use Rattle.std.proofs.Common.{◌≡◌, ◌⊎◌, ℕ, ◌+◌, ◌<◌, ◌≤◌, List, length, Bool, true, false, not, ◌&&◌, Some, refl, sym, ap, ◌∙◌, subst, inl, inr, ⊎_elim, arith}
+use Rattle.std.proofs.Common.{◌≡◌, ◌⊎◌, ℕ, ◌+◌, ◌<◌, ◌≤◌, List, length, Bool, true, false, not, ◌&&◌, Some, sym, ap, ◌∙◌, subst, inl, inr, ⊎_elim, arith}
 use Rattle.std.specs.Prelude.{slice_get}
 use Rattle.std.specs.List.{list_any}
 use Rattle.std.proofs.lemmas.Bool.{cases_lt}
 use Rattle.std.proofs.lemmas.Option.{same_Some}
 use Rattle.pst_model.specs.ModelTree.{ModelTree}
 use Rattle.pst_scen.specs.declared.tree.Node.{Node}
-use Rattle.pst_scen.specs.declared.tree.Fill.{Fill}
-use Rattle.pst_scen.specs.declared.tree.Fill.TheVariants as fill
 use Rattle.pst_scen.specs.declared.act.Act.{Act}
 use Rattle.pst_scen.specs.declared.scenario.Scenario.{Scenario}
 use Rattle.pst_slots.specs.Stated.{statement_of}
@@ -53,19 +51,6 @@ module _ (m : ModelTree) (s : Scenario) (from n : ℕ) where
 
 pub traversed_none : (m : ModelTree) (s : Scenario) (from : ℕ) → AreTraversedFree m s from from
 traversed_none m s from earlier n node above below at other = absurd (omega (arith, above, below))
-
-pub no_leaf : (f : Fill) → ((a : ℕ) → f ≡ fill.Leaf a → ⊥) → is_leaf f ≡ false
-no_leaf (fill.Leaf a) no = absurd (no a refl)
-no_leaf (fill.Compound action instance fields) no = refl
-no_leaf fill.Sequence no = refl
-no_leaf fill.Parallel no = refl
-no_leaf fill.Schedule no = refl
-no_leaf (fill.Joined parallel joined) no = refl
-no_leaf (fill.Select branch) no = refl
-no_leaf fill.Repeat no = refl
-no_leaf (fill.Turn index) no = refl
-no_leaf (fill.If taken) no = refl
-no_leaf (fill.Match arm) no = refl
 
 -- ---- both parts
 

@@ -22,7 +22,7 @@ loop-n-preserved c =
     let s = seen c.args.scene.now in
     let x = c.index-nodes-n.result in
     let at : slice_get c.args.nodes.now c.loop-n.n ≡ Some x = slice_get_read c.args.nodes.now (length c.args.nodes.now) c.loop-n.n x refl (omega arith) c.index-nodes-n.is in
-    let b = c.in_ok-is_traversal_refused.is_traversal_refused in
+    let b = c.in_ok-is_traversal_refused.field-0 in
     traversed_more m s c.args.from c.loop-n.n x b (sym (ap (λ ns. slice_get ns c.loop-n.n) c.requires.nodes) ∙ at) c.if-branch.false
     (subst (λ (y : Node). StandEarlier s.nodes → b ≡ (not (is_leaf y.fill) && list_any (fails false) (of_stated m s c.loop-n.n (statement_of m s.nodes c.loop-n.n)))) (sym c.index-nodes-n.is) c.in_ok-is_traversal_refused.ensures) c.loop-n.invariant
 
