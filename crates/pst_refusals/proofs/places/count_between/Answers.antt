@@ -1,8 +1,5 @@
-use Rattle.std.proofs.Common.{◌≡◌, ◌+◌, ◌≤◌, cond, length, Some, refl, sym, ap, ◌∙◌, subst, arith}
-use Rattle.std.specs.Prelude.{slice_get}
-use Rattle.std.proofs.lemmas.Option.{slice_get_read}
-use Rattle.pst_scen.specs.Tree.{branch_of}
-use Rattle.pst_refusals.proofs.Counting.{rising, one_between}
+use Rattle.std.proofs.Common.{◌+◌, arith}
+use Rattle.pst_refusals.proofs.Counting.{rising}
 use Rattle.pst_refusals.proofs.places.count_between.Goals as goal
 
 pub returns-then-parent-n : goal.returns-then-parent-n

@@ -1,7 +1,6 @@
 use Rattle.std.proofs.Common.{◌≡◌, ◌<◌, ◌-◌, ℕ, List, Bor, Some, ap, sym, ◌∙◌, refl, subst, arith}
 use Rattle.std.specs.Prelude.{IfOk, slice_get}
 use Rattle.std.specs.Option.{option_map, option_and_then}
-use Rattle.std.proofs.lemmas.Option.{slice_get_within}
 use Rattle.pst_model.specs.ModelView.{view_model}
 use Rattle.pst_slots.specs.Stated.{at_place, part_at}
 use Rattle.pst_refusals.specs.Places.{place_by}
