@@ -1,5 +1,5 @@
 -- Constraints whose slots weren't changed are as they were.
-use Rattle.std.proofs.Common.{◌≡◌, ◌⊎◌, ℕ, ℤ, ◌<◌, ◌≤◌, List, [], ◌∷◌, ◌++◌, map, length, Contains, Bool, true, false, if◌then◌else◌, ◌&&◌, ◌||◌, Option, Some, refl, sym, ap, ◌∙◌, subst, inl, inr, ⊎_elim, arith}
+use Rattle.std.proofs.Common.{◌≡◌, ◌⊎◌, ℕ, ℤ, ◌<◌, ◌≤◌, List, [], ◌++◌, map, length, Contains, Bool, true, false, if◌then◌else◌, ◌&&◌, Option, Some, refl, sym, ap, ◌∙◌, subst, inl, inr, arith}
 use Rattle.std.specs.Prelude.{slice_get, flat_map}
 use Rattle.std.specs.List.{enumerate_from, list_any}
 use Rattle.std.specs.Option.{option_and_then}
@@ -15,13 +15,12 @@ use Rattle.pst_scen.specs.declared.tree.Fill.TheVariants as fill
 use Rattle.pst_scen.specs.declared.act.Act.{Act}
 use Rattle.pst_scen.specs.declared.act.Filled.{Filled}
 use Rattle.pst_scen.specs.declared.scenario.Scenario.{Scenario}
-use Rattle.pst_scen.specs.Scenarios.{reference_at}
 use Rattle.pst_legal.specs.Types.{type_of, pool_object, is_output, is_state_pool}
 use Rattle.pst_legal.specs.Blanks.{claims_of}
 use Rattle.pst_legal.specs.Statements.{StandsFor}
 use Rattle.pst_legal.specs.Standing.{Standing, bound_of}
 use Rattle.pst_legal.specs.Slots.{node_slot, inline_slot, act_slot, output_slot, resource_slot, first_object_slot}
-use Rattle.pst_legal.specs.Constraints.{HasConstraint, OfCompound, OfAct, OfOutput, OfClaim, OfFirst, Inline, IsActOfType, is_refused_at}
+use Rattle.pst_legal.specs.Constraints.{HasConstraint, OfCompound, OfAct, OfOutput, OfClaim, OfFirst, Inline, is_refused_at}
 use Rattle.pst_legal.specs.First.{NoneRefused}
 use Rattle.pst_built.proofs.Members.{In, in_get, none_any, to_left, to_right, to_map, to_flat_map, to_numbered}
 use Rattle.pst_slots.specs.Stated.{Stated, statement_of}
