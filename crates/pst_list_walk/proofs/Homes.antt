@@ -1,7 +1,6 @@
 -- Leaves and their actions name each other in what is read of the activity and the sources.
-use Rattle.std.proofs.Common.{◌≡◌, ◌⊎◌, ℕ, ℤ, zero, suc, ◌<◌, List, [], ◌∷◌, ◌++◌, map, length, Option, Some, None, refl, sym, ap, ◌∙◌, subst, inl, inr, ⊎_elim, arith}
+use Rattle.std.proofs.Common.{◌≡◌, ◌⊎◌, ℕ, ℤ, zero, suc, ◌<◌, List, [], ◌∷◌, ◌++◌, length, Option, Some, None, refl, sym, ap, ◌∙◌, subst, inl, inr, ⊎_elim, arith}
 use Rattle.std.specs.Prelude.{slice_get}
-use Rattle.std.specs.Option.{option_map}
 use Rattle.std.proofs.lemmas.List.{map-append, length-map}
 use Rattle.std.proofs.lemmas.Option.{none-some, same_Some, slice_get-map, slice_get_within}
 use Rattle.pst_model.specs.declared.action.Field.{Field}
@@ -15,9 +14,9 @@ use Rattle.pst_scen.specs.declared.scenario.Scenario.{Scenario}
 use Rattle.pst_scen.specs.Scenarios.{leaf_of}
 use Rattle.pst_legal.specs.Growing.{nothing_yet, Look, Inner, Leaf, open_act, with_look}
 use Rattle.pst_legal.specs.Menus.{Menu, Way, Place, Weighted, Closed, menu}
-use Rattle.pst_legal.specs.Reading.{Reading, Wants, Stops, Reads, then_read, put_value, value_number, read_tree}
+use Rattle.pst_legal.specs.Reading.{Wants, then_read, put_value, value_number, read_tree}
 use Rattle.pst_legal.specs.SupplyReading.{Spot, Source, Initially, From, New, put_link, linked_to, supplied_by, read_supply}
-use Rattle.pst_built.specs.Onward.{MoreNode, MoreValues}
+use Rattle.pst_built.specs.Onward.{MoreValues}
 use Rattle.pst_built.specs.StepsOf.{FieldSteps, AllWays}
 use Rattle.pst_built.proofs.Goes.{Stands, stands, goes_then}
 use Rattle.pst_built.proofs.Readers.{goes_tree, goes_supply}
@@ -25,7 +24,7 @@ use Rattle.pst_built.proofs.Bares.{node_in, nodes_in, nodes_put}
 use Rattle.pst_built.proofs.Linking.{nodes_linked}
 use Rattle.pst_built.proofs.Parents.{get_more, get_last, get_cases}
 use Rattle.pst_built.proofs.Lists.{get_mapped}
-use Rattle.pst_built.proofs.Leaves.{put, length_put}
+use Rattle.pst_built.proofs.Leaves.{length_put}
 use Rattle.pst_built.proofs.Nodes.{onward_put}
 use Rattle.pst_built.proofs.Looks.{IsLook, menu_looks}
 use Rattle.pst_built.proofs.Ways.{Ways}
