@@ -1,18 +1,16 @@
 -- How many beginnings of a list are known to refuse no constraint.
-use Rattle.std.proofs.Common.{◌≡◌, ◌⊎◌, ℕ, ◌+◌, ◌-◌, ◌<◌, ◌≤◌, List, [], ◌∷◌, ◌++◌, length, take, Bool, true, false, not, Option, Some, None, refl, sym, ap, ◌∙◌, subst, inl, inr, ⊎_elim, length-append, append-nil, arith}
+use Rattle.std.proofs.Common.{◌≡◌, ℕ, ◌+◌, ◌-◌, ◌<◌, ◌≤◌, List, [], ◌∷◌, ◌++◌, length, take, Bool, true, false, not, sym, ap, ◌∙◌, subst, inl, inr, ⊎_elim, length-append, arith}
 use Rattle.std.proofs.lemmas.List.{take_all, take-append-le}
 use Rattle.std.proofs.lemmas.Bool.{false≢true, cases_lt}
 use Rattle.pst_model.specs.declared.model.Model.{Model}
 use Rattle.pst_model.specs.ModelTree.{ModelTree}
 use Rattle.pst_model.specs.ModelView.{view_model}
-use Rattle.pst_scen.specs.declared.scenario.Scenario.{Scenario}
 use Rattle.pst_legal.specs.First.{NoneRefused}
 use Rattle.pst_legal.specs.ValueReading.{Answer, Options, Dead, Whole}
-use Rattle.pst_shape.specs.Walks.{IfRead, HasDigit}
+use Rattle.pst_shape.specs.Walks.{IfRead}
 use Rattle.pst_new_refusals.specs.Newly.{IfNot}
 use Rattle.pst_link_walk.specs.Walks.{Kept, with_choice, answer}
-use Rattle.pst_link_walk.specs.News.{IsSize}
-use Rattle.pst_list_walk.specs.Free.{kept_at, IfPlace, RefusesNone, IsFree, IsFreed, Frees}
+use Rattle.pst_list_walk.specs.Free.{kept_at, IfPlace, RefusesNone, IsFree, Frees}
 use Rattle.pst_list_walk.proofs.Growing.{nothing_refused}
 
 pub not_so : (b : Bool) (P : Type 0) → IfNot b P → not b ≡ true → P

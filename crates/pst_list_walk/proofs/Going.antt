@@ -1,11 +1,10 @@
 -- What is known of a list's beginnings behind one choice more.
-use Rattle.std.proofs.Common.{◌≡◌, ℕ, ◌+◌, ◌-◌, ◌<◌, List, [], ◌∷◌, ◌++◌, drop, length, Bool, true, false, Option, Some, None, refl, sym, ap, ◌∙◌, subst, length-append}
+use Rattle.std.proofs.Common.{◌≡◌, ℕ, ◌+◌, ◌-◌, ◌<◌, List, [], ◌∷◌, ◌++◌, length, Bool, true, false, Option, Some, None, refl, sym, ap, ◌∙◌, subst, length-append}
 use Rattle.std.specs.Global.{Vec}
 use Rattle.pst_model.specs.declared.model.Model.{Model}
 use Rattle.pst_model.specs.ModelView.{view_model}
 use Rattle.pst_scen.specs.declared.act.Act.{Act}
 use Rattle.pst_scen.specs.declared.tree.Node.{Node}
-use Rattle.pst_scen.specs.declared.scenario.Scenario.{Scenario}
 use Rattle.pst_legal.specs.First.{NoneRefused}
 use Rattle.pst_legal.specs.Reading.{Reading, Wants, Stops, Reads}
 use Rattle.pst_legal.specs.ValueReading.{Answer, Options, Dead, Whole, answer_of}
@@ -15,9 +14,9 @@ use Rattle.pst_value_walk.specs.Walks.{Kept as Values}
 use Rattle.pst_link_walk.specs.Walks.{Kept, reading}
 use Rattle.pst_link_walk.specs.Made.{IsInside}
 use Rattle.pst_link_walk.specs.Walks.{answer as link_answer}
-use Rattle.pst_link_walk.specs.News.{IsSize, IsNews, GoesOnBy}
+use Rattle.pst_link_walk.specs.News.{IsSize, IsNews}
 use Rattle.pst_list_walk.specs.Walks.{answer}
-use Rattle.pst_list_walk.specs.Free.{kept_at, IfPlace, RefusesNone, IsFree, IsFreed, Frees}
+use Rattle.pst_list_walk.specs.Free.{kept_at, IfPlace, IsFree, IsFreed, Frees}
 use Rattle.pst_list_walk.specs.Made.{choices_of, Stands, Goes}
 use Rattle.pst_new_refusals.specs.Newly.{StaysFree}
 use Rattle.pst_list_walk.proofs.Growing.{freed}

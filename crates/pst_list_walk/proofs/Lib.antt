@@ -3,6 +3,7 @@ pub mod Seen
 pub mod Answering
 pub mod Choosing
 pub mod Refusing
+pub mod Homes
 pub mod Growing
 pub mod Free
 pub mod Going

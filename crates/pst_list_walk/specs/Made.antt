@@ -8,6 +8,7 @@ use Rattle.pst_legal.specs.Reading.{Reads}
 use Rattle.pst_value_walk.specs.Walks.{Kept as Values}
 use Rattle.pst_link_walk.specs.Walks.{Kept, reading}
 use Rattle.pst_link_walk.specs.Made.{IsInside}
+use Rattle.pst_refusals.specs.Inlines.{has_inlines}
 use Rattle.pst_new_refusals.specs.Far.{has_far}
 pub use Rattle.pst_list_walk.specs.Free.{kept_at}
 use Rattle.pst_list_walk.specs.Free.{IsFree}
@@ -52,6 +53,7 @@ kept_by w = kept_at w.model.now w.root w.seed w.level (w.links.choices ++ choice
 pub record IsKept (w : Inside) : Type 0 where
   pub sound : IsSound (view_model w.model.now)
   pub near : w.near ≡ true → has_far (view_model w.model.now) ≡ false
+  pub inlines : w.inlines ≡ false → has_inlines (view_model w.model.now) ≡ false
   pub linked : w.linked ≡ length w.links.choices
   pub free : IsFree w.model.now w.root w.seed w.level w.links.choices w.free
   pub links : w.links ≡ kept_at w.model.now w.root w.seed w.level w.links.choices

@@ -9,6 +9,7 @@ ghost use Rattle.pst_link_walk.specs.Walks.{answer as link_answer};
 ghost use Rattle.pst_plan_so_far.specs.Laws.{ReadsSources};
 ghost use Rattle.pst_order_ahead.specs.LaidOut.{ReadsTree};
 ghost use Rattle.pst_refusals.specs.Answers.{StandEarlier, TellsRefusals};
+ghost use Rattle.pst_refusals.specs.Inlines.{has_inlines};
 ghost use Rattle.pst_legal.specs.First.{NoneRefused};
 ghost use Rattle.pst_new_refusals.specs.Far.{has_far};
 ghost use Rattle.pst_new_refusals.specs.Newly.{StaysFree};
@@ -25,7 +26,7 @@ use pst_link_walk::LinkWalk;
 use pst_model::Model;
 use pst_new_refusals::{has_far, some_newly_refused};
 use pst_read_domains::nodes_stand_for_pieces;
-use pst_refusals::some_refused;
+use pst_refusals::{has_inlines, some_refused};
 use pst_rng::start;
 use pst_scen::{Act, First, Next, Node, Scenario};
 use pst_value_walk::ValueWalk;
@@ -204,12 +205,20 @@ fn first_free(links: &LinkWalk<'_>) -> u64
 }
 
 // Whether nothing new is refused, as far as there is memory to tell.
-fn is_unrefused(alloc: Global, model: &Model, nodes: &[Node], from: usize, fresh: &[Act]) -> bool
+fn is_unrefused(
+    alloc: Global,
+    model: &Model,
+    inlines: bool,
+    nodes: &[Node],
+    from: usize,
+    fresh: &[Act],
+) -> bool
     requires sound { IsSound (view_model model.now) }
     requires near { has_far (view_model model.now) ≡ false }
+    requires inlines { inlines ≡ false → has_inlines (view_model model.now) ≡ false }
     ensures { result ≡ true → StaysFree (view_model model.now) nodes.now from fresh.now }
 {
-    match some_newly_refused(alloc, model, nodes, from, fresh) {
+    match some_newly_refused(alloc, model, inlines, nodes, from, fresh) {
         Ok(refused) => !refused,
         Err(_) => false,
     }
@@ -222,6 +231,7 @@ fn is_freed(
     model: &Model,
     links: &LinkWalk<'_>,
     near: bool,
+    inlines: bool,
     free: u64,
     count: u64,
     size: Option<usize>,
@@ -229,6 +239,7 @@ fn is_freed(
 ) -> bool
     requires sound { IsSound (view_model model.now) }
     requires near { near ≡ true → has_far (view_model model.now) ≡ false }
+    requires inlines { inlines ≡ false → has_inlines (view_model model.now) ≡ false }
     ensures { result ≡ true → (root seed level digit : ℕ) → IsFreed model.now root seed level digit size nodes links.now }
 {
     if !near {
@@ -243,7 +254,8 @@ fn is_freed(
     let Some(fresh) = news else {
         return false;
     };
-    is_unrefused(alloc, model, links.nodes(), nodes.saturating_sub(1), &fresh)
+    let from = nodes.saturating_sub(1);
+    is_unrefused(alloc, model, inlines, links.nodes(), from, &fresh)
 }
 
 // How many beginnings are known to refuse no constraint behind one choice more than `count`.
@@ -292,6 +304,7 @@ pub struct ListWalk<'a> {
     values: Option<ValueWalk<'a>>,
     valued: u64,
     near: bool,
+    inlines: bool,
     free: u64,
 }
 
@@ -328,6 +341,7 @@ impl<'a> ListWalk<'a> {
         let links = LinkWalk::new(alloc, model, root, seed, level)?;
         let values = begin(alloc, model, &links, root, seed, level)?;
         let near = is_near(model);
+        let inlines = has_inlines(model);
         let free = first_free(&links);
         Ok(ListWalk {
             alloc,
@@ -340,6 +354,7 @@ impl<'a> ListWalk<'a> {
             values,
             valued: 0,
             near,
+            inlines,
             free,
         })
     }
@@ -462,6 +477,7 @@ impl<'a> ListWalk<'a> {
                     self.model,
                     &self.links,
                     self.near,
+                    self.inlines,
                     self.free,
                     self.linked,
                     size,

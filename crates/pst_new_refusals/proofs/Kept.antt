@@ -1,5 +1,5 @@
 -- Constraints whose slots weren't changed are as they were.
-use Rattle.std.proofs.Common.{◌≡◌, ◌⊎◌, ℕ, ℤ, ◌<◌, ◌≤◌, List, [], ◌∷◌, ◌++◌, map, length, Contains, Bool, true, false, if◌then◌else◌, ◌&&◌, ◌||◌, Option, Some, refl, sym, ap, ◌∙◌, subst, inl, inr, ⊎_elim, arith}
+use Rattle.std.proofs.Common.{◌≡◌, ◌⊎◌, ℕ, ℤ, ◌<◌, ◌≤◌, List, [], ◌++◌, map, length, Contains, Bool, true, false, if◌then◌else◌, ◌&&◌, Option, Some, refl, sym, ap, ◌∙◌, subst, inl, inr, arith}
 use Rattle.std.specs.Prelude.{slice_get, flat_map}
 use Rattle.std.specs.List.{enumerate_from, list_any}
 use Rattle.std.specs.Option.{option_and_then}
@@ -7,6 +7,7 @@ use Rattle.std.proofs.lemmas.Bool.{cases_lt, false≢true, or_parts}
 use Rattle.std.proofs.lemmas.Option.{none-some, slice_get_within, option_and_then_some}
 use Rattle.pst_model.specs.declared.action.Claim.{Claim}
 use Rattle.pst_model.specs.ConstraintTree.{SlotTree, ConstraintTree}
+use Rattle.pst_model.specs.ActivityTree.{Traverse}
 use Rattle.pst_model.specs.ModelTree.{ModelTree, ActionTree, ObjectTree}
 use Rattle.pst_scen.specs.declared.tree.Node.{Node}
 use Rattle.pst_scen.specs.declared.tree.Fill.{Fill}
@@ -14,22 +15,28 @@ use Rattle.pst_scen.specs.declared.tree.Fill.TheVariants as fill
 use Rattle.pst_scen.specs.declared.act.Act.{Act}
 use Rattle.pst_scen.specs.declared.act.Filled.{Filled}
 use Rattle.pst_scen.specs.declared.scenario.Scenario.{Scenario}
-use Rattle.pst_scen.specs.Scenarios.{reference_at}
 use Rattle.pst_legal.specs.Types.{type_of, pool_object, is_output, is_state_pool}
 use Rattle.pst_legal.specs.Blanks.{claims_of}
-use Rattle.pst_legal.specs.Standing.{Standing}
-use Rattle.pst_legal.specs.Slots.{node_slot, act_slot, output_slot, resource_slot, first_object_slot}
-use Rattle.pst_legal.specs.Constraints.{HasConstraint, OfCompound, OfAct, OfOutput, OfClaim, OfFirst, Inline, IsActOfType, is_refused_at}
+use Rattle.pst_legal.specs.Statements.{StandsFor}
+use Rattle.pst_legal.specs.Standing.{Standing, bound_of}
+use Rattle.pst_legal.specs.Slots.{node_slot, inline_slot, act_slot, output_slot, resource_slot, first_object_slot}
+use Rattle.pst_legal.specs.Constraints.{HasConstraint, OfCompound, OfAct, OfOutput, OfClaim, OfFirst, Inline, is_refused_at}
 use Rattle.pst_legal.specs.First.{NoneRefused}
 use Rattle.pst_built.proofs.Members.{In, in_get, none_any, to_left, to_right, to_map, to_flat_map, to_numbered}
-use Rattle.pst_slots.specs.Listed.{Stating, stating, action_constraints, object_constraints, of_fill, of_output, of_claim, of_act, of_first_object}
+use Rattle.pst_slots.specs.Stated.{Stated, statement_of}
+use Rattle.pst_slots.specs.Listed.{Stating, stating, action_constraints, object_constraints, of_fill, of_stated, of_output, of_claim, of_act, of_first_object}
+use Rattle.pst_slots.proofs.Kept.{all_found, stands_at}
 use Rattle.pst_slots.proofs.Listed.{in_contains}
 use Rattle.pst_refusals.specs.Failing.{fails}
-use Rattle.pst_new_refusals.specs.Far.{is_far, is_far_slot, has_far}
+use Rattle.pst_refusals.specs.Inlines.{is_far, is_far_slot, has_inlines}
+use Rattle.pst_refusals.specs.Made.{made_slot, of_made}
+use Rattle.pst_new_refusals.specs.Far.{has_far}
 use Rattle.pst_new_refusals.specs.Since.{IsUnread, IsFresh, IsSince}
-use Rattle.pst_new_refusals.specs.Newly.{alone, is_pool_refused, is_act_refused, AreFree, IfNot, StaysFree}
+use Rattle.pst_new_refusals.specs.Newly.{alone, is_pool_refused, is_act_refused, is_leaf, of_own, is_own_refused, ArePlainFree, AreInlinesFree, IfNot, StaysFree}
 use Rattle.pst_refusals.proofs.Without.{none_inline}
-use Rattle.pst_new_refusals.proofs.Near.{near_type, without_inlines}
+use Rattle.pst_new_refusals.proofs.Near.{near_type, near_inline}
+use Rattle.pst_new_refusals.proofs.Stated.{top_before, top_is, stood}
+use Rattle.pst_new_refusals.proofs.Traversed.{leaf_node, other_node, same_inline, same_made}
 use Rattle.pst_new_refusals.proofs.Same.{same_act, same_output, same_first_object, same_resource, same_node, refused_near, refused_same}
 
 -- nothing is read of nodes without actions
@@ -86,12 +93,12 @@ module _ (m : ModelTree) (u : Scenario) (act : Act) where
 -- ---- all constraints
 
 module _ (m : ModelTree) (s t : Scenario) (from : ℕ) (fresh : List Act) (since : IsSince s t from fresh) (near : has_far m ≡ false) (none : NoneRefused m s)
-    (free : AreFree m (alone t.nodes) from (length t.nodes)) (new : list_any (is_act_refused m (alone t.nodes)) fresh ≡ false) where
+    (free : ArePlainFree m (alone t.nodes) from fresh) (inlines : (has_inlines m ≡ false) ⊎ AreInlinesFree m (alone t.nodes) from fresh) where
   abbrev u : Scenario
   u = alone t.nodes
 
   act_passed : (act : Act) → IsFresh fresh act → (list_any (fails false) (of_act m u (0, act)) ≡ false) × (list_any (is_pool_refused m u) act.references ≡ false)
-  act_passed act is = or_parts (list_any (fails false) (of_act m u (0, act))) (list_any (is_pool_refused m u) act.references) (none_any (is_act_refused m u) fresh act new (in_get fresh is.0 act is.1))
+  act_passed act is = or_parts (list_any (fails false) (of_act m u (0, act))) (list_any (is_pool_refused m u) act.references) (none_any (is_act_refused m u) fresh act free.acts (in_get fresh is.0 act is.1))
 
   near_constraint : (action : ℕ) (type : ActionTree) (k : ConstraintTree) → type_of m action ≡ Some type → Contains type.constraints k → list_any is_far_slot k.slots ≡ false
   near_constraint action type k of has = none_any is_far type.constraints k (near_type m near action type of) (in_contains type.constraints k has)
@@ -106,7 +113,7 @@ module _ (m : ModelTree) (s t : Scenario) (from : ℕ) (fresh : List Act) (since
       let one = stating (node_slot m u n) k in
       let inside : In one (of_fill m u n node.fill) = subst (λ f. In one (of_fill m u n f)) (sym leaf) (of_type_in m (node_slot m u n) action type k of has) in
       refused_near k (node_slot m t n) (node_slot m u n) (λ slot own. same_node m t u n action instance fields node slot is is leaf own) (near_constraint action type k of has)
-      (passed (of_fill m u n node.fill) (node_slot m u n) k (free n node above (slice_get_within t.nodes n node is) is) inside)
+      (passed (of_fill m u n node.fill) (node_slot m u n) k (free.nodes n node above (slice_get_within t.nodes n node is) is) inside)
 
   by_act : (a : ℕ) (act : Act) (type : ActionTree) (k : ConstraintTree) → type_of m act.action ≡ Some type → Contains type.constraints k → (slice_get s.actions a ≡ Some act) ⊎ IsFresh fresh act → is_refused_at k (act_slot m t a act) ≡ false
   by_act a act type k of has (inl old) =
@@ -142,6 +149,93 @@ module _ (m : ModelTree) (s t : Scenario) (from : ℕ) (fresh : List Act) (since
       refused_same k (first_object_slot m t filled.pool) (first_object_slot m u filled.pool) (λ slot. same_first_object m t u since.new (unread t.nodes) filled.pool slot)
       (passed (of_first_object m u filled.pool) (first_object_slot m u filled.pool) k free_pool (of_object_in (first_object_slot m u filled.pool) (pool_object m filled.pool) object k of has))
 
+  -- ---- inline constraints
+
+  module _ (n top action : ℕ) (handle : Option ℕ) (inline : List ConstraintTree) (indices : List ℕ) (k : ConstraintTree) (stands : StandsFor m t.nodes top n (Traverse action handle inline) indices) (has : Contains inline k)
+      (tests : AreInlinesFree m u from fresh) where
+    abbrev found : Stated
+    found = record { top = top; step = Traverse action handle inline; indices = indices }
+
+    -- the compound action round it stood before
+    outer_old : (node : Node) → n < length s.nodes → (slot : SlotTree) → is_far_slot slot ≡ false → bound_of (node_slot m t top slot) ≡ bound_of (node_slot m s top slot)
+    outer_old node l slot near_slot =
+        let up = top_is m t.nodes top stands in
+        let lower = top_before m t.nodes since.earlier top stands in
+        let few = since.few in
+        same_node m t s top up.action up.instance up.fields up.node slot up.is (since.nodes top up.node (omega (arith, lower, l, few)) up.is) up.of near_slot
+
+    outer_alone : (slot : SlotTree) → is_far_slot slot ≡ false → bound_of (node_slot m t top slot) ≡ bound_of (node_slot m u top slot)
+    outer_alone slot near_slot =
+        let up = top_is m t.nodes top stands in
+        same_node m t u top up.action up.instance up.fields up.node slot up.is up.is up.of near_slot
+
+    near_k : list_any is_far_slot k.slots ≡ false
+    near_k = near_inline m near t.nodes top n action handle inline indices k stands has
+
+    -- the node stood for the statement before
+    by_old : (node : Node) → slice_get s.nodes n ≡ Some node → ((slot : SlotTree) → is_far_slot slot ≡ false → bound_of (node_slot m t n slot) ≡ bound_of (node_slot m s n slot)) → is_refused_at k (inline_slot m t n top indices) ≡ false
+    by_old node is own =
+        let l = slice_get_within s.nodes n node is in
+        let stood_for = stood m s.nodes t.nodes since.more since.earlier top n (Traverse action handle inline) indices l stands in
+        refused_near k (inline_slot m t n top indices) (inline_slot m s n top indices) (same_inline m t s n top indices (outer_old node l) own) near_k
+        (none k (inline_slot m s n top indices) (Inline n top action handle inline indices k stood_for has))
+
+    is_found : statement_of m u.nodes n ≡ Some found
+    is_found = all_found m t.nodes since.earlier n top (Traverse action handle inline) indices stands
+
+    -- a new node that is no leaf
+    by_traversal : (node : Node) → slice_get t.nodes n ≡ Some node → is_leaf node.fill ≡ false → from ≤ n → is_refused_at k (inline_slot m t n top indices) ≡ false
+    by_traversal node is other above =
+        let one = stating (inline_slot m u n top indices) k in
+        let inside : In one (of_stated m u n (statement_of m u.nodes n)) = subst (λ o. In one (of_stated m u n o)) (sym is_found) (to_map (stating (inline_slot m u n top indices)) inline k (in_contains inline k has)) in
+        refused_near k (inline_slot m t n top indices) (inline_slot m u n top indices) (same_inline m t u n top indices outer_alone (λ slot own. ap bound_of (other_node m t u n node slot is is other own))) near_k
+        (passed (of_stated m u n (statement_of m u.nodes n)) (inline_slot m u n top indices) k (tests.nodes since.earlier n node above (slice_get_within t.nodes n node is) is other) inside)
+
+    -- a new action, or one that is linked anew
+    by_own : (a : ℕ) (node : Node) (act : Act) → slice_get t.nodes n ≡ Some node → node.fill ≡ fill.Leaf a → slice_get t.actions a ≡ Some act → act.node ≡ Some n → IsFresh fresh act → is_refused_at k (inline_slot m t n top indices) ≡ false
+    by_own a node act is leaf at home new =
+        let one = stating (made_slot m u act top indices) k in
+        let made : of_own m u act act.node ≡ of_made m u act (Some found) = ap (of_own m u act) home ∙ ap (of_made m u act) is_found in
+        let inside : In one (of_own m u act act.node) = subst (In one) (sym made) (to_map (stating (made_slot m u act top indices)) inline k (in_contains inline k has)) in
+        refused_near k (inline_slot m t n top indices) (made_slot m u act top indices)
+        (same_made m t u n top indices outer_alone act (λ slot own. ap bound_of (leaf_node m t n a node act slot is leaf at own) ∙ same_act m t u since.new (unread t.nodes) a 0 act slot)) near_k
+        (passed (of_own m u act act.node) (made_slot m u act top indices) k (none_any (is_own_refused m u) fresh act (tests.acts since.earlier) (in_get fresh new.0 act new.1)) inside)
+
+    by_leaf : (a : ℕ) (node : Node) (act : Act) → slice_get t.nodes n ≡ Some node → node.fill ≡ fill.Leaf a → slice_get t.actions a ≡ Some act → act.node ≡ Some n → (slice_get s.actions a ≡ Some act) ⊎ IsFresh fresh act
+        → is_refused_at k (inline_slot m t n top indices) ≡ false
+    by_leaf a node act is leaf at home (inl old) =
+        let x = since.homes a n act old home in
+        by_old x.0 x.1 (λ slot own. ap bound_of (leaf_node m t n a node act slot is leaf at own) ∙ same_act m t s since.new since.old a a act slot ∙ ap bound_of (sym (leaf_node m s n a x.0 act slot x.1 x.2 old own)))
+    by_leaf a node act is leaf at home (inr new) = by_own a node act is leaf at home new
+
+    by_other : (node : Node) → slice_get t.nodes n ≡ Some node → is_leaf node.fill ≡ false → (n < from) ⊎ (from ≤ n) → is_refused_at k (inline_slot m t n top indices) ≡ false
+    by_other node is other (inl below) =
+        let old = since.nodes n node below is in
+        by_old node old (λ slot own. ap bound_of (other_node m t s n node slot is old other own))
+    by_other node is other (inr above) = by_traversal node is other above
+
+    by_fill : (node : Node) (f : Fill) → slice_get t.nodes n ≡ Some node → node.fill ≡ f → is_refused_at k (inline_slot m t n top indices) ≡ false
+    by_fill node (fill.Leaf a) is of =
+        let x = since.leaves n a node is of in
+        by_leaf a node x.0 is of x.1 x.2 (since.acts a x.0 x.1)
+    by_fill node (fill.Compound action instance fields) is of = by_other node is (ap is_leaf of) (cases_lt n from)
+    by_fill node fill.Sequence is of = by_other node is (ap is_leaf of) (cases_lt n from)
+    by_fill node fill.Parallel is of = by_other node is (ap is_leaf of) (cases_lt n from)
+    by_fill node fill.Schedule is of = by_other node is (ap is_leaf of) (cases_lt n from)
+    by_fill node (fill.Joined parallel joined) is of = by_other node is (ap is_leaf of) (cases_lt n from)
+    by_fill node (fill.Select branch) is of = by_other node is (ap is_leaf of) (cases_lt n from)
+    by_fill node fill.Repeat is of = by_other node is (ap is_leaf of) (cases_lt n from)
+    by_fill node (fill.Turn index) is of = by_other node is (ap is_leaf of) (cases_lt n from)
+    by_fill node (fill.If taken) is of = by_other node is (ap is_leaf of) (cases_lt n from)
+    by_fill node (fill.Match arm) is of = by_other node is (ap is_leaf of) (cases_lt n from)
+
+  by_inline : (n top action : ℕ) (handle : Option ℕ) (inline : List ConstraintTree) (indices : List ℕ) (k : ConstraintTree) → StandsFor m t.nodes top n (Traverse action handle inline) indices → Contains inline k
+      → (has_inlines m ≡ false) ⊎ AreInlinesFree m u from fresh → is_refused_at k (inline_slot m t n top indices) ≡ false
+  by_inline n top action handle inline indices k stands has (inl without) = absurd (none_inline m without t.nodes top n action handle inline indices k stands has)
+  by_inline n top action handle inline indices k stands has (inr tests) =
+      let at = stands_at m t.nodes top stands in
+      by_fill n top action handle inline indices k stands has tests at.0 at.0.fill at.1 refl
+
   each : {k : ConstraintTree} {standing : SlotTree → Standing} → HasConstraint m t k standing → is_refused_at k standing ≡ false
   each (OfCompound n action instance fields node type k is leaf of has) = by_node n action instance fields node type k is leaf of has (cases_lt n from)
   each (OfAct a act type k is has) = by_act a act type k is.of_type has (since.acts a act is.is)
@@ -150,13 +244,16 @@ module _ (m : ModelTree) (s t : Scenario) (from : ℕ) (fresh : List Act) (since
   each (OfClaim a c act type claim object k is at of has) = by_claim a c act type claim object k is.of_type at of has (since.acts a act is.is)
   each (OfFirst a r filled object k is state of has) =
       option_and_then_some (λ (x : Act). slice_get x.references r) (slice_get t.actions a) filled is (λ act there at. by_first a r act filled object k at state of has (since.acts a act there))
-  each (Inline n top action handle inline indices k stands has) = absurd (none_inline m (without_inlines m near) t.nodes top n action handle inline indices k stands has)
+  each (Inline n top action handle inline indices k stands has) = by_inline n top action handle inline indices k stands has inlines
 
   pub kept : NoneRefused m t
   kept k standing has = each has
 
 -- where nothing new is refused, nothing is
-pub stays : (m : ModelTree) (nodes : List Node) (from : ℕ) (fresh : List Act) → has_far m ≡ false → AreFree m (alone nodes) from (length nodes) → (b : Bool) → b ≡ list_any (is_act_refused m (alone nodes)) fresh → IfNot b (StaysFree m nodes from fresh)
-stays m nodes from fresh near free true e = tt
-stays m nodes from fresh near free false e = λ s t same since none.
-    kept m s t from fresh since near none (subst (λ ns. AreFree m (alone ns) from (length ns)) (sym same) free) (subst (λ ns. list_any (is_act_refused m (alone ns)) fresh ≡ false) (sym same) (sym e))
+pub stays : (m : ModelTree) (nodes : List Node) (from : ℕ) (fresh : List Act) → has_far m ≡ false → ArePlainFree m (alone nodes) from fresh → (has_inlines m ≡ false) ⊎ AreInlinesFree m (alone nodes) from fresh → StaysFree m nodes from fresh
+stays m nodes from fresh near free inlines = λ s t same since none.
+    kept m s t from fresh since near none (subst (λ ns. ArePlainFree m (alone ns) from fresh) (sym same) free) (subst (λ ns. (has_inlines m ≡ false) ⊎ AreInlinesFree m (alone ns) from fresh) (sym same) inlines)
+
+pub stays_if : (m : ModelTree) (nodes : List Node) (from : ℕ) (fresh : List Act) → has_far m ≡ false → ArePlainFree m (alone nodes) from fresh → (b : Bool) → IfNot b (AreInlinesFree m (alone nodes) from fresh) → IfNot b (StaysFree m nodes from fresh)
+stays_if m nodes from fresh near free true inlines = tt
+stays_if m nodes from fresh near free false inlines = stays m nodes from fresh near free (inr inlines)

@@ -1,15 +1,18 @@
 -- Nodes that are looked through from a number on.
-use Rattle.std.proofs.Common.{◌≡◌, ◌⊎◌, ℕ, ◌+◌, ◌<◌, ◌≤◌, List, length, Bool, false, Some, sym, ap, ◌∙◌, subst, inl, inr, ⊎_elim, arith}
+use Rattle.std.proofs.Common.{◌≡◌, ◌⊎◌, ℕ, ◌+◌, ◌<◌, ◌≤◌, List, length, Bool, true, false, not, ◌&&◌, Some, sym, ap, ◌∙◌, subst, inl, inr, ⊎_elim, arith}
 use Rattle.std.specs.Prelude.{slice_get}
 use Rattle.std.specs.List.{list_any}
 use Rattle.std.proofs.lemmas.Bool.{cases_lt}
 use Rattle.std.proofs.lemmas.Option.{same_Some}
 use Rattle.pst_model.specs.ModelTree.{ModelTree}
 use Rattle.pst_scen.specs.declared.tree.Node.{Node}
+use Rattle.pst_scen.specs.declared.act.Act.{Act}
 use Rattle.pst_scen.specs.declared.scenario.Scenario.{Scenario}
-use Rattle.pst_slots.specs.Listed.{of_fill}
+use Rattle.pst_slots.specs.Stated.{statement_of}
+use Rattle.pst_slots.specs.Listed.{of_fill, of_stated}
+use Rattle.pst_refusals.specs.Answers.{StandEarlier}
 use Rattle.pst_refusals.specs.Failing.{fails}
-use Rattle.pst_new_refusals.specs.Newly.{AreFree}
+use Rattle.pst_new_refusals.specs.Newly.{is_act_refused, is_leaf, is_own_refused, AreFree, AreTraversedFree, ArePlainFree, AreInlinesFree, IfNot}
 
 below_or_at : (k n : ℕ) → k < n + 1 → (k < n) ⊎ (k ≡ n)
 below_or_at k n l = ⊎_elim (λ less. inl less) (λ more. inr (omega (arith, l, more))) (cases_lt k n)
@@ -29,3 +32,32 @@ module _ (m : ModelTree) (s : Scenario) (from n : ℕ) where
 
 pub free_none : (m : ModelTree) (s : Scenario) (from : ℕ) → AreFree m s from from
 free_none m s from n node above below at = absurd (omega (arith, above, below))
+
+-- ---- what stands at traversals
+
+module _ (m : ModelTree) (s : Scenario) (from n : ℕ) where
+  pub traversed_more : (x : Node) (b : Bool) → slice_get s.nodes n ≡ Some x → b ≡ false → (StandEarlier s.nodes → b ≡ (not (is_leaf x.fill) && list_any (fails false) (of_stated m s n (statement_of m s.nodes n)))) → AreTraversedFree m s from n → AreTraversedFree m s from (n + 1)
+  traversed_more x b is none tells free earlier k node above l at other =
+      ⊎_elim (λ below. free earlier k node above below at other)
+      (λ same.
+      let e : x ≡ node = same_Some x node (sym is ∙ ap (slice_get s.nodes) (sym same) ∙ at) in
+      let leafless : is_leaf x.fill ≡ false = ap (λ (y : Node). is_leaf y.fill) e ∙ other in
+      let one : list_any (fails false) (of_stated m s n (statement_of m s.nodes n)) ≡ false = ap (λ c. not c && list_any (fails false) (of_stated m s n (statement_of m s.nodes n))) (sym leafless) ∙ sym (tells earlier) ∙ none in
+      subst (λ i. list_any (fails false) (of_stated m s i (statement_of m s.nodes i)) ≡ false) (sym same) one)
+      (below_or_at k n l)
+
+  pub traversed_all : (end : ℕ) → end ≤ n → AreTraversedFree m s from n → AreTraversedFree m s from end
+  traversed_all end l free earlier k node above below at other = free earlier k node above (omega (arith, l, below)) at other
+
+pub traversed_none : (m : ModelTree) (s : Scenario) (from : ℕ) → AreTraversedFree m s from from
+traversed_none m s from earlier n node above below at other = absurd (omega (arith, above, below))
+
+-- ---- both parts
+
+pub plain_if : (m : ModelTree) (s : Scenario) (from : ℕ) (fresh : List Act) (b : Bool) → AreFree m s from (length s.nodes) → b ≡ list_any (is_act_refused m s) fresh → IfNot b (ArePlainFree m s from fresh)
+plain_if m s from fresh true nodes e = tt
+plain_if m s from fresh false nodes e = record { nodes = nodes; acts = sym e }
+
+pub inlines_if : (m : ModelTree) (s : Scenario) (from : ℕ) (fresh : List Act) (b : Bool) → AreTraversedFree m s from (length s.nodes) → (StandEarlier s.nodes → b ≡ list_any (is_own_refused m s) fresh) → IfNot b (AreInlinesFree m s from fresh)
+inlines_if m s from fresh true nodes e = tt
+inlines_if m s from fresh false nodes e = record { nodes = nodes; acts = λ earlier. sym (e earlier) }

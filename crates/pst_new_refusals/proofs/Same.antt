@@ -1,9 +1,8 @@
 -- In scenarios without values the bounds of what belongs to an action are the same.
-use Rattle.std.proofs.Common.{◌≡◌, ℕ, ℤ, pos, List, [], ◌∷◌, map, Bool, true, false, if◌then◌else◌, ◌||◌, Option, Some, None, refl, sym, ap, ap₂, ◌∙◌}
+use Rattle.std.proofs.Common.{◌≡◌, ℕ, ℤ, pos, List, [], ◌∷◌, map, Bool, true, false, if◌then◌else◌, Option, Some, None, refl, sym, ap, ap₂, ◌∙◌}
 use Rattle.std.specs.Prelude.{slice_get}
 use Rattle.std.specs.List.{list_any}
 use Rattle.std.specs.Option.{option_map}
-use Rattle.std.proofs.lemmas.Option.{none-some}
 use Rattle.std.proofs.lemmas.Bool.{false≢true, or_parts}
 use Rattle.pst_expr.specs.declared.ranges.Span.{Span}
 use Rattle.pst_domain.specs.Interval.{interval, is_refused}
@@ -23,7 +22,7 @@ use Rattle.pst_legal.specs.Blanks.{Blank, OfFirst, OfAct, OfOutput, OfClaim, Ins
 use Rattle.pst_legal.specs.Standing.{Standing, bound_of, value_or, open_value, hull, field_span}
 use Rattle.pst_legal.specs.Slots.{pool_span, first_values, claim_values, first_slot, written_slot, output_values, linked_slot, flow_slot, claim_slot, claim_field_slot, act_slot, compound_slot, fill_slot, maybe_fill_slot, node_slot, output_slot, resource_slot, first_object_slot}
 use Rattle.pst_legal.specs.Constraints.{is_refused_at}
-use Rattle.pst_new_refusals.specs.Far.{is_far_slot}
+use Rattle.pst_refusals.specs.Inlines.{is_far_slot}
 use Rattle.pst_new_refusals.specs.Since.{IsUnread}
 
 -- where an open value stands doesn't matter
@@ -123,7 +122,7 @@ same_resource m a b act c (Outer slot) = refl
 -- ---- compound actions
 
 -- what doesn't stand behind a handle belongs to the node
-at_node : (m : ModelTree) (s : Scenario) (n : ℕ) (slot : SlotTree) → is_far_slot slot ≡ false → node_slot m s n slot ≡ maybe_fill_slot m s (slice_get s.nodes n) slot
+pub at_node : (m : ModelTree) (s : Scenario) (n : ℕ) (slot : SlotTree) → is_far_slot slot ≡ false → node_slot m s n slot ≡ maybe_fill_slot m s (slice_get s.nodes n) slot
 at_node m s n (Through handle slot) near = absurd (false≢true (sym near))
 at_node m s n (Own field) near = refl
 at_node m s n (Object reference field) near = refl

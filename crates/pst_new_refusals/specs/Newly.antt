@@ -1,15 +1,20 @@
 -- What is told of constraints that may newly be refused.
-use Rattle.std.specs.Prelude.{◌≡◌, ℕ, ◌≤◌, ◌<◌, List, [], Bool, true, false, ◌&&◌, ◌||◌, Some, slice_get}
+use Rattle.std.specs.Prelude.{◌≡◌, ℕ, ◌≤◌, ◌<◌, List, [], length, Bool, true, false, ◌&&◌, ◌||◌, Option, Some, None, slice_get}
 use Rattle.std.specs.List.{list_any}
 use Rattle.pst_model.specs.ModelTree.{ModelTree}
 use Rattle.pst_scen.specs.declared.tree.Node.{Node}
+use Rattle.pst_scen.specs.declared.tree.Fill.{Fill}
+use Rattle.pst_scen.specs.declared.tree.Fill.TheVariants as fill
 use Rattle.pst_scen.specs.declared.act.Act.{Act}
 use Rattle.pst_scen.specs.declared.act.Filled.{Filled}
 use Rattle.pst_scen.specs.declared.scenario.Scenario.{Scenario}
 use Rattle.pst_legal.specs.Types.{is_state_pool}
 use Rattle.pst_legal.specs.First.{NoneRefused}
-use Rattle.pst_slots.specs.Listed.{of_act, of_fill, of_first_object}
+use Rattle.pst_slots.specs.Stated.{statement_of}
+use Rattle.pst_slots.specs.Listed.{Stating, of_act, of_fill, of_stated, of_first_object}
+use Rattle.pst_refusals.specs.Answers.{StandEarlier}
 use Rattle.pst_refusals.specs.Failing.{fails}
+use Rattle.pst_refusals.specs.Made.{of_made}
 use Rattle.pst_new_refusals.specs.Since.{IsSince}
 
 -- the nodes without actions
@@ -28,10 +33,37 @@ is_act_refused m s act = list_any (fails false) (of_act m s (0, act)) || list_an
 abbrev pub AreFree : ModelTree → Scenario → ℕ → ℕ → Type 0
 AreFree m s from end = (n : ℕ) (node : Node) → from ≤ n → n < end → slice_get s.nodes n ≡ Some node → list_any (fails false) (of_fill m s n node.fill) ≡ false
 
+abbrev pub is_leaf : Fill → Bool
+is_leaf (fill.Leaf act) = true
+is_leaf _ = false
+
+-- the inline constraints at the traversals of the other nodes from a number on, and before another one
+abbrev pub AreTraversedFree : ModelTree → Scenario → ℕ → ℕ → Type 0
+AreTraversedFree m s from end =
+    StandEarlier s.nodes → (n : ℕ) (node : Node) → from ≤ n → n < end → slice_get s.nodes n ≡ Some node → is_leaf node.fill ≡ false → list_any (fails false) (of_stated m s n (statement_of m s.nodes n)) ≡ false
+
+-- those at the traversal that makes an action
+abbrev pub of_own : ModelTree → Scenario → Act → Option ℕ → List Stating
+of_own m s act None = []
+of_own m s act (Some n) = of_made m s act (statement_of m s.nodes n)
+
+abbrev pub is_own_refused : ModelTree → Scenario → Act → Bool
+is_own_refused m s act = list_any (fails false) (of_own m s act act.node)
+
 -- where nothing is found, that is so
 abbrev pub IfNot : Bool → Type 0 → Type 0
 IfNot true P = Unit {0}
 IfNot false P = P
+
+-- of new nodes and actions, but for what stands at traversals
+pub record ArePlainFree (m : ModelTree) (s : Scenario) (from : ℕ) (fresh : List Act) : Type 0 where
+  pub nodes : AreFree m s from (length s.nodes)
+  pub acts : list_any (is_act_refused m s) fresh ≡ false
+
+-- and what does
+pub record AreInlinesFree (m : ModelTree) (s : Scenario) (from : ℕ) (fresh : List Act) : Type 0 where
+  pub nodes : AreTraversedFree m s from (length s.nodes)
+  pub acts : StandEarlier s.nodes → list_any (is_own_refused m s) fresh ≡ false
 
 -- Where the scenario of these nodes goes on from one of which no constraint is refused, none of it is.
 abbrev pub StaysFree : ModelTree → List Node → ℕ → List Act → Type 0

@@ -1,17 +1,24 @@
 //! Whether a constraint may newly be refused.
-ghost use Rattle.std.specs.Prelude.{◌≡◌, length, false, IfOk};
+ghost use Rattle.std.specs.Prelude.{◌≡◌, length, false, not, ◌&&◌, IfOk};
 ghost use Rattle.std.specs.List.{list_any};
 ghost use Rattle.pst_model.specs.ModelView.{view_model};
 ghost use Rattle.pst_model.specs.Sound.{IsSound};
 ghost use Rattle.pst_known.specs.Known.{seen};
 ghost use Rattle.pst_new_refusals.specs.Far.{has_far};
-ghost use Rattle.pst_new_refusals.specs.Newly.{is_pool_refused, is_act_refused, AreFree, IfNot, StaysFree};
+ghost use Rattle.pst_refusals.specs.Answers.{StandEarlier};
+ghost use Rattle.pst_refusals.specs.Failing.{fails};
+ghost use Rattle.pst_refusals.specs.Inlines.{has_inlines};
+ghost use Rattle.pst_slots.specs.Listed.{of_stated};
+ghost use Rattle.pst_slots.specs.Stated.{statement_of};
+ghost use Rattle.pst_new_refusals.specs.Newly.{is_pool_refused, is_act_refused, is_leaf, is_own_refused, AreFree, AreTraversedFree, ArePlainFree, AreInlinesFree, IfNot, StaysFree};
 
 use pst_base::NoMemory;
 use pst_known::Scene;
 use pst_model::Model;
-use pst_refusals::{is_act_refused, is_compound_refused, is_first_refused};
-use pst_scen::{Act, Filled, Node};
+use pst_refusals::{
+    is_act_refused, is_compound_refused, is_first_refused, is_inline_refused, is_made_refused,
+};
+use pst_scen::{Act, Fill, Filled, Node};
 use std::alloc::Global;
 
 // Of the compound actions of the nodes from a number on.
@@ -74,19 +81,121 @@ fn some_new_refused(alloc: Global, scene: &Scene<'_>, fresh: &[Act]) -> Result<b
     Ok(false)
 }
 
+// An inline constraint at the traversal of the compound action of a node of this fill.
+fn is_traversal_refused(
+    alloc: Global,
+    scene: &Scene<'_>,
+    n: usize,
+    fill: &Fill,
+) -> Result<bool, NoMemory>
+    requires { IsSound (view_model scene.now.model.now) }
+    ensures { IfOk result (λ r. StandEarlier scene.now.nodes.now → r ≡ (not (is_leaf fill.now) && list_any (fails false) (of_stated (view_model scene.now.model.now) (seen scene.now) n (statement_of (view_model scene.now.model.now) scene.now.nodes.now n)))) }
+{
+    match fill {
+        Fill::Leaf { .. } => Ok(false),
+        _ => is_inline_refused(alloc, scene, n),
+    }
+}
+
+// Of the nodes from a number on that are no leaves.
+fn some_traversal_refused(
+    alloc: Global,
+    scene: &Scene<'_>,
+    nodes: &[Node],
+    from: usize,
+) -> Result<bool, NoMemory>
+    requires sound { IsSound (view_model scene.now.model.now) }
+    requires nodes { nodes.now ≡ (seen scene.now).nodes }
+    ensures { IfOk result (λ r. IfNot r (AreTraversedFree (view_model scene.now.model.now) (seen scene.now) from (length nodes.now))) }
+{
+    for n in from..nodes.len() {
+        if is_traversal_refused(alloc, scene, n, &nodes[n].fill)? {
+            return Ok(true);
+        }
+    }
+    Ok(false)
+}
+
+// An inline constraint at the traversal of an action.
+fn is_own_refused(alloc: Global, scene: &Scene<'_>, act: &Act) -> Result<bool, NoMemory>
+    requires { IsSound (view_model scene.now.model.now) }
+    ensures { IfOk result (λ r. StandEarlier scene.now.nodes.now → r ≡ is_own_refused (view_model scene.now.model.now) (seen scene.now) act.now) }
+{
+    match act.node {
+        None => Ok(false),
+        Some(n) => is_made_refused(alloc, scene, n as usize, act),
+    }
+}
+
+// The same of each of these actions.
+fn some_own_refused(alloc: Global, scene: &Scene<'_>, fresh: &[Act]) -> Result<bool, NoMemory>
+    requires { IsSound (view_model scene.now.model.now) }
+    ensures { IfOk result (λ r. StandEarlier scene.now.nodes.now → r ≡ list_any (is_own_refused (view_model scene.now.model.now) (seen scene.now)) fresh.now) }
+{
+    for act in fresh {
+        if is_own_refused(alloc, scene, act)? {
+            return Ok(true);
+        }
+    }
+    Ok(false)
+}
+
+// Of new nodes and actions, what stands at their traversals.
+fn some_inline_refused(
+    alloc: Global,
+    scene: &Scene<'_>,
+    nodes: &[Node],
+    from: usize,
+    fresh: &[Act],
+) -> Result<bool, NoMemory>
+    requires sound { IsSound (view_model scene.now.model.now) }
+    requires nodes { nodes.now ≡ (seen scene.now).nodes }
+    ensures { IfOk result (λ r. IfNot r (AreInlinesFree (view_model scene.now.model.now) (seen scene.now) from fresh.now)) }
+{
+    let traversed = some_traversal_refused(alloc, scene, nodes, from)?;
+    if traversed {
+        return Ok(true);
+    }
+    let own = some_own_refused(alloc, scene, fresh)?;
+    Ok(own)
+}
+
+// What doesn't stand at traversals.
+fn some_plain_refused(
+    alloc: Global,
+    scene: &Scene<'_>,
+    nodes: &[Node],
+    from: usize,
+    fresh: &[Act],
+) -> Result<bool, NoMemory>
+    requires sound { IsSound (view_model scene.now.model.now) }
+    requires nodes { nodes.now ≡ (seen scene.now).nodes }
+    ensures { IfOk result (λ r. IfNot r (ArePlainFree (view_model scene.now.model.now) (seen scene.now) from fresh.now)) }
+{
+    let old = some_node_refused(alloc, scene, nodes, from)?;
+    if old {
+        return Ok(true);
+    }
+    let new = some_new_refused(alloc, scene, fresh)?;
+    Ok(new)
+}
+
 /// Whether a constraint is refused of the compound actions of the nodes from a number on, or of new
-/// actions, what they write, claim and refer to, where no value is read. Where none is, none of a
-/// scenario of these nodes is that goes on by these actions from one of which none was. What that takes
-/// doesn't grow with the scenario.
+/// actions, what they write, claim and refer to, where no value is read, or, where the model has inline
+/// constraints, at the traversals of these. Where none is, none of a scenario of these nodes is that goes
+/// on by these actions from one of which none was. What that takes doesn't grow with the scenario but by
+/// the nodes that stand before a new one in the same activity.
 pub fn some_newly_refused(
     alloc: Global,
     model: &Model,
+    inlines: bool,
     nodes: &[Node],
     from: usize,
     fresh: &[Act],
 ) -> Result<bool, NoMemory>
     requires sound { IsSound (view_model model.now) }
     requires near { has_far (view_model model.now) ≡ false }
+    requires inlines { inlines ≡ false → has_inlines (view_model model.now) ≡ false }
     ensures { IfOk result (λ r. IfNot r (StaysFree (view_model model.now) nodes.now from fresh.now)) }
 {
     let scene = Scene {
@@ -96,10 +205,13 @@ pub fn some_newly_refused(
         actions: &[],
         firsts: &[],
     };
-    let old = some_node_refused(alloc, &scene, nodes, from)?;
-    if old {
+    let plain = some_plain_refused(alloc, &scene, nodes, from, fresh)?;
+    if plain {
         return Ok(true);
     }
-    let new = some_new_refused(alloc, &scene, fresh)?;
-    Ok(new)
+    if !inlines {
+        return Ok(false);
+    }
+    let inline = some_inline_refused(alloc, &scene, nodes, from, fresh)?;
+    Ok(inline)
 }

@@ -1,8 +1,8 @@
 -- Nodes that are counted by their parents give their places.
-use Rattle.std.proofs.Common.{◌≡◌, ◌≢◌, ℕ, zero, suc, ◌+◌, ◌^◌, ◌<◌, ◌≤◌, List, [], ◌∷◌, map, Bool, true, false, cond, nat_eq, if◌then◌else◌, Option, Some, length, get_or, take, replicate, refl, sym, ap, ◌∙◌, subst, ⊎_elim, arith}
+use Rattle.std.proofs.Common.{◌≡◌, ◌≢◌, ℕ, zero, suc, ◌+◌, ◌^◌, ◌<◌, ◌≤◌, List, [], ◌∷◌, map, Bool, true, false, cond, nat_eq, if◌then◌else◌, Option, Some, None, length, get_or, take, replicate, refl, sym, ap, ◌∙◌, subst, ⊎_elim, arith}
 use Rattle.std.specs.Prelude.{slice_get}
 use Rattle.std.specs.List.{enumerate_from, filter}
-use Rattle.std.specs.Option.{option_map}
+use Rattle.std.specs.Option.{option_map, option_and_then}
 use Rattle.std.proofs.lemmas.Option.{none-some, same_Some, option_and_then_some, slice_get-get_or, slice_get_within}
 use Rattle.std.proofs.lemmas.Bool.{false≢true, eqb-true, eq-eqb, ne_eqb, cases_eq}
 use Rattle.std.proofs.lemmas.List.{get_or-replicate, length-replicate}
@@ -11,7 +11,8 @@ use Rattle.pst_scen.specs.declared.tree.Node.{Node}
 use Rattle.pst_scen.specs.Tree.{is_parent, branch_of}
 use Rattle.pst_slots.specs.Stated.{position_of, parent_of, place_in}
 use Rattle.pst_slots.proofs.Children.{kids}
-use Rattle.pst_refusals.specs.Places.{ArePlaces}
+use Rattle.pst_refusals.specs.Answers.{StandEarlier}
+use Rattle.pst_refusals.specs.Places.{ArePlaces, between}
 use Rattle.pst_refusals.specs.Counted.{AreCounted, IsPlace}
 
 -- ---- how many stand in a parent
@@ -37,7 +38,7 @@ joined x y c r s d a b rest = omega (arith, a, b, rest)
 by_first : (x : Node) (xs : List Node) (parent i : ℕ) → branch_of (x ∷ xs) parent (suc i) ≡ cond (is_parent parent x.parent) 1 0 + branch_of xs parent i
 by_first x xs parent i = sum_by-cons (λ (node : Node). cond (is_parent parent node.parent) 1 0) x (take i xs)
 
-with_next : (nodes : List Node) (parent n : ℕ) (of : Option ℕ) → n < length nodes → parent_of nodes n ≡ of → branch_of nodes parent (suc n) ≡ branch_of nodes parent n + cond (is_parent parent of) 1 0
+pub with_next : (nodes : List Node) (parent n : ℕ) (of : Option ℕ) → n < length nodes → parent_of nodes n ≡ of → branch_of nodes parent (suc n) ≡ branch_of nodes parent n + cond (is_parent parent of) 1 0
 with_next [] parent n of l e = absurd (omega (arith, l))
 with_next (x ∷ xs) parent zero of l e = by_first x xs parent zero ∙ ap (λ (o : Option ℕ). cond (is_parent parent o) 1 0 + 0) e ∙ turned (cond (is_parent parent of) 1 0)
 with_next (x ∷ xs) parent (suc n) of l e =
@@ -87,8 +88,46 @@ counted_place k (x ∷ xs) parent zero n e is =
 counted_place k (x ∷ xs) parent (suc i) n e is =
     by_test n k (branch_of xs parent i) parent x xs (is_parent parent x.parent) (λ same. omega (arith, e, same)) (counted_place (k + 1) xs parent i n (omega (arith, e)) is) ∙ ap Some (sym (by_first x xs parent i))
 
-place_is : (nodes : List Node) (n parent : ℕ) → parent_of nodes n ≡ Some parent → place_in nodes parent n ≡ Some (branch_of nodes parent n)
+pub place_is : (nodes : List Node) (n parent : ℕ) → parent_of nodes n ≡ Some parent → place_in nodes parent n ≡ Some (branch_of nodes parent n)
 place_is nodes n parent is = counted_place 0 nodes parent n n (none_before n) is
+
+-- ---- the nodes between a parent and another one
+
+pub rising : (nodes : List Node) (parent a b : ℕ) → a ≤ b → branch_of nodes parent a ≤ branch_of nodes parent b
+rising nodes parent zero b l = low (branch_of nodes parent b)
+rising [] parent (suc a) b l = low (branch_of [] parent b)
+rising (x ∷ xs) parent (suc a) zero l = absurd (omega (arith, l))
+rising (x ∷ xs) parent (suc a) (suc b) l = omega (arith, by_first x xs parent a, by_first x xs parent b, rising xs parent a b (omega (arith, l)))
+
+none_before_it : (nodes : List Node) (parent k : ℕ) → k ≤ length nodes → ((j : ℕ) → j < k → is_parent parent (parent_of nodes j) ≡ false) → branch_of nodes parent k ≡ 0
+none_before_it nodes parent zero l none = refl
+none_before_it nodes parent (suc k) l none =
+    with_next nodes parent k (parent_of nodes k) (omega (arith, l)) refl
+    ∙ ap (λ (b : Bool). branch_of nodes parent k + cond b 1 0) (none k (omega arith))
+    ∙ none_more (branch_of nodes parent k)
+    ∙ none_before_it nodes parent k (omega (arith, l)) (λ j below. none j (omega (arith, below)))
+
+not_its_own : (nodes : List Node) → StandEarlier nodes → (parent j : ℕ) → j < parent + 1 → is_parent parent (parent_of nodes j) ≡ false
+not_its_own nodes earlier parent j l = by (parent_of nodes j) refl
+  where
+    by : (o : Option ℕ) → parent_of nodes j ≡ o → is_parent parent o ≡ false
+    by None e = refl
+    by (Some p) e = ne_eqb parent p (λ same.
+        option_and_then_some (λ (node : Node). node.parent) (slice_get nodes j) p e (λ node at on. let less = earlier j p node at on in omega (arith, same, less, l)))
+
+-- where each parent stands before its nodes, these are all that stand in it before the node
+pub behind_place : (nodes : List Node) (n parent : ℕ) → StandEarlier nodes → parent_of nodes n ≡ Some parent → parent < length nodes → Some (between nodes parent n) ≡ place_in nodes parent n
+behind_place nodes n parent earlier is inside =
+    let none : branch_of nodes parent (parent + 1) ≡ 0 = none_before_it nodes parent (parent + 1) (omega (arith, inside)) (λ j l. not_its_own nodes earlier parent j l) in
+    let all : between nodes parent n ≡ branch_of nodes parent n = omega (arith, none) in
+    ap Some all ∙ sym (place_is nodes n parent is)
+
+-- one node more
+pub one_between : (nodes : List Node) (parent first k count : ℕ) (node : Node) (b : Bool) → slice_get nodes k ≡ Some node → b ≡ is_parent parent node.parent
+    → branch_of nodes parent k ≡ branch_of nodes parent first + count → branch_of nodes parent (k + 1) ≡ branch_of nodes parent first + (count + cond b 1 0)
+one_between nodes parent first k count node b at test so_far =
+    let more = next nodes parent k node.parent b (slice_get_within nodes k node at) (ap (option_and_then (λ (x : Node). x.parent)) at) (sym test) in
+    omega (arith, so_far, more)
 
 -- ---- tables
 

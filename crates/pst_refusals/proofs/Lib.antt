@@ -5,3 +5,4 @@ pub mod Within
 pub mod Counting
 pub mod Rows
 pub mod Without
+pub mod Placed

@@ -4,3 +4,5 @@ pub mod Answers
 pub mod Places
 pub mod Counted
 pub mod Inlines
+pub mod Within
+pub mod Made

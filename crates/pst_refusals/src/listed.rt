@@ -44,8 +44,8 @@ pub(crate) fn of_fill(
     }
 }
 
-// Of a statement that a node stands for.
-fn of_step(
+/// Of a statement that a node stands for.
+pub(crate) fn of_step(
     alloc: Global,
     scene: &Scene<'_>,
     n: usize,

@@ -1,7 +1,9 @@
 //! Where nodes stand in their parents.
-ghost use Rattle.std.specs.Prelude.{◌≡◌, ◌≢◌, ◌<◌, ◌+◌, ◌^◌, ℕ, IfOk, length, get_or, replicate, slice_get};
+ghost use Rattle.std.specs.Prelude.{◌≡◌, ◌≢◌, ◌<◌, ◌≤◌, ◌+◌, ◌^◌, cond, ℕ, IfOk, length, get_or, replicate, slice_get};
 ghost use Rattle.pst_slots.specs.Stated.{parent_of};
-ghost use Rattle.pst_refusals.specs.Places.{ArePlaces};
+ghost use Rattle.std.specs.Option.{option_map};
+ghost use Rattle.pst_scen.specs.Tree.{is_parent};
+ghost use Rattle.pst_refusals.specs.Places.{ArePlaces, between, place_by};
 ghost use Rattle.pst_refusals.specs.Counted.{AreCounted, IsPlace};
 
 use pst_base::NoMemory;
@@ -84,12 +86,61 @@ pub fn places_of(alloc: Global, nodes: &[Node]) -> Result<Vec<usize>, NoMemory>
     Ok(places)
 }
 
-/// The entry of a table of places for the node of that number.
-pub(crate) fn place_at(places: &[usize], n: usize) -> Option<usize>
+// The entry of a table of places for the node of that number.
+fn place_at(places: &[usize], n: usize) -> Option<usize>
     ensures { result ≡ slice_get places.now n }
 {
     match places.get(n) {
         None => None,
         Some(place) => Some(*place),
+    }
+}
+
+// Whether a node stands directly in a parent.
+fn stands_in(node: &Node, parent: usize) -> bool
+    ensures { result ≡ is_parent parent node.now.parent }
+{
+    match node.parent {
+        None => false,
+        Some(over) => parent == over as usize,
+    }
+}
+
+// So many, and one more where that is so.
+fn with_one(count: usize, more: bool) -> usize
+    requires { count + 1 < 2 ^ 64 }
+    ensures { result ≡ count + cond more 1 0 }
+{
+    if more { count + 1 } else { count }
+}
+
+// How many nodes behind a parent and before the node of that number stand directly in the parent.
+fn count_between(nodes: &[Node], parent: usize, n: usize) -> usize
+    requires { n ≤ length nodes.now }
+    ensures { result ≡ between nodes.now parent n }
+{
+    if parent >= n {
+        return 0;
+    }
+    let mut count = 0;
+    for k in parent + 1..n {
+        count = with_one(count, stands_in(&nodes[k], parent));
+    }
+    count
+}
+
+/// The place of a node in its parent, by a table of places, or by the nodes between the two.
+pub(crate) fn place_of(
+    nodes: &[Node],
+    places: Option<&[usize]>,
+    n: usize,
+    parent: usize,
+) -> Option<usize>
+    requires { n ≤ length nodes.now }
+    ensures { result ≡ place_by nodes.now (option_map (λ t. t.now) places.entry) n parent }
+{
+    match places {
+        Some(places) => place_at(places, n),
+        None => Some(count_between(nodes, parent, n)),
     }
 }

@@ -2,7 +2,9 @@
 ghost use Rattle.std.specs.Prelude.{◌≡◌, IfOk};
 ghost use Rattle.pst_model.specs.ConstraintTree.{view_slot};
 ghost use Rattle.pst_model.specs.Sound.{IsSound};
-ghost use Rattle.pst_known.specs.Known.{known_of};
+ghost use Rattle.pst_model.specs.ModelView.{view_model};
+ghost use Rattle.pst_legal.specs.Slots.{act_slot as act_standing};
+ghost use Rattle.pst_known.specs.Known.{known_of, seen};
 
 use pst_base::NoMemory;
 use pst_known::{
@@ -164,5 +166,41 @@ impl Site for InlineSite<'_> {
 
     fn known(&self, alloc: Global, slot: &Slot) -> Result<Known, NoMemory> {
         inline_slot(alloc, self.scene, self.node, self.top, self.indices, slot)
+    }
+}
+
+// What belongs to an action that is looked at by itself.
+fn own_slot(scene: &Scene<'_>, act: &Act, slot: &Slot) -> Known
+    requires { IsSound (view_model scene.now.model.now) }
+    ensures { result ≡ known_of (act_standing (view_model scene.now.model.now) (seen scene.now) 0 act.now (view_slot slot.now)) }
+{
+    act_slot(scene, act, slot)
+}
+
+/// A constraint at the traversal of an action that is looked at by itself, in the activity of the
+/// compound action of node `top`, in turns of these numbers.
+#[derive(Clone, Copy)]
+pub(crate) struct MadeSite<'a> {
+    pub(crate) scene: &'a Scene<'a>,
+    pub(crate) act: &'a Act,
+    pub(crate) top: usize,
+    pub(crate) indices: &'a [u32],
+}
+
+impl Site for MadeSite<'_> {
+    ghost use Rattle.pst_model.specs.ModelView.{view_model};
+    ghost use Rattle.pst_known.specs.Known.{seen};
+    ghost use Rattle.pst_refusals.specs.Made.{made_slot as made_standing};
+
+    ghost of = { λ x. view_model x.scene.now.model.now };
+
+    ghost standing = { λ x. made_standing (view_model x.scene.now.model.now) (seen x.scene.now) x.act.now x.top x.indices.now };
+
+    fn known(&self, alloc: Global, slot: &Slot) -> Result<Known, NoMemory> {
+        match slot {
+            Slot::Outer { .. } => inline_slot(alloc, self.scene, 0, self.top, self.indices, slot),
+            Slot::Index { .. } => inline_slot(alloc, self.scene, 0, self.top, self.indices, slot),
+            _ => Ok(own_slot(self.scene, self.act, slot)),
+        }
     }
 }

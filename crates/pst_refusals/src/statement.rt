@@ -6,12 +6,14 @@ ghost use Rattle.pst_model.specs.declared.activity.Arm.{Arm as TheArm};
 ghost use Rattle.pst_model.specs.ModelView.{view_model, view_step};
 ghost use Rattle.pst_scen.specs.declared.tree.Fill.TheVariants as fill;
 ghost use Rattle.pst_legal.specs.Statements.{step_below};
-ghost use Rattle.pst_slots.specs.Stated.{part_at, repeated_in, stated_within, statement_of, at_place};
+ghost use Rattle.pst_slots.specs.Stated.{part_at, repeated_in, statement_of, at_place};
 ghost use Rattle.pst_slots.specs.Stated.{parent_of as parent_in};
+ghost use Rattle.pst_refusals.specs.Answers.{StandEarlier};
 ghost use Rattle.pst_refusals.specs.Founds.{stated_of, stated_at, step_at};
-ghost use Rattle.pst_refusals.specs.Places.{ArePlaces};
+ghost use Rattle.pst_refusals.specs.Places.{ArePlaces, place_by};
+ghost use Rattle.pst_refusals.specs.Within.{stated_by};
 
-use crate::places::{parent_of, place_at};
+use crate::places::{parent_of, place_of};
 use pst_base::NoMemory;
 use pst_model::{Arm, Branch, Content, Model, Step};
 use pst_scen::{Fill, Node};
@@ -220,18 +222,17 @@ fn in_turn<'a>(
     alloc: Global,
     model: &'a Model,
     nodes: &[Node],
-    places: &[usize],
+    places: Option<&[usize]>,
     levels: usize,
     parent: usize,
     index: u32,
 ) -> Result<Option<Stated<'a>>, NoMemory>
-    requires { ArePlaces nodes.now places.now }
-    ensures { IfOk result (λ found. option_map stated_of found ≡ option_and_then (repeated_in index) (option_and_then (stated_within (view_model model.now) nodes.now levels) (parent_in nodes.now parent))) }
+    ensures { IfOk result (λ found. option_map stated_of found ≡ option_and_then (repeated_in index) (option_and_then (stated_by (view_model model.now) nodes.now (place_by nodes.now (option_map (λ t. t.now) places.entry)) levels) (parent_in nodes.now parent))) }
 {
     let Some(over) = parent_of(nodes, parent) else {
         return Ok(None);
     };
-    match stated_within(alloc, model, nodes, places, levels, over)? {
+    match stated_by(alloc, model, nodes, places, levels, over)? {
         None => Ok(None),
         Some(above) => repeated_in(above.top, above.step, above.indices, index),
     }
@@ -243,16 +244,15 @@ fn in_part<'a>(
     alloc: Global,
     model: &'a Model,
     nodes: &[Node],
-    places: &[usize],
+    places: Option<&[usize]>,
     levels: usize,
     parent: usize,
     fill: &Fill,
     place: Option<usize>,
 ) -> Result<Option<Stated<'a>>, NoMemory>
-    requires { ArePlaces nodes.now places.now }
-    ensures { IfOk result (λ found. option_map stated_of found ≡ option_and_then (λ above. option_and_then (part_at fill.now above) place) (stated_within (view_model model.now) nodes.now levels parent)) }
+    ensures { IfOk result (λ found. option_map stated_of found ≡ option_and_then (λ above. option_and_then (part_at fill.now above) place) (stated_by (view_model model.now) nodes.now (place_by nodes.now (option_map (λ t. t.now) places.entry)) levels parent)) }
 {
-    match stated_within(alloc, model, nodes, places, levels, parent)? {
+    match stated_by(alloc, model, nodes, places, levels, parent)? {
         None => Ok(None),
         Some(above) => match place {
             None => Ok(None),
@@ -263,16 +263,15 @@ fn in_part<'a>(
 
 // The statement that a node stands for, with at most so many nodes on the way up.
 #[cycle(statements)]
-fn stated_within<'a>(
+fn stated_by<'a>(
     alloc: Global,
     model: &'a Model,
     nodes: &[Node],
-    places: &[usize],
+    places: Option<&[usize]>,
     levels: usize,
     n: usize,
 ) -> Result<Option<Stated<'a>>, NoMemory>
-    requires { ArePlaces nodes.now places.now }
-    ensures { IfOk result (λ found. option_map stated_of found ≡ stated_within (view_model model.now) nodes.now levels n) }
+    ensures { IfOk result (λ found. option_map stated_of found ≡ stated_by (view_model model.now) nodes.now (place_by nodes.now (option_map (λ t. t.now) places.entry)) levels n) }
 {
     if levels == 0 {
         return Ok(None);
@@ -283,12 +282,17 @@ fn stated_within<'a>(
     let Some(node) = nodes.get(parent) else {
         return Ok(None);
     };
-    let place = place_at(places, n);
     match &node.fill {
-        Fill::Compound { action, .. } => Ok(at_top(alloc, model, parent, *action, place)),
+        Fill::Compound { action, .. } => {
+            let place = place_of(nodes, places, n, parent);
+            Ok(at_top(alloc, model, parent, *action, place))
+        }
         Fill::Turn { index } => in_turn(alloc, model, nodes, places, levels - 1, parent, *index),
         Fill::Repeat => Ok(None),
-        fill => in_part(alloc, model, nodes, places, levels - 1, parent, fill, place),
+        fill => {
+            let place = place_of(nodes, places, n, parent);
+            in_part(alloc, model, nodes, places, levels - 1, parent, fill, place)
+        }
     }
 }
 
@@ -303,5 +307,20 @@ pub fn statement_of<'a>(
     requires { ArePlaces nodes.now places.now }
     ensures { IfOk result (λ found. option_map stated_of found ≡ statement_of (view_model model.now) nodes.now n) }
 {
-    stated_within(alloc, model, nodes, places, nodes.len(), n)
+    let found = stated_by(alloc, model, nodes, Some(places), nodes.len(), n)?;
+    Ok(found)
+}
+
+/// The statement that a node stands for, where each node's parent stands before it. Only the nodes
+/// between this one and the compound action round it are looked at.
+pub fn statement_behind<'a>(
+    alloc: Global,
+    model: &'a Model,
+    nodes: &[Node],
+    n: usize,
+) -> Result<Option<Stated<'a>>, NoMemory>
+    ensures { IfOk result (λ found. StandEarlier nodes.now → option_map stated_of found ≡ statement_of (view_model model.now) nodes.now n) }
+{
+    let found = stated_by(alloc, model, nodes, None, nodes.len(), n)?;
+    Ok(found)
 }

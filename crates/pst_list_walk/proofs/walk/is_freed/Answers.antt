@@ -14,4 +14,4 @@ returns c = λ so root seed level digit.
     let nodes = c.nodes.result.now in
     let fresh = c.in-Some.fresh in
     freed_on c.args.model.now root seed level digit c.args.size c.args.nodes c.args.links.now nodes fresh (subst (IsNews c.args.links.now c.args.size) c.in-Some.is c.in-Ok.ensures) c.nodes.ensures
-    (subst (λ n. StaysFree m nodes n fresh.items) c.saturating_sub.ensures (subst (StaysFree m nodes c.saturating_sub.result) c.deref.ensures.value (c.is_unrefused.ensures so)))
+    (subst (λ n. StaysFree m nodes n fresh.items) c.saturating_sub-from.ensures (subst (StaysFree m nodes c.saturating_sub-from.result) c.deref.ensures.value (c.is_unrefused.ensures so)))

@@ -1,6 +1,5 @@
-use Rattle.std.proofs.Common.{◌≡◌, ◌≤◌, length, refl, arith}
+use Rattle.std.proofs.Common.{length, refl}
 use Rattle.pst_model.specs.ModelView.{view_model}
-use Rattle.pst_shape.specs.Walks.{IfRead}
 use Rattle.pst_link_walk.specs.Walks.{answer as link_answer}
 use Rattle.pst_list_walk.proofs.Going.{counted}
 use Rattle.pst_list_walk.proofs.Free.{nothing_read}

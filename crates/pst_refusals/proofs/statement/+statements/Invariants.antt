@@ -1,8 +1,8 @@
 use Rattle.std.proofs.Common.{◌+◌, ◌*◌}
 use Rattle.pst_refusals.proofs.statement.+statements.Given as goal
 
-abbrev pub decreases-stated_within : goal.decreases-stated_within
-decreases-stated_within l = 2 * l.levels
+abbrev pub decreases-stated_by : goal.decreases-stated_by
+decreases-stated_by l = 2 * l.levels
 
 abbrev pub decreases-in_turn : goal.decreases-in_turn
 decreases-in_turn l = 2 * l.levels + 1

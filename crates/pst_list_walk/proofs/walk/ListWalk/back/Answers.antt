@@ -21,6 +21,7 @@ invariant_of-self c =
     record {
       sound = c.self.invariant.sound;
       near = c.self.invariant.near;
+      inlines = c.self.invariant.inlines;
       linked = c.self.invariant.linked;
       free = c.self.invariant.free;
       links = c.self.invariant.links;
@@ -49,6 +50,7 @@ invariant_of-self-2 c =
     record {
       sound = c.self.invariant.sound;
       near = c.self.invariant.near;
+      inlines = c.self.invariant.inlines;
       linked = c.saturating_sub-self-inside.ensures ∙ linked_before w.model.now w.root w.seed w.level w.links new d w.linked e c.self.invariant.linked;
       free = free_before w.model.now w.root w.seed w.level w.links new d w.free w.linked c.least-self-inside.result e c.self.invariant.linked c.least-self-inside.ensures.first c.least-self-inside.ensures.second c.self.invariant.free;
       links = link_before w.model.now w.root w.seed w.level w.links new d c.self.invariant.links e;

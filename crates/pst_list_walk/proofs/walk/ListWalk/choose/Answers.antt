@@ -27,6 +27,7 @@ invariant_of-self-in-Some c =
     record {
       sound = c.self.invariant.sound;
       near = c.self.invariant.near;
+      inlines = c.self.invariant.inlines;
       linked = c.self.invariant.linked;
       free = c.self.invariant.free;
       links = c.self.invariant.links;
@@ -59,6 +60,7 @@ invariant_of-self-in-None c =
     record {
       sound = c.self.invariant.sound;
       near = c.self.invariant.near;
+      inlines = c.self.invariant.inlines;
       linked = c.in_ok-linked-in-None.ensures ∙ goes_linked w.model.now w.root w.seed w.level w.links.choices new c.args.digit w.linked after c.self.invariant.linked goes;
       free = goes_free w.model.now w.root w.seed w.level w.links w.values new c.args.digit w.free w.linked c.free_behind-self-inside.result c.size-size.result (length c.nodes-nodes.result.now) c.nodes-nodes.result.now after c.is_freed-is_freed.result c.self.invariant.links
           c.self.invariant.linked c.self.invariant.free goes (link_digit w.model.now w.root w.seed w.level w.links w.values c.args.digit c.self.invariant.links c.in-None.is c.self.invariant.stands (subst (λ x. HasDigit (answer x) c.args.digit) (sym c.self.view_is) c.requires))

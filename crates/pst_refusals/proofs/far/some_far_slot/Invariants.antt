@@ -1,8 +1,8 @@
 use Rattle.std.proofs.Common.{◌≡◌, map, drop}
 use Rattle.std.specs.List.{list_any}
 use Rattle.pst_model.specs.ConstraintTree.{view_slot}
-use Rattle.pst_new_refusals.specs.Far.{is_far_slot}
-use Rattle.pst_new_refusals.proofs.far.some_far_slot.Given as goal
+use Rattle.pst_refusals.specs.Inlines.{is_far_slot}
+use Rattle.pst_refusals.proofs.far.some_far_slot.Given as goal
 
 abbrev pub invariant-loop-slot : goal.invariant-loop-slot
 invariant-loop-slot l = list_any is_far_slot (map view_slot (drop l.slot-index l.slots)) ≡ list_any is_far_slot (map view_slot l.slots)

@@ -1,8 +1,8 @@
 use Rattle.std.proofs.Common.{◌≡◌, map, drop}
 use Rattle.std.specs.List.{list_any}
 use Rattle.pst_model.specs.ConstraintTree.{view_constraint}
-use Rattle.pst_new_refusals.specs.Far.{is_far}
-use Rattle.pst_new_refusals.proofs.far.some_far.Given as goal
+use Rattle.pst_refusals.specs.Inlines.{is_far}
+use Rattle.pst_refusals.proofs.far.some_far.Given as goal
 
 abbrev pub invariant-loop-constraint : goal.invariant-loop-constraint
 invariant-loop-constraint l = list_any is_far (map view_constraint (drop l.constraint-index l.constraints)) ≡ list_any is_far (map view_constraint l.constraints)
