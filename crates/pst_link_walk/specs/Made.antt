@@ -1,7 +1,8 @@
 -- The invariant of a walk.
-use Rattle.std.specs.Prelude.{◌≡◌, ℕ, List, [], ◌∷◌, ◌++◌, length, map, Option, Some, None}
+use Rattle.std.specs.Prelude.{◌≡◌, ℕ, List, [], ◌∷◌, ◌++◌, length, map, Option, Some, None, IsTrue}
 use Rattle.pst_model.specs.declared.model.Model.{Model}
 use Rattle.pst_model.specs.ModelView.{view_model}
+use Rattle.pst_model.specs.Served.{IsInOrder}
 use Rattle.pst_scen.specs.declared.scenario.Scenario.{Scenario}
 use Rattle.pst_legal.specs.Reading.{Reading, Wants, Stops, Reads}
 use Rattle.pst_legal.specs.SupplyReading.{read_supply}
@@ -54,6 +55,7 @@ abbrev pub kept_by : Inside → Kept
 kept_by w = record { model = w.model.now; root = w.root; seed = w.seed; level = w.level; choices = w.shape.choices ++ choices_of w.supply }
 
 pub record IsKept (w : Inside) : Type 0 where
+  pub order : IsTrue w.in_order → IsInOrder (view_model w.model.now).served
   pub shape : w.shape ≡ shape_of w.model.now w.root w.seed w.shape.choices
   pub made : w.made ≡ length w.shape.choices
   pub linked : w.linked ≡ length (choices_of w.supply)

@@ -1,6 +1,7 @@
 //! Walks through the choices of an activity and of its sources.
-ghost use Rattle.std.specs.Prelude.{◌≡◌, ℕ, ◌+◌, ◌++◌, ◌<◌, true, IfOk, OnOk, OnErr, length, slice_get, []};
+ghost use Rattle.std.specs.Prelude.{◌≡◌, ℕ, ◌+◌, ◌++◌, ◌<◌, true, IfOk, OnOk, OnErr, length, slice_get, [], IsTrue};
 ghost use Rattle.pst_model.specs.ModelView.{view_model};
+ghost use Rattle.pst_model.specs.Served.{IsInOrder};
 ghost use Rattle.pst_legal.specs.ValueReading.{answer_of};
 ghost use Rattle.pst_shape.specs.Walks.{next_of, IfRead, HasDigit};
 ghost use Rattle.pst_link_walk.specs.Walks.{with_choice, tree_reading, reading, answer, IsUsed, AtEnd, HasTree};
@@ -10,22 +11,25 @@ ghost use Rattle.pst_link_walk.specs.News.{IsSize, IsNews, OpensFrom, AreChanged
 use pst_base::NoMemory;
 use pst_copies::{copy_act, copy_acts};
 use pst_model::Model;
-use pst_open_ends::{Change, Relinked, open_acts};
+use pst_open_ends::{Change, Relinked, open_leaves, serves_in_order};
 use pst_scen::{Act, Next, Node};
 use pst_shape::Walk;
 use pst_supply::SupplyWalk;
 use std::alloc::Global;
 
-// The walk over the sources, where the activity is read through.
+// The walk over the sources, where the activity is read through. `in_order`: the entries for what serves
+// references stand in order.
 fn begin<'a>(
     alloc: Global,
     model: &'a Model,
+    in_order: bool,
     shape: &Walk<'a>,
     root: u32,
     seed: u64,
     place: u64,
     level: u32,
 ) -> Result<Option<SupplyWalk<'a>>, NoMemory>
+    requires order { IsTrue in_order → IsInOrder (view_model model.now).served }
     requires shape { shape.now ≡ shape_of model.now root seed shape.now.choices }
     requires place { place ≡ length shape.now.choices }
     requires used { IsUsed (tree_reading model.now root seed level shape.now.choices) }
@@ -33,9 +37,10 @@ fn begin<'a>(
 {
     match shape.next() {
         Next::Whole => {
-            let supply = SupplyWalk::new(
+            let supply = SupplyWalk::with_order(
                 alloc,
                 model,
+                in_order,
                 shape.nodes(),
                 shape.leaves(),
                 seed,
@@ -62,6 +67,7 @@ fn sum(count: u64, more: u64) -> Result<u64, NoMemory>
 fn choose_shape<'a>(
     alloc: Global,
     model: &'a Model,
+    in_order: bool,
     shape: &mut Walk<'a>,
     root: u32,
     seed: u64,
@@ -69,6 +75,7 @@ fn choose_shape<'a>(
     level: u32,
     digit: u64,
 ) -> Result<Option<SupplyWalk<'a>>, NoMemory>
+    requires order { IsTrue in_order → IsInOrder (view_model model.now).served }
     requires shape { shape.old ≡ shape_of model.now root seed shape.old.choices }
     requires made { made ≡ length shape.old.choices + 1 }
     requires inside { IsInside (tree_reading model.now root seed level shape.old.choices) }
@@ -78,7 +85,7 @@ fn choose_shape<'a>(
 {
     let _stands = shape.next();
     shape.choose(digit)?;
-    match begin(alloc, model, shape, root, seed, made, level) {
+    match begin(alloc, model, in_order, shape, root, seed, made, level) {
         Ok(supply) => Ok(supply),
         Err(error) => {
             shape.back();
@@ -91,9 +98,11 @@ fn choose_shape<'a>(
 fn growth(
     alloc: Global,
     model: &Model,
+    in_order: bool,
     leaves: &[Act],
     size: Option<usize>,
 ) -> Result<Option<Vec<Act>>, NoMemory>
+    requires { IsTrue in_order → IsInOrder (view_model model.now).served }
     ensures { IfOk result (λ acts. OpensFrom (view_model model.now) leaves.now size acts) }
 {
     let Some(size) = size else {
@@ -102,7 +111,7 @@ fn growth(
     if size > leaves.len() {
         return Ok(None);
     }
-    let acts = open_acts(alloc, model, &leaves[size..])?;
+    let acts = open_leaves(alloc, model, in_order, &leaves[size..])?;
     Ok(Some(acts))
 }
 
@@ -153,6 +162,7 @@ fn changed(alloc: Global, acts: &[Act], change: &Change) -> Result<Option<Vec<Ac
 pub struct LinkWalk<'a> {
     alloc: Global,
     model: &'a Model,
+    in_order: bool,
     root: u32,
     seed: u64,
     level: u32,
@@ -191,11 +201,13 @@ impl<'a> LinkWalk<'a> {
     ) -> Result<LinkWalk<'a>, NoMemory>
         ensures { IfOk result (λ w. w ≡ record { model = model.now; root = root; seed = seed; level = level; choices = [] }) }
     {
+        let in_order = serves_in_order(model);
         let shape = Walk::new(alloc, model, root, seed)?;
-        let supply = begin(alloc, model, &shape, root, seed, 0, level)?;
+        let supply = begin(alloc, model, in_order, &shape, root, seed, 0, level)?;
         Ok(LinkWalk {
             alloc,
             model,
+            in_order,
             root,
             seed,
             level,
@@ -260,7 +272,7 @@ impl<'a> LinkWalk<'a> {
     {
         match &self.supply {
             None => {
-                let acts = open_acts(self.alloc, self.model, self.shape.leaves())?;
+                let acts = open_leaves(self.alloc, self.model, self.in_order, self.shape.leaves())?;
                 Ok(acts)
             }
             Some(supply) => {
@@ -287,12 +299,24 @@ impl<'a> LinkWalk<'a> {
     {
         match &self.supply {
             None => {
-                let acts = growth(self.alloc, self.model, self.shape.leaves(), size)?;
+                let acts = growth(
+                    self.alloc,
+                    self.model,
+                    self.in_order,
+                    self.shape.leaves(),
+                    size,
+                )?;
                 Ok(acts)
             }
             Some(supply) => match supply.change() {
                 None => {
-                    let acts = growth(self.alloc, self.model, self.shape.leaves(), size)?;
+                    let acts = growth(
+                        self.alloc,
+                        self.model,
+                        self.in_order,
+                        self.shape.leaves(),
+                        size,
+                    )?;
                     Ok(acts)
                 }
                 Some(change) => {
@@ -321,6 +345,7 @@ impl<'a> LinkWalk<'a> {
                 let supply = choose_shape(
                     self.alloc,
                     self.model,
+                    self.in_order,
                     &mut self.shape,
                     self.root,
                     self.seed,

@@ -4,3 +4,4 @@ pub mod Supplies
 pub mod Rows
 pub mod Lookups
 pub mod News
+pub mod Nexts

@@ -7,9 +7,8 @@ ghost use Rattle.pst_scen.specs.Scenarios.{leaves_of};
 ghost use Rattle.pst_legal.specs.Growing.{open_reference, open_references, open_act};
 ghost use Rattle.pst_legal.specs.Types.{type_of};
 ghost use Rattle.pst_open_ends.specs.Changes.{opened, is_leaf};
-ghost use Rattle.pst_open_ends.specs.Beyond.{AreNew};
 
-use crate::beyond::{NewSources, pool_of, reference_flow, serves_in_order};
+use crate::beyond::{pool_of, reference_flow};
 use pst_base::{Items, NoMemory};
 use pst_model::{Model, Reference};
 use pst_scen::{Act, Fill, Filled, Link, Node};
@@ -95,9 +94,9 @@ pub(crate) fn open_act(
     })
 }
 
-// The leaves with their references, none of which is linked yet. `in_order`: the entries for what
-// serves references stand in order.
-fn open_all(
+/// The leaves with their references, none of which is linked yet. `in_order`: the entries for what
+/// serves references stand in order.
+pub fn open_leaves(
     alloc: Global,
     model: &Model,
     in_order: bool,
@@ -119,25 +118,6 @@ fn open_all(
         acts.push(act)?;
     }
     Ok(acts)
-}
-
-/// The leaves with their references, none of which is linked yet.
-pub fn open_acts(alloc: Global, model: &Model, leaves: &[Act]) -> Result<Vec<Act>, NoMemory>
-    ensures { IfOk result (λ acts. acts.items ≡ map (opened (view_model model.now)) leaves.now) }
-{
-    open_all(alloc, model, serves_in_order(model), leaves)
-}
-
-/// The same, where the references of new actions are known.
-pub fn open_leaves(
-    alloc: Global,
-    beyond: &NewSources<'_>,
-    leaves: &[Act],
-) -> Result<Vec<Act>, NoMemory>
-    requires { AreNew beyond.now }
-    ensures { IfOk result (λ acts. acts.items ≡ map (opened (view_model beyond.now.model.now)) leaves.now) }
-{
-    open_all(alloc, beyond.model, beyond.in_order, leaves)
 }
 
 fn is_leaf(fill: &Fill) -> bool

@@ -26,7 +26,7 @@ use std::alloc::Global;
 pub struct NewSources<'a> {
     /// The model that says which actions there may be.
     pub model: &'a Model,
-    /// How many actions are to be inferred. Where none is, no reference is kept.
+    /// How many actions are to be inferred. Where none is, or no reference wants a source, none is kept.
     pub level: u32,
     /// Whether the entries for what serves references are known to stand in order.
     pub in_order: bool,
@@ -35,7 +35,7 @@ pub struct NewSources<'a> {
 }
 
 /// Whether the entries for what serves references stand in order.
-pub(crate) fn serves_in_order(model: &Model) -> bool
+pub fn serves_in_order(model: &Model) -> bool
     ensures { IsTrue result → IsInOrder (view_model model.now).served }
 {
     is_in_order(model.served.as_slice())
@@ -249,17 +249,24 @@ fn all_pools(alloc: Global, model: &Model, in_order: bool) -> Result<Vec<NewEnds
 }
 
 impl<'a> NewSources<'a> {
-    /// Those of a model, where so many actions are to be inferred.
-    pub fn new(alloc: Global, model: &'a Model, level: u32) -> Result<NewSources<'a>, NoMemory>
+    /// Those of a model, where so many actions are to be inferred. `in_order`: the entries for what serves
+    /// references stand in order. `wanted`: some reference wants a source; else none is kept, at no cost.
+    pub fn new(
+        alloc: Global,
+        model: &'a Model,
+        in_order: bool,
+        level: u32,
+        wanted: bool,
+    ) -> Result<NewSources<'a>, NoMemory>
+        requires { IsTrue in_order → IsInOrder (view_model model.now).served }
         ensures model { IfOk result (λ news. news.model.now ≡ model.now) }
         ensures level { IfOk result (λ news. news.level ≡ level) }
-        ensures new { IfOk result (λ news. AreNew news) }
+        ensures new { IfOk result (λ news. IsTrue wanted → AreNew news) }
     {
-        let in_order = serves_in_order(model);
-        let pools = if level == 0 {
-            Vec::new(alloc)
-        } else {
+        let pools = if wanted && level > 0 {
             all_pools(alloc, model, in_order)?
+        } else {
+            Vec::new(alloc)
         };
         Ok(NewSources {
             model,

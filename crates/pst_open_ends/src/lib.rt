@@ -16,10 +16,10 @@ mod options;
 mod spot;
 mod turns;
 
-pub use acts::{leaf_count, open_acts, open_leaves};
-pub use beyond::NewSources;
+pub use acts::{leaf_count, open_leaves};
+pub use beyond::{NewSources, serves_in_order};
 pub use links::{Change, Ends, Relinked, supply, take_back};
 pub use new_ends::NewEnds;
 pub use options::sources;
 pub use spot::{Source, Spot};
-pub use turns::next_need;
+pub use turns::{next_need, next_wanting};

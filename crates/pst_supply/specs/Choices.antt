@@ -1,5 +1,5 @@
 -- The choices of a walk, and what one of them does.
-use Rattle.std.specs.Prelude.{◌≡◌, ℕ, List, [], ◌∷◌, ◌++◌, length, Option, Some, None, map, slice_get}
+use Rattle.std.specs.Prelude.{◌≡◌, ◌⊎◌, ℕ, List, [], ◌∷◌, ◌++◌, length, Option, Some, None, map, slice_get}
 use Rattle.pst_rng.specs.Words.{start_of}
 use Rattle.pst_model.specs.declared.model.Model.{Model}
 use Rattle.pst_model.specs.ModelTree.{ModelTree}
@@ -12,6 +12,7 @@ use Rattle.pst_open_ends.specs.declared.links.Change.{Change}
 use Rattle.pst_pool_sources.specs.Offers.{AreSources}
 use Rattle.pst_open_ends.specs.Beyond.{AreNew}
 use Rattle.pst_open_ends.specs.Changes.{opened, Supplies}
+use Rattle.pst_open_ends.specs.Turns.{AreNexts}
 use Rattle.pst_free_ends.specs.Steps.{NoneAhead}
 use Rattle.pst_supply.specs.declared.walk.Made.{Made}
 use Rattle.pst_supply.specs.declared.walk.Went.{Went}
@@ -41,8 +42,9 @@ pub record Advances (m : ModelTree) (bounds : List Bound) (leaves level : ℕ) (
 pub record Begins (m : Model) (bounds : List Bound) (leaves : List Act) (count n : ℕ) (begun : Begun) : Type 0 where
   pub model : begun.beyond.model.now ≡ m
   pub level : begun.beyond.level ≡ n
-  pub beyond : AreNew begun.beyond
+  pub beyond : (begun.first.need ≡ None) ⊎ AreNew begun.beyond
   pub acts : begun.acts.items ≡ map (opened (view_model begun.beyond.model.now)) leaves
   pub among : AreSources begun.among begun.acts.items
   pub ahead : NoneAhead begun.acts.items
+  pub nexts : AreNexts begun.nexts.items begun.acts.items
   pub first : IsStop (view_model begun.beyond.model.now) bounds begun.acts.items count begun.beyond.level begun.first

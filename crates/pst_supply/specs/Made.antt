@@ -1,5 +1,5 @@
 -- The invariant of a walk.
-use Rattle.std.specs.Prelude.{◌≡◌, ℕ, ◌+◌, List, [], ◌∷◌, ◌++◌, length, map, reverse}
+use Rattle.std.specs.Prelude.{◌≡◌, ◌⊎◌, ℕ, ◌+◌, List, [], ◌∷◌, ◌++◌, length, map, reverse, None}
 use Rattle.pst_model.specs.ModelTree.{ModelTree}
 use Rattle.pst_model.specs.ModelView.{view_model}
 use Rattle.pst_scen.specs.declared.act.Act.{Act}
@@ -9,8 +9,10 @@ use Rattle.pst_legal.specs.Binds.{bounds_of}
 use Rattle.pst_legal.specs.SupplyReading.{read_supply}
 use Rattle.pst_pool_sources.specs.Offers.{AreSources}
 use Rattle.pst_pool_sources.specs.declared.sources.PoolSources.{PoolSources}
+use Rattle.pst_open_ends.specs.declared.beyond.NewSources.{NewSources}
 use Rattle.pst_open_ends.specs.Beyond.{AreNew}
 use Rattle.pst_open_ends.specs.Changes.{opened, ends_undone, undone}
+use Rattle.pst_open_ends.specs.Turns.{AreNexts}
 use Rattle.pst_free_ends.specs.Steps.{NoneAhead, Follows, HasRoom}
 use Rattle.pst_supply.specs.declared.walk.Made.{Made}
 use Rattle.pst_supply.specs.declared.walk.Stop.{Stop}
@@ -46,6 +48,10 @@ abbrev pub CanLeave : PoolSources → List Made → List Act → Type 0
 CanLeave among [] acts = Unit {0}
 CanLeave among (made ∷ older) acts = Follows made.taken made.change acts × HasRoom among (ends_undone made.change.ends acts) × CanLeave among older (undone made.change acts)
 
+-- the references of new actions are found, or no reference wants a source, and nothing is made
+abbrev pub AreKnown : NewSources → Stop → List Made → Type 0
+AreKnown beyond first made = ((first.need ≡ None) × (made ≡ [])) ⊎ AreNew beyond
+
 abbrev pub ground_of : Inside → Ground
 ground_of w = record { model = view_model w.beyond.model.now; nodes = w.nodes.items; leaves = w.leaves.items; seed = w.seed; place = w.place; level = w.beyond.level }
 
@@ -58,8 +64,9 @@ kept_by w = kept_with w (reverse w.made.items)
 
 pub record IsKept (w : Inside) : Type 0 where
   pub count : w.count ≡ length (leaves_of w.nodes.items)
-  pub beyond : AreNew w.beyond
+  pub beyond : AreKnown w.beyond w.first w.made.items
   pub ties : w.ties ≡ bounds_of (view_model w.beyond.model.now) w.nodes.items
+  pub nexts : AreNexts w.nexts.items (map (opened (view_model w.beyond.model.now)) w.leaves.items)
   pub among : AreSources w.among w.acts.items
   pub ahead : NoneAhead w.acts.items
   pub leave : CanLeave w.among (reverse w.made.items) w.acts.items

@@ -1,9 +1,11 @@
 //! Walks through the choices of sources.
-ghost use Rattle.std.specs.Prelude.{◌≡◌, ℕ, ◌+◌, ◌<◌, ◌≤◌, IfOk, OnOk, OnErr, length, take, reverse, slice_get, Some, []};
+ghost use Rattle.std.specs.Prelude.{◌≡◌, ℕ, ◌+◌, ◌<◌, ◌≤◌, IfOk, OnOk, OnErr, length, take, reverse, slice_get, Some, [], is_some, IsTrue};
 ghost use Rattle.pst_rng.specs.Words.{start_of};
 ghost use Rattle.std.specs.Option.{option_map};
+ghost use Rattle.std.specs.List.{find};
 ghost use Rattle.pst_model.specs.ModelView.{view_model};
-ghost use Rattle.pst_legal.specs.SupplyReading.{next_need, same_link};
+ghost use Rattle.pst_model.specs.Served.{IsInOrder};
+ghost use Rattle.pst_legal.specs.SupplyReading.{next_need, same_link, spots};
 ghost use Rattle.pst_legal.specs.Reading.{option_at};
 ghost use Rattle.pst_pool_sources.specs.Offers.{AreSources, room_at};
 ghost use Rattle.pst_open_ends.specs.Spots.{read_spot, kept_spot, given_source, given_sources};
@@ -13,7 +15,7 @@ ghost use Rattle.pst_open_ends.specs.Changes.{ends_undone, undone};
 ghost use Rattle.pst_free_ends.specs.Steps.{IsTurn, NoneAhead, Follows, HasRoom, IsStep};
 ghost use Rattle.pst_scen.specs.declared.act.Flow.{Flow as the_flow};
 ghost use Rattle.pst_scen.specs.declared.act.Link.TheVariants as link;
-ghost use Rattle.pst_open_ends.specs.Turns.{AreDone};
+ghost use Rattle.pst_open_ends.specs.Turns.{turns, AreDone, IsDoneBefore, AreNexts};
 ghost use Rattle.pst_supply.specs.Walks.{with_choice, answer, next_of, IfRead, HasDigit, IsChange};
 ghost use Rattle.pst_supply.specs.Stops.{options_at, IsStop, stop_after, may_infer, shown_at};
 ghost use Rattle.pst_supply.specs.Choices.{NamesSource, Advances, Begins, change_after};
@@ -23,8 +25,8 @@ use pst_copies::{copy_acts, copy_nodes};
 use pst_free_ends::{Taken, follow, leave};
 use pst_model::Model;
 use pst_open_ends::{
-    Change, NewSources, Source, Spot, leaf_count, next_need, open_leaves, sources, supply,
-    take_back,
+    Change, NewSources, Source, Spot, leaf_count, next_need, next_wanting, open_leaves,
+    serves_in_order, sources, supply, take_back,
 };
 use pst_pool_sources::PoolSources;
 use pst_rng::start;
@@ -103,22 +105,25 @@ fn options(
     sources(alloc, acts, free, writers, begun, new, need, fixed)
 }
 
-// Looks where reading stands, where no action below `from` has a turn.
-fn look(
+// Where reading stands, where that need has the turn. Only where one has it the sources among new actions
+// are looked at.
+fn stop_at(
     alloc: Global,
     beyond: &NewSources<'_>,
     ties: &Ties,
     acts: &[Act],
     among: &PoolSources,
     leaves: usize,
-    from: usize,
+    need: Option<Spot>,
 ) -> Result<Stop, NoMemory>
-    requires done { AreDone ties.now acts.now from }
-    requires beyond { AreNew beyond.now }
+    requires next { need ≡ option_map kept_spot (find (turns ties.now) (spots acts.now)) }
+    requires done { IsDoneBefore ties.now acts.now need }
+    requires beyond { IsTrue (is_some need) → AreNew beyond.now }
     requires among { AreSources among.now acts.now }
-    ensures { IfOk result (λ stop. IsStop (view_model beyond.now.model.now) ties.now acts.now leaves beyond.now.level stop) }
+    ensures stop { IfOk result (λ stop. IsStop (view_model beyond.now.model.now) ties.now acts.now leaves beyond.now.level stop) }
+    ensures need { IfOk result (λ stop. stop.need ≡ need) }
 {
-    match next_need(ties, acts, from) {
+    match need {
         None => Ok(Stop {
             need: None,
             count: 0,
@@ -131,6 +136,27 @@ fn look(
             })
         }
     }
+}
+
+// Looks where reading stands, where no action below `from` has a turn.
+fn look(
+    alloc: Global,
+    beyond: &NewSources<'_>,
+    ties: &Ties,
+    acts: &[Act],
+    among: &PoolSources,
+    leaves: usize,
+    nexts: &[usize],
+    from: usize,
+) -> Result<Stop, NoMemory>
+    requires nexts { AreNexts nexts.now acts.now }
+    requires done { AreDone ties.now acts.now from }
+    requires beyond { AreNew beyond.now }
+    requires among { AreSources among.now acts.now }
+    ensures { IfOk result (λ stop. IsStop (view_model beyond.now.model.now) ties.now acts.now leaves beyond.now.level stop) }
+{
+    let need = next_need(ties, acts, nexts, from);
+    stop_at(alloc, beyond, ties, acts, among, leaves, need)
 }
 
 // The option that a digit names at a place with so many options.
@@ -244,10 +270,12 @@ fn look_behind(
     acts: &[Act],
     among: &mut PoolSources,
     leaves: usize,
+    nexts: &[usize],
     need: &Spot,
     source: Source,
     change: &Change,
 ) -> Result<(Taken, Stop), NoMemory>
+    requires nexts { AreNexts nexts.now acts.now }
     requires done { AreDone ties.now acts.now change.now.lowest }
     requires step { IsStep need.now (given_source source) change.now acts.now }
     requires beyond { AreNew beyond.now }
@@ -261,7 +289,16 @@ fn look_behind(
     ensures room { (n : the_flow) (p : ℕ) → room_at n p among.old ≤ room_at n p among.new }
 {
     let taken = follow(among, acts, need, source, change)?;
-    match look(alloc, beyond, ties, acts, among, leaves, change.lowest) {
+    match look(
+        alloc,
+        beyond,
+        ties,
+        acts,
+        among,
+        leaves,
+        nexts,
+        change.lowest,
+    ) {
         Ok(stop) => Ok((taken, stop)),
         Err(error) => {
             leave(among, acts, &taken, change);
@@ -278,9 +315,11 @@ fn go_on(
     acts: &mut Vec<Act>,
     among: &mut PoolSources,
     leaves: usize,
+    nexts: &[usize],
     need: &Spot,
     source: Source,
 ) -> Result<Went, NoMemory>
+    requires nexts { AreNexts nexts.now acts.old.items }
     requires done { AreDone ties.now acts.old.items need.now.act }
     requires beyond { AreNew beyond.now }
     requires among { AreSources among.old acts.old.items }
@@ -296,7 +335,7 @@ fn go_on(
 {
     let change = supply(alloc, beyond, acts, need, source)?;
     match look_behind(
-        alloc, beyond, ties, acts, among, leaves, need, source, &change,
+        alloc, beyond, ties, acts, among, leaves, nexts, need, source, &change,
     ) {
         Ok((taken, stop)) => Ok(Went {
             change,
@@ -335,28 +374,35 @@ struct Begun<'a> {
     beyond: NewSources<'a>,
     acts: Vec<Act>,
     among: PoolSources,
+    nexts: Vec<usize>,
     first: Stop,
 }
 
-// Opens the leaves, so many, and looks where reading stands then.
+// Opens the leaves, so many, and looks where reading stands then. The references of new actions are found
+// where some leaf has a need.
 fn begin<'a>(
     alloc: Global,
     model: &'a Model,
+    in_order: bool,
     ties: &Ties,
     leaves: &[Act],
     count: usize,
     level: u32,
 ) -> Result<Begun<'a>, NoMemory>
+    requires { IsTrue in_order → IsInOrder (view_model model.now).served }
     ensures { IfOk result (λ begun. Begins model.now ties.now leaves.now count level begun) }
 {
-    let beyond = NewSources::new(alloc, model, level)?;
-    let acts = open_leaves(alloc, &beyond, leaves)?;
+    let acts = open_leaves(alloc, model, in_order, leaves)?;
+    let nexts = next_wanting(alloc, &acts)?;
+    let need = next_need(ties, &acts, &nexts, 0);
+    let beyond = NewSources::new(alloc, model, in_order, level, need.is_some())?;
     let among = PoolSources::new(alloc, model.pools.len(), &acts)?;
-    let first = look(alloc, &beyond, ties, &acts, &among, count, 0)?;
+    let first = stop_at(alloc, &beyond, ties, &acts, &among, count, need)?;
     Ok(Begun {
         beyond,
         acts,
         among,
+        nexts,
         first,
     })
 }
@@ -374,6 +420,7 @@ pub struct SupplyWalk<'a> {
     place: u64,
     count: usize,
     ties: Ties,
+    nexts: Vec<usize>,
     first: Stop,
     made: Vec<Made>,
     acts: Vec<Act>,
@@ -413,9 +460,27 @@ impl<'a> SupplyWalk<'a> {
     ) -> Result<SupplyWalk<'a>, NoMemory>
         ensures { IfOk result (λ w. w ≡ record { model = model.now; nodes = nodes.now; leaves = leaves.now; seed = seed; place = place; level = level; choices = [] }) }
     {
+        let in_order = serves_in_order(model);
+        SupplyWalk::with_order(alloc, model, in_order, nodes, leaves, seed, place, level)
+    }
+
+    /// The same, where it is known whether the entries for what serves references stand in order.
+    pub fn with_order(
+        alloc: Global,
+        model: &'a Model,
+        in_order: bool,
+        nodes: &[Node],
+        leaves: &[Act],
+        seed: u64,
+        place: u64,
+        level: u32,
+    ) -> Result<SupplyWalk<'a>, NoMemory>
+        requires { IsTrue in_order → IsInOrder (view_model model.now).served }
+        ensures { IfOk result (λ w. w ≡ record { model = model.now; nodes = nodes.now; leaves = leaves.now; seed = seed; place = place; level = level; choices = [] }) }
+    {
         let count = leaf_count(nodes);
         let ties = Ties::new(alloc, model, nodes)?;
-        let begun = begin(alloc, model, &ties, leaves, count, level)?;
+        let begun = begin(alloc, model, in_order, &ties, leaves, count, level)?;
         let nodes = copy_nodes(alloc, nodes)?;
         let leaves = copy_acts(alloc, leaves)?;
         Ok(SupplyWalk {
@@ -427,6 +492,7 @@ impl<'a> SupplyWalk<'a> {
             place,
             count,
             ties,
+            nexts: begun.nexts,
             first: begun.first,
             made: Vec::new(alloc),
             acts: begun.acts,
@@ -501,6 +567,7 @@ impl<'a> SupplyWalk<'a> {
             &mut self.acts,
             &mut self.among,
             self.count,
+            &self.nexts,
             &need,
             source,
         )?;

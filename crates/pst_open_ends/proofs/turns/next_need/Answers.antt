@@ -4,7 +4,7 @@ use Rattle.std.specs.Option.{option_map}
 use Rattle.pst_scen.specs.declared.act.Act.{Act}
 use Rattle.pst_open_ends.specs.Spots.{kept_spot, spots_of}
 use Rattle.pst_open_ends.specs.Turns.{turns, AreDone}
-use Rattle.pst_open_ends.proofs.Finds.{next_found, done_more, none_found}
+use Rattle.pst_open_ends.proofs.Finds.{next_found, none_found}
 use Rattle.pst_open_ends.proofs.turns.next_need.Goals as goal
 
 pub returns-in-Some-clause-next : goal.returns-in-Some-clause-next
@@ -17,14 +17,6 @@ returns-in-Some-clause-next c =
 
 pub returns-in-Some-clause-done : goal.returns-in-Some-clause-done
 returns-in-Some-clause-done c = subst (AreDone c.args.ties.now c.args.acts.now) (sym c.in-Some.ensures.act) c.loop-number.invariant
-
-pub loop-number-preserved : goal.loop-number-preserved
-loop-number-preserved c =
-    let t = turns c.args.ties.now in
-    let n = c.loop-number.number in
-    let x = c.index-acts-number.result in
-    done_more c.args.ties.now c.args.acts.now n x (omega arith) c.index-acts-number.is c.loop-number.invariant
-    (sym c.in-None.is ∙ c.next_in.ensures.found ∙ ap (λ rs. option_map kept_spot (find t (spots_of n 0 rs))) c.as_slice.ensures ∙ ap (λ (y : Act). option_map kept_spot (find t (spots_of n 0 y.references))) (sym c.index-acts-number.is))
 
 pub returns-clause-next : goal.returns-clause-next
 returns-clause-next c = none_found c.args.ties.now c.args.acts.now c.loop-number.number (omega arith) c.loop-number.invariant

@@ -3,9 +3,17 @@ use Rattle.pst_model.specs.ModelView.{view_model}
 use Rattle.pst_pool_sources.specs.Offers.{AreSources}
 use Rattle.pst_open_ends.specs.Spots.{given_source}
 use Rattle.pst_open_ends.specs.Changes.{ends_undone, undone}
+use Rattle.pst_open_ends.specs.Turns.{AreNexts}
+use Rattle.pst_open_ends.proofs.Nexts.{nexts_behind}
 use Rattle.pst_free_ends.specs.Steps.{IsStep, NoneAhead, Follows, HasRoom}
 use Rattle.pst_supply.proofs.Sources.{step_is}
 use Rattle.pst_supply.proofs.walk.go_on.Goals as goal
+
+pub look_behind-requires-clause-nexts : goal.look_behind-requires-clause-nexts
+look_behind-requires-clause-nexts c =
+    let new = c.supply.new.acts.items in
+    subst (AreNexts c.args.nexts.now) (sym c.deref.ensures.value)
+    (nexts_behind c.args.nexts.now c.in_ok-change.change new (subst (AreNexts c.args.nexts.now) c.in_ok-change.ensures.supplied.back c.requires.nexts))
 
 pub look_behind-requires-clause-step : goal.look_behind-requires-clause-step
 look_behind-requires-clause-step c =

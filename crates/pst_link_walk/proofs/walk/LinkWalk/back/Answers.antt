@@ -19,6 +19,7 @@ invariant_of-self c =
     let d = c.back.ensures.0 in
     let e = c.back.ensures.1 in
     record {
+      order = c.self.invariant.order;
       shape = c.self.invariant.shape;
       made = c.self.invariant.made;
       linked = one_unlinked w.supply k l d w.linked c.in-Some.is c.self.invariant.linked e;
@@ -49,6 +50,7 @@ invariant_of-self-2 c =
     let d = c.back-2.ensures.0 in
     let e = c.back-2.ensures.1 in
     record {
+      order = c.self.invariant.order;
       shape = shape_before w.model.now w.root w.seed w.level w.shape new d c.self.invariant.shape e;
       made = shape_less w.model.now w.root w.seed w.level w.shape new d w.made c.self.invariant.made e;
       linked = links_none w.model.now w.root w.seed w.level w.linked c.if-self-gt0.false;

@@ -25,6 +25,7 @@ invariant_of-self-in-Some c =
     let has = subst (λ a. HasDigit a c.args.digit) (some_answers w.model.now w.root w.seed w.level w.shape.choices w.supply k c.in-Some.is c.self.invariant.stands)
     (subst (λ x. HasDigit (answer x) c.args.digit) (sym c.self.view_is) c.requires) in
     record {
+      order = c.self.invariant.order;
       shape = c.self.invariant.shape;
       made = c.self.invariant.made;
       linked = c.in_ok-linked-in-Some.ensures ∙ one_linked w.model.now w.root w.seed w.level k l c.args.digit w.linked (c.self.invariant.linked ∙ ap (λ o. length (choices_of o)) c.in-Some.is) e;
@@ -62,6 +63,7 @@ invariant_of-self-in-None c =
     let after = c.in_ok-supply-in-None.supply in
     let goes = c.in_ok-supply-in-None.ensures.ok in
     record {
+      order = c.self.invariant.order;
       shape = goes_self w.model.now w.root w.seed w.level w.shape.choices new c.args.digit after goes;
       made = goes_count w.model.now w.root w.seed w.level w.shape.choices new c.args.digit c.in_ok-made-in-None.made after (c.in_ok-made-in-None.ensures ∙ ap (λ n. n + 1) c.self.invariant.made) goes;
       linked = goes_links w.model.now w.root w.seed w.level w.shape.choices new c.args.digit w.linked w.supply after c.in-None.is c.self.invariant.linked goes;

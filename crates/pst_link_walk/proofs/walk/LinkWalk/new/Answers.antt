@@ -13,6 +13,7 @@ begin-requires-clause-used c = first_used c.args.model.now c.args.root c.args.se
 
 pub invariant_of-result : goal.invariant_of-result
 invariant_of-result c = record {
+  order = c.serves_in_order-in_order.ensures;
   shape = first_self c.args.model.now c.args.root c.args.seed c.args.level c.in_ok-shape.shape c.in_ok-shape.ensures;
   made = first_count c.args.model.now c.args.root c.args.seed c.args.level c.in_ok-shape.shape c.in_ok-shape.ensures;
   linked = ap length (sym c.in_ok-supply.ensures.fresh);

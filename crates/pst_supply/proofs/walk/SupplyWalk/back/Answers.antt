@@ -1,4 +1,4 @@
-use Rattle.std.proofs.Common.{◌≡◌, [], ◌∷◌, ◌++◌, ap, sym, subst, ◌∙◌}
+use Rattle.std.proofs.Common.{◌≡◌, [], ◌∷◌, ◌++◌, ap, sym, subst, ◌∙◌, inr}
 use Rattle.std.specs.Prelude.{reverse, option_to_list, Option}
 use Rattle.std.proofs.lemmas.List.{reverse-append}
 use Rattle.pst_open_ends.specs.Changes.{undone}
@@ -6,6 +6,7 @@ use Rattle.pst_free_ends.specs.Steps.{NoneAhead}
 use Rattle.pst_supply.specs.declared.walk.Made.{Made}
 use Rattle.pst_supply.specs.Made.{AllStand, CanLeave, ground_of}
 use Rattle.pst_supply.proofs.Sources.{still_leaves}
+use Rattle.pst_supply.proofs.Known.{made_known}
 use Rattle.pst_supply.proofs.walk.SupplyWalk.back.Goals as goal
 
 pub go_back-requires-clause-follows : goal.go_back-requires-clause-follows
@@ -33,8 +34,9 @@ invariant_of-self c =
     let stands = subst (λ l. AllStand g w.first l w.acts.items) all c.self.invariant.stands in
     record {
       count = c.self.invariant.count;
-      beyond = c.self.invariant.beyond;
+      beyond = inr (made_known w.beyond w.first w.made.items new last (c.pop.ensures.items ∙ ap (λ (o : Option Made). new ++ option_to_list o) c.in-Some.is) c.self.invariant.beyond);
       ties = c.self.invariant.ties;
+      nexts = c.self.invariant.nexts;
       among = c.go_back.ensures.among;
       ahead = subst NoneAhead (sym c.go_back.ensures.undone) leave.0.ahead;
       leave = subst (CanLeave c.go_back.new.among (reverse new)) (sym c.go_back.ensures.undone)

@@ -1,4 +1,4 @@
-use Rattle.std.proofs.Common.{◌≡◌, ℕ, ◌+◌, ◌<◌, List, [], ◌∷◌, ◌++◌, length, Some, ap, sym, subst, ◌∙◌}
+use Rattle.std.proofs.Common.{◌≡◌, ℕ, ◌+◌, ◌<◌, List, [], ◌∷◌, ◌++◌, length, Some, ap, sym, subst, ◌∙◌, inr}
 use Rattle.std.specs.Prelude.{reverse}
 use Rattle.std.proofs.lemmas.List.{reverse-append, length-reverse}
 use Rattle.std.proofs.lemmas.Option.{same_Some}
@@ -16,14 +16,23 @@ use Rattle.pst_supply.specs.Walks.{HasDigit, answer}
 use Rattle.pst_supply.specs.Stops.{options_at, IsStop, stop_after}
 use Rattle.pst_supply.specs.Choices.{NamesSource}
 use Rattle.pst_open_ends.specs.Changes.{undone}
-use Rattle.pst_supply.specs.Made.{AllStand, CanLeave, ground_of}
+use Rattle.pst_open_ends.specs.Turns.{AreNexts}
+use Rattle.pst_supply.specs.Made.{AllStand, CanLeave, AreKnown, ground_of}
 use Rattle.pst_supply.proofs.Stands.{made_digit, one_more, stops}
 use Rattle.pst_supply.proofs.Sources.{turn_is, open_is, still_leaves}
+use Rattle.pst_supply.proofs.Known.{turn_known, all_nexts}
 use Rattle.pst_supply.proofs.walk.SupplyWalk.choose.Goals as goal
 
 same_options : (m : ModelTree) (a b : List Bound) (acts more : List Act) (j k level : ℕ) (need : Spot) → a ≡ b → acts ≡ more → j ≡ k → options_at m a acts j level need ≡ options_at m b more k level need
 same_options m a b acts more j k level need e f g =
     ap (λ x. options_at m x acts j level need) e ∙ ap (λ x. options_at m b x j level need) f ∙ ap (λ x. options_at m b more x level need) g
+
+pub pick-requires-clause-beyond : goal.pick-requires-clause-beyond
+pick-requires-clause-beyond c =
+    let w = c.self.inside in
+    let made = reverse w.made.items in
+    let at : c.stop_of.result ≡ stop_after w.first made = c.stop_of.ensures ∙ ap (λ l. stop_after w.first (reverse l)) (c.deref.ensures.value ∙ c.reserve.ensures.items) in
+    turn_known w.beyond w.first w.made.items c.in-Some.need c.self.invariant.beyond (ap (λ s. s.need) (sym at) ∙ c.in-Some.is)
 
 pub pick-requires-clause-among : goal.pick-requires-clause-among
 pick-requires-clause-among c = subst (AreSources c.self.inside.among) (sym c.deref-2.ensures.value) c.self.invariant.among
@@ -39,6 +48,18 @@ pick-requires-clause-digit c =
     let need : t.need ≡ c.in-Some.need = sym (same_Some c.in-Some.need t.need (sym c.in-Some.is ∙ ap (λ s. s.need) at ∙ t.is)) in
     subst (λ (l : List Source). c.args.digit < length l) (sym (same_options m w.ties (bounds_of m w.nodes.items) c.deref-2.result.now w.acts.items w.count (length (leaves_of w.nodes.items)) w.beyond.level c.in-Some.need c.self.invariant.ties c.deref-2.ensures.value c.self.invariant.count))
     (subst (λ n. c.args.digit < length (options_at m (bounds_of m w.nodes.items) w.acts.items (length (leaves_of w.nodes.items)) w.beyond.level n)) need t.below)
+
+pub go_on-requires-clause-beyond : goal.go_on-requires-clause-beyond
+go_on-requires-clause-beyond c =
+    let w = c.self.inside in
+    let made = reverse w.made.items in
+    let at : c.stop_of.result ≡ stop_after w.first made = c.stop_of.ensures ∙ ap (λ l. stop_after w.first (reverse l)) (c.deref.ensures.value ∙ c.reserve.ensures.items) in
+    turn_known w.beyond w.first w.made.items c.in-Some.need c.self.invariant.beyond (ap (λ s. s.need) (sym at) ∙ c.in-Some.is)
+
+pub go_on-requires-clause-nexts : goal.go_on-requires-clause-nexts
+go_on-requires-clause-nexts c =
+    let w = c.self.inside in
+    subst (λ l. AreNexts l w.acts.items) (sym c.deref-3.ensures.value) (all_nexts (ground_of w) w.first (reverse w.made.items) w.acts.items w.nexts.items c.self.invariant.stands c.self.invariant.nexts)
 
 pub go_on-requires-clause-turn : goal.go_on-requires-clause-turn
 go_on-requires-clause-turn c =
@@ -76,8 +97,9 @@ invariant_of-self-2 c =
     let all : reverse c.push.new.self.items ≡ x ∷ made = ap reverse items ∙ reverse-append w.made.items (x ∷ []) in
     record {
       count = c.self.invariant.count;
-      beyond = c.self.invariant.beyond;
+      beyond = inr (turn_known w.beyond w.first w.made.items need c.self.invariant.beyond turn);
       ties = c.self.invariant.ties;
+      nexts = c.self.invariant.nexts;
       among = c.go_on.ensures.among;
       ahead = c.go_on.ensures.ahead;
       leave = subst (λ l. CanLeave c.go_on.new.among l new) (sym all) (
@@ -100,8 +122,9 @@ invariant_of-self-in_err-went c =
     let all : reverse c.reserve.new.self.items ≡ made = ap reverse c.reserve.ensures.items in
     record {
       count = c.self.invariant.count;
-      beyond = c.self.invariant.beyond;
+      beyond = subst (AreKnown w.beyond w.first) (sym c.reserve.ensures.items) c.self.invariant.beyond;
       ties = c.self.invariant.ties;
+      nexts = c.self.invariant.nexts;
       among = c.go_on.ensures.among;
       ahead = c.go_on.ensures.ahead;
       leave = subst (λ l. CanLeave among l acts) (sym all) (subst (CanLeave among made) (sym same) (still_leaves w.among among c.go_on.ensures.room made w.acts.items c.self.invariant.leave));

@@ -5,9 +5,11 @@ use Rattle.pst_model.specs.ModelView.{view_model}
 use Rattle.pst_scen.specs.Scenarios.{leaves_of}
 use Rattle.pst_legal.specs.Binds.{bounds_of}
 use Rattle.pst_open_ends.specs.Changes.{opened}
+use Rattle.pst_open_ends.specs.Turns.{AreNexts}
 use Rattle.pst_supply.specs.Stops.{IsStop}
 use Rattle.pst_supply.specs.Made.{Ground, AllStand, CanLeave}
-use Rattle.pst_supply.proofs.walk.SupplyWalk.new.Goals as goal
+use Rattle.pst_supply.proofs.Known.{begin_known}
+use Rattle.pst_supply.proofs.walk.SupplyWalk.with_order.Goals as goal
 
 pub invariant_of-result : goal.invariant_of-result
 invariant_of-result c =
@@ -28,8 +30,9 @@ invariant_of-result c =
     let is : acts ≡ map (opened m) leaves = h.acts ∙ ap (map (opened m)) (sym c.in_ok-leaves.ensures) in
     record {
       count = count;
-      beyond = h.beyond;
+      beyond = begin_known begun.beyond begun.first c.new-2.result.items c.new-2.ensures.items h.beyond;
       ties = ties;
+      nexts = subst (AreNexts begun.nexts.items) is h.nexts;
       among = h.among;
       ahead = h.ahead;
       leave = subst (λ l. CanLeave begun.among (reverse l) acts) (sym c.new-2.ensures.items) tt;
