@@ -1,6 +1,6 @@
 -- The content of an action as it is found, and the types of handles.
-use Rattle.std.specs.Prelude.{ℕ, List, Option}
-use Rattle.std.specs.Option.{option_map_or, option_or}
+use Rattle.std.specs.Prelude.{ℕ, List}
+use Rattle.std.specs.Option.{option_map_or}
 use Rattle.pst_ast.specs.ActivityView.{view_activity}
 use Rattle.pst_ast.specs.BodyView.{view_body}
 use Rattle.pst_ast.specs.declared.scope_declaration.Declaration.{Declaration}
@@ -13,10 +13,6 @@ use Rattle.pst_contents.specs.declared.found.FoundContent.TheVariants as found
 abbrev pub view_found : FoundContent → Content
 view_found (found.Activity action activity) = Activity action (view_activity activity.now)
 view_found (found.Body action body) = Body action (view_body body.now)
-
--- an action's own content, or else that of its bases
-abbrev pub or_content : Option Content → Option Content → Option Content
-or_content own before = option_or own before
 
 -- the number of the action type of a handle
 abbrev pub handle_type : List Declaration → Declaration → ℕ

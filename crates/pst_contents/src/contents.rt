@@ -9,16 +9,17 @@ ghost use Rattle.pst_model.specs.ModelView as model;
 ghost use Rattle.pst_model.specs.ModelView.{view_content};
 ghost use Rattle.pst_sources.specs.Shown.{sources_of};
 ghost use Rattle.pst_contents.specs.Found.{view_found};
+ghost use Rattle.pst_contents.specs.Marks as marks;
 
-use crate::found::{FoundContent, last_content};
+use crate::found::{FoundContent, nearest_content};
 use crate::handles::handle_types;
 use pst_activity_steps::activity_steps;
 use pst_activity_ties::ties_in;
 use pst_ast::{ActivityNode, Declaration};
 use pst_base::NoMemory;
 use pst_body_steps::{body_steps, setting_in};
+use pst_marked_bases::MarkedBases;
 use pst_model::{Activity, Content};
-use pst_tree::with_bases;
 use pst_type_numbers::Numbered;
 
 // An activity, in the text of one action, of another one.
@@ -66,14 +67,15 @@ fn content(
 
 /// What an action does: its own activity or body, or else that of its nearest base that has one,
 /// with the action types of its handles. An action with neither has an empty body.
-pub fn content_of(numbered: &Numbered<'_>, action: &Declaration) -> Result<Content, NoMemory>
+pub fn content_of(
+    numbered: &Numbered<'_>,
+    bases: &MarkedBases<'_>,
+    action: &Declaration,
+) -> Result<Content, NoMemory>
+    requires { bases.now ≡ marks.content_bases (sources_of numbered.now) }
     ensures { IfOk result (λ c. view_content c ≡ tree.content (sources_of numbered.now) action.now (Contents.content_of (sources_of numbered.now).units action.now)) }
 {
-    let known = numbered.sources().known();
-    let bases = with_bases(known.alloc(), known.index(), action)?;
-    content(
-        numbered,
-        action,
-        last_content(known.sites(), bases.as_slice()),
-    )
+    let sites = numbered.sources().known().sites();
+    let found = nearest_content(sites, bases, action);
+    content(numbered, action, found)
 }

@@ -1,6 +1,6 @@
 //! The activity or body of an action, found in the sources.
-ghost use Rattle.std.specs.Prelude.{◌≡◌, map};
-ghost use Rattle.std.specs.List.{filter_map};
+ghost use Rattle.std.specs.Prelude.{◌≡◌, map, IfOk};
+ghost use Rattle.std.specs.List.{filter, filter_map};
 ghost use Rattle.std.specs.Option.{option_map};
 ghost use Rattle.pst_ast.specs.ActivityView.{view_activity};
 ghost use Rattle.pst_ast.specs.BodyView.{view_body};
@@ -8,10 +8,16 @@ ghost use Rattle.pst_ast.specs.DeclarationView.{view_action, view_action_part, v
 ghost use Rattle.pst_tree.specs.Contents as tree;
 ghost use Rattle.pst_tree.specs.Contents.{first_of};
 ghost use Rattle.pst_type_rules.specs.Sites.{action_of};
-ghost use Rattle.pst_contents.specs.Found.{or_content, view_found};
+ghost use Rattle.pst_sources.specs.Shown.{sources_of};
+ghost use Rattle.pst_contents.specs.Found.{view_found};
+ghost use Rattle.pst_contents.specs.Marks as marks;
 
 use pst_ast::{ActionNode, ActionPart, ActivityNode, BodyNode, Declaration};
+use pst_base::{NoMemory, Place};
+use pst_marked_bases::MarkedBases;
 use pst_sites::Sites;
+use pst_sources::Known;
+use std::alloc::Global;
 
 /// An activity or a body, with the action in whose text it stands.
 #[derive(Clone, Copy)]
@@ -72,26 +78,62 @@ fn own_content<'a>(sites: &Sites<'a>, action: &Declaration) -> Option<FoundConte
     }
 }
 
-// The content of an action behind what its bases have.
-fn latest<'a>(
-    own: Option<FoundContent<'a>>,
-    before: Option<FoundContent<'a>>,
-) -> Option<FoundContent<'a>>
-    ensures { option_map view_found result ≡ or_content (option_map view_found own.entry) (option_map view_found before.entry) }
+// Whether an action has an activity or a body in its own text.
+fn has_own(node: &ActionNode) -> bool
+    ensures { result ≡ marks.has_own (action_of (view_action node.now)) }
 {
-    match own {
-        Some(own) => Some(own),
-        None => before,
+    let parts = node.parts.as_slice();
+    activity_in(parts).is_some() || body_in(parts).is_some()
+}
+
+// Whether the action whose name stands at a place has an activity or a body in its own text.
+fn has_content(sites: &Sites<'_>, place: Place) -> bool
+    ensures { result ≡ marks.has_content (map view_unit sites.now) place }
+{
+    match sites.action_at(place) {
+        None => false,
+        Some(node) => has_own(node),
     }
 }
 
-/// The content of an action with these bases, the furthest first and itself last.
-pub fn last_content<'a>(sites: &Sites<'a>, bases: &[Declaration]) -> Option<FoundContent<'a>>
-    ensures { option_map view_found result ≡ tree.last_content (map view_unit sites.now) bases.now }
+// The places of the names of those actions that have an activity or a body in their own text.
+fn places_with(
+    alloc: Global,
+    sites: &Sites<'_>,
+    actions: &[&ActionNode],
+) -> Result<Vec<Place>, NoMemory>
+    ensures { IfOk result (λ places. places.items ≡ filter (marks.has_content (map view_unit sites.now)) (map (λ a. a.name.place) (map (λ a. action_of (view_action a.now)) actions.now))) }
 {
-    let mut found = None;
-    for base in bases {
-        found = latest(own_content(sites, base), found);
+    let mut places = Vec::new(alloc);
+    for action in actions {
+        let place = action.name.place;
+        if has_content(sites, place) {
+            places.push(place)?;
+        }
     }
-    found
+    Ok(places)
+}
+
+/// Of all actions and their bases those that have an activity or a body in their own text.
+pub fn content_bases<'a>(known: &Known<'a>) -> Result<MarkedBases<'a>, NoMemory>
+    ensures { IfOk result (λ m. m ≡ marks.content_bases (sources_of known.now)) }
+{
+    let sites = known.sites();
+    let places = places_with(known.alloc(), sites, sites.actions())?;
+    MarkedBases::new(known.alloc(), known.index(), places)
+}
+
+/// The content of the nearest of an action and its bases that has one.
+pub fn nearest_content<'a>(
+    sites: &Sites<'a>,
+    bases: &MarkedBases<'_>,
+    action: &Declaration,
+) -> Option<FoundContent<'a>>
+    requires { bases.now ≡ marks.content_bases_in (map view_unit sites.now) }
+    ensures { option_map view_found result ≡ tree.content_of (map view_unit sites.now) action.now }
+{
+    match bases.nearest(action) {
+        None => None,
+        Some(base) => own_content(sites, &base),
+    }
 }

@@ -6,4 +6,5 @@ mod found;
 mod handles;
 
 pub use contents::content_of;
+pub use found::content_bases;
 pub use handles::handle_types;

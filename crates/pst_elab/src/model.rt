@@ -17,6 +17,7 @@ use pst_bind::Served;
 use pst_collect::declarations;
 use pst_field_domains::FieldDomains;
 use pst_index::Index;
+use pst_member_bases::MemberBases;
 use pst_model::Model;
 use pst_model_functions::model_functions;
 use pst_model_pools::{model_parts, model_pools, model_serves};
@@ -72,7 +73,8 @@ fn model_in(
 {
     let domains = FieldDomains::new(alloc, sites, index, names)?;
     let constants = judged.typed.constants.as_slice();
-    let known = Known::new(alloc, index, names, sites, constants)?;
+    let bases = MemberBases::new(alloc, index)?;
+    let known = Known::new(alloc, &bases, names, sites, constants)?;
     let sources = Sources::new(known)?;
     let numbered = Numbered::new(&sources)?;
     let instances = judged.tree.instances.as_slice();

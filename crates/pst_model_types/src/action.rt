@@ -5,6 +5,7 @@ ghost use Rattle.pst_ast.specs.DeclarationView.{view_action_part};
 ghost use Rattle.pst_elab_rules.specs.Types as tree;
 ghost use Rattle.pst_tree.specs.Bases;
 ghost use Rattle.pst_model.specs.ConstraintTree.{view_constraint};
+ghost use Rattle.pst_model_types.specs.Marks.{constraint_bases};
 ghost use Rattle.pst_model_types.specs.Parts.{action_part, action_parts};
 ghost use Rattle.pst_path_readings.specs.Set.{view_setting};
 ghost use Rattle.pst_sources.specs.Shown.{sources_of};
@@ -15,10 +16,10 @@ use pst_ast::{ActionPart, Declaration, Owner};
 use pst_base::{NameId, NoMemory};
 use pst_constraints::add_declared;
 use pst_index::Index;
+use pst_marked_bases::MarkedBases;
 use pst_model::Constraint;
 use pst_path_readings::Setting;
 use pst_sources::Sources;
-use pst_tree::with_bases;
 
 // Adds the constraints that a part of an action is.
 fn add_part(
@@ -86,16 +87,19 @@ fn add_each(
 }
 
 /// The constraints of an action type, its base's first.
+#[tactic(auto, using(crate::proofs::Constraining::own_are))]
 pub fn action_constraints(
     sources: &Sources<'_>,
+    bases: &MarkedBases<'_>,
     action: &Declaration,
 ) -> Result<Vec<Constraint>, NoMemory>
+    requires { bases.now ≡ constraint_bases (sources_of sources.now) }
     ensures { IfOk result (λ found. map view_constraint found.items ≡ flat_map (tree.own_constraints (sources_of sources.now)) (Bases.with_bases (declared_in (sources_of sources.now)) action.now)) }
 {
-    let known = sources.known();
-    let bases = with_bases(known.alloc(), known.index(), action)?;
-    let mut found = Vec::new(known.alloc());
-    add_each(sources, &mut found, bases.as_slice())?;
+    let alloc = sources.known().alloc();
+    let those = bases.of(alloc, action)?;
+    let mut found = Vec::new(alloc);
+    add_each(sources, &mut found, those.as_slice())?;
     Ok(found)
 }
 

@@ -3,6 +3,7 @@
 
 mod action;
 mod actions;
+mod bases;
 mod object;
 mod objects;
 mod setting;

@@ -74,7 +74,7 @@ pub fn field_reading(
 ) -> Result<PathReading, NoMemory>
     ensures { IfOk result (λ r. view_reading r ≡ tree.map_reading (wrapped wrap) (tree.field_reading (sources_of sources.now) (slot_of of) owner.now field.now)) }
 {
-    let number = sources.known().field_number(owner, field)?;
+    let number = sources.field_number(owner, field)?;
     slots_from(wrap, of, number, sources.known().size_of(field))
 }
 

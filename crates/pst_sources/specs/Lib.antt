@@ -1,4 +1,5 @@
 pub mod Shown
 pub mod Kept
 pub mod Listed
+pub mod Numbered
 pub mod Valued

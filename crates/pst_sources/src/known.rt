@@ -12,6 +12,7 @@ use crate::lookup::{constant_in, places_of_constants};
 use pst_ast::{Declaration, ExprNode};
 use pst_base::{Names, NoMemory};
 use pst_index::Index;
+use pst_member_bases::MemberBases;
 use pst_places::PlaceList;
 use pst_sites::Sites;
 use pst_type_members::{MemberSort, Members};
@@ -68,15 +69,15 @@ impl<'a> Known<'a> {
     /// The sources with these constants.
     pub fn new(
         alloc: Global,
-        index: &'a Index,
+        bases: &'a MemberBases<'a>,
         names: &'a Names,
         sites: &'a Sites<'a>,
         constants: &'a [ConstantValue],
     ) -> Result<Known<'a>, NoMemory>
-        requires { index.now ≡ declarations (map view_unit sites.now) }
+        requires { bases.now ≡ declarations (map view_unit sites.now) }
         ensures { IfOk result (λ k. sources_of k ≡ with_constants (map view_unit sites.now) names.now constants.now) }
     {
-        let members = Members::new(alloc, index)?;
+        let members = Members::new(alloc, bases)?;
         let places = places_of_constants(alloc, constants)?;
         Ok(Known {
             alloc,
@@ -177,8 +178,12 @@ impl<'a> Known<'a> {
         Ok(number)
     }
 
-    /// The number of a field of a type, for an array that of its first element.
-    pub fn field_number(&self, owner: &Declaration, field: &Declaration) -> Result<u32, NoMemory>
+    /// The number of a field of a type, for an array that of its first element, counted anew.
+    pub(crate) fn field_number(
+        &self,
+        owner: &Declaration,
+        field: &Declaration,
+    ) -> Result<u32, NoMemory>
         ensures { IfOk result (λ n. n ≡ numbering.field_number (sources_of self.now) owner.now field.now) }
     {
         let fields = self.members.those(self.alloc, MemberSort::Field, owner)?;

@@ -1,23 +1,29 @@
-//! The sources with the values of their enum items.
+//! The sources with the values of their enum items and the numbers of the fields of their types.
 ghost use Rattle.std.specs.Prelude.{◌≡◌, IfOk};
+ghost use Rattle.pst_terms.specs.Fields as numbering;
 ghost use Rattle.pst_terms.specs.Sources as tree;
 ghost use Rattle.pst_sources.specs.Shown.{sources_of};
 
+use crate::fields::FieldNumbers;
 use crate::items::list_values;
 use crate::known::Known;
 use crate::lookup::{item_in, places_of_items};
+use pst_ast::Declaration;
 use pst_base::{NoMemory, Place};
 use pst_places::PlaceList;
 use std::marker::Model;
 
-/// The sources with the values of their constants and of their enum items.
+/// The sources with the values of their constants and of their enum items, and with the numbers of
+/// the fields of their types.
 ///
-/// Contracts see what `Known` shows of them. Values are found in expected constant time.
+/// Contracts see what `Known` shows of them. Values are found in expected constant time, numbers of
+/// fields in the time of going through the fields of one type.
 #[derive(Drop)]
 pub struct Sources<'a> {
     known: Known<'a>,
     items: Vec<(Place, Option<i64>)>,
     places: PlaceList,
+    numbers: FieldNumbers,
 }
 
 impl<'a> Model for Sources<'a> {
@@ -52,16 +58,18 @@ impl<'a> Model for Sources<'a> {
 }
 
 impl<'a> Sources<'a> {
-    /// The sources with the values of their enum items.
+    /// The sources with the values of their enum items and the numbers of the fields of their types.
     pub fn new(known: Known<'a>) -> Result<Sources<'a>, NoMemory>
         ensures { IfOk result (λ s. s ≡ known.entry) }
     {
         let items = list_values(&known)?;
         let places = places_of_items(known.alloc(), items.as_slice())?;
+        let numbers = FieldNumbers::new(&known)?;
         Ok(Sources {
             known,
             items,
             places,
+            numbers,
         })
     }
 
@@ -80,6 +88,16 @@ impl<'a> Sources<'a> {
         match item_in(self.items.as_slice(), &self.places, place) {
             None => None,
             Some(item) => item.1,
+        }
+    }
+
+    /// The number of a field of a type, for an array that of its first element.
+    pub fn field_number(&self, owner: &Declaration, field: &Declaration) -> Result<u32, NoMemory>
+        ensures { IfOk result (λ n. n ≡ numbering.field_number (sources_of self.now) owner.now field.now) }
+    {
+        match self.numbers.number(owner, field) {
+            Some(number) => Ok(number),
+            None => self.known.field_number(owner, field),
         }
     }
 }

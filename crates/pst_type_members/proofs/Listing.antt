@@ -1,18 +1,24 @@
--- Members of one sort are those of each base.
-use Rattle.std.proofs.Common.{◌≡◌, refl, sym, ap, ◌∙◌}
-use Rattle.std.specs.Prelude.{Bool, List, [], ◌∷◌, ◌++◌}
-use Rattle.std.specs.List.{flat_map}
-use Rattle.std.proofs.lemmas.List.Elements.{filter-append}
-use Rattle.pst_ast.specs.declared.scope_declaration.Declaration.{Declaration}
+-- Each sort of members is of one of the groups by which bases are listed.
+use Rattle.std.proofs.Common.{◌≡◌, refl, ap, ◌∙◌}
+use Rattle.std.specs.Prelude.{false, ◌||◌, Result, Ok, Err, IfOk}
 use Rattle.pst_ast.specs.declared.scope_declaration.Sort.{Sort}
-use Rattle.pst_type_rules.specs.Members.{those_that, own_members}
-use Rattle.pst_tree.specs.Bases.{with_bases, members_that}
-use Rattle.pst_tree.specs.Needed.{needs_within}
+use Rattle.pst_ast.specs.Sorts.{is_field, is_reference, is_claim}
+use Rattle.pst_marked_bases.proofs.Among.{neither}
+use Rattle.pst_member_bases.specs.declared.groups.MemberGroup.TheVariants as group
+use Rattle.pst_member_bases.specs.Grouped.{is_in_group}
+use Rattle.pst_type_members.specs.declared.lists.MemberSort.{MemberSort}
+use Rattle.pst_type_members.specs.declared.lists.MemberSort.TheVariants as by
+use Rattle.pst_type_members.specs.Listed.{is_of}
 
-those_of_each : (test : Sort → Bool) (ds bases : List Declaration) → those_that test (flat_map (own_members ds) bases) ≡ flat_map (needs_within test ds) bases
-those_of_each test ds [] = refl
-those_of_each test ds (d ∷ more) =
-    filter-append (λ x. test x.sort) (own_members ds d) (flat_map (own_members ds) more) ∙ ap (λ (xs : List Declaration). needs_within test ds d ++ xs) (those_of_each test ds more)
+pub handles_within : (sort : MemberSort) → sort ≡ by.Handle → (s : Sort) → is_in_group group.Handles s ≡ false → is_of sort s ≡ false
+handles_within sort is s e = ap (λ (x : MemberSort). is_of x s) is ∙ e
 
-pub members_are : (test : Sort → Bool) (ds : List Declaration) (d : Declaration) → flat_map (needs_within test ds) (with_bases ds d) ≡ members_that test ds d
-members_are test ds d = sym (those_of_each test ds (with_bases ds d))
+pub others_within : (sort : MemberSort) → (sort ≡ by.Handle → ⊥) → (s : Sort) → is_in_group group.Others s ≡ false → is_of sort s ≡ false
+others_within by.Field apart s e = (neither (is_field s) (is_reference s || is_claim s) e).0
+others_within by.Reference apart s e = (neither (is_reference s) (is_claim s) (neither (is_field s) (is_reference s || is_claim s) e).1).0
+others_within by.Claim apart s e = (neither (is_reference s) (is_claim s) (neither (is_field s) (is_reference s || is_claim s) e).1).1
+others_within by.Handle apart s e = absurd (apart refl)
+
+pub if_ok : {T E : Type 0} {P Q : T → Type 0} (r : Result T E) → ((x : T) → P x → Q x) → IfOk r P → IfOk r Q
+if_ok (Ok x) f h = f x h
+if_ok (Err e) f h = tt

@@ -13,5 +13,5 @@ abbrev pub AreRows : List Declaration → ScopeRows → Type 0
 AreRows ds rows = (q : ScopeKey) → row_in (get same_key rows.rows q) ≡ members_at ds (place_of q)
 
 pub record HasRows (m : Inside) : Type 0 where
-  pub rows : AreRows m.index.now m.rows
-  pub handles : AreHandleRows m.index.now m.handles
+  pub rows : AreRows m.bases.now m.rows
+  pub handles : AreHandleRows m.bases.now m.handles

@@ -11,7 +11,7 @@ use crate::among::Among;
 use crate::rows::Members;
 use pst_ast::{Declaration, Sort};
 use pst_base::NoMemory;
-use pst_tree::with_bases;
+use pst_member_bases::MemberGroup;
 use std::alloc::Global;
 
 /// A sort of members.
@@ -68,6 +68,21 @@ pub fn number_in(list: &[Declaration], declaration: &Declaration) -> usize
 }
 
 impl<'a> Members<'a> {
+    // Those of a type and its bases that declare members of a sort, the furthest first.
+    fn bases_of(
+        &self,
+        alloc: Global,
+        by: MemberSort,
+        type_: &Declaration,
+    ) -> Result<Vec<Declaration>, NoMemory>
+        ensures { IfOk result (λ bases. flat_map (needs_within (is_of by) self.now) bases.items ≡ Bases.members_that (is_of by) self.now type_.now) }
+    {
+        match by {
+            MemberSort::Handle => self.bases_with(alloc, MemberGroup::Handles, type_),
+            _ => self.bases_with(alloc, MemberGroup::Others, type_),
+        }
+    }
+
     // Adds those of types.
     fn add_each(
         &self,
@@ -84,7 +99,6 @@ impl<'a> Members<'a> {
     }
 
     /// The members of one sort that a type has, its base's first.
-    #[tactic(auto, using(crate::proofs::Listing::members_are))]
     pub fn those(
         &self,
         alloc: Global,
@@ -93,7 +107,7 @@ impl<'a> Members<'a> {
     ) -> Result<Vec<Declaration>, NoMemory>
         ensures { IfOk result (λ v. v.items ≡ Bases.members_that (is_of by) self.now type_.now) }
     {
-        let bases = with_bases(alloc, self.index(), type_)?;
+        let bases = self.bases_of(alloc, by, type_)?;
         let mut found = Vec::new(alloc);
         self.add_each(&mut found, by, bases.as_slice())?;
         Ok(found)
@@ -163,7 +177,6 @@ impl<'a> Members<'a> {
     /// The number of a member among those of its sort that a type has.
     ///
     /// A handle is looked up in each base's; other members are counted.
-    #[tactic(auto, using(crate::proofs::Listing::members_are))]
     pub fn number(
         &self,
         alloc: Global,
@@ -173,7 +186,7 @@ impl<'a> Members<'a> {
     ) -> Result<u32, NoMemory>
         ensures { IfOk result (λ n. n ≡ Bases.number_in (Bases.members_that (is_of by) self.now type_.now) member.now) }
     {
-        let bases = with_bases(alloc, self.index(), type_)?;
+        let bases = self.bases_of(alloc, by, type_)?;
         let number = self.number_behind(alloc, by, bases.as_slice(), member)?;
         match u32::try_from(number) {
             Ok(number) => Ok(number),

@@ -3,6 +3,7 @@ ghost use Rattle.std.specs.Prelude.{◌≡◌, IfOk, IfSome};
 ghost use Rattle.pst_tree.specs.Needed.{needs_within};
 ghost use Rattle.pst_ast.specs.Sorts.{is_handle};
 ghost use Rattle.pst_type_rules.specs.Members.{own_members};
+ghost use Rattle.pst_member_bases.specs.Grouped.{AreListedBy};
 ghost use Rattle.pst_type_members.specs.Among.{IsAmong};
 
 use crate::among::Among;
@@ -11,15 +12,17 @@ use crate::scopes::{ScopeRows, rows_of};
 use pst_ast::Declaration;
 use pst_base::NoMemory;
 use pst_index::Index;
+use pst_member_bases::{MemberBases, MemberGroup};
 use std::alloc::Global;
 use std::marker::Model;
 
 /// The members of types.
 ///
-/// Contracts see what the sources declare. What a type declares is found in expected constant time.
+/// Contracts see what the sources declare. What a type declares is found in expected constant time;
+/// of its bases only those are gone through that declare members.
 #[derive(Drop)]
 pub struct Members<'a> {
-    index: &'a Index,
+    bases: &'a MemberBases<'a>,
     rows: ScopeRows,
     handles: HandleRows,
 }
@@ -31,20 +34,21 @@ impl<'a> Model for Members<'a> {
 
     ghost Value = { List Declaration };
 
-    ghost view = { λ m. m.index.now };
+    ghost view = { λ m. m.bases.now };
 
     ghost invariant = { HasRows };
 }
 
 impl<'a> Members<'a> {
     /// The members of what is declared.
-    pub fn new(alloc: Global, index: &'a Index) -> Result<Members<'a>, NoMemory>
-        ensures { IfOk result (λ m. m ≡ index.now) }
+    pub fn new(alloc: Global, bases: &'a MemberBases<'a>) -> Result<Members<'a>, NoMemory>
+        ensures { IfOk result (λ m. m ≡ bases.now) }
     {
+        let index = bases.index();
         let rows = rows_of(alloc, index.as_slice())?;
         let handles = handle_rows_of(alloc, &rows, index.as_slice())?;
         Ok(Members {
-            index,
+            bases,
             rows,
             handles,
         })
@@ -54,7 +58,7 @@ impl<'a> Members<'a> {
     pub fn index(&self) -> &'a Index
         ensures { result.now ≡ self.now }
     {
-        self.index
+        self.bases.index()
     }
 
     /// What a type declares itself, in order of declaration.
@@ -62,6 +66,18 @@ impl<'a> Members<'a> {
         ensures { result.now ≡ own_members self.now type_.now }
     {
         self.rows.at(type_.name.place)
+    }
+
+    /// Those of a type and its bases that declare members of a group, the furthest first.
+    pub(crate) fn bases_with(
+        &self,
+        alloc: Global,
+        group: MemberGroup,
+        type_: &Declaration,
+    ) -> Result<Vec<Declaration>, NoMemory>
+        ensures { IfOk result (AreListedBy group self.now type_.now) }
+    {
+        self.bases.of(alloc, group, type_)
     }
 
     /// Where a handle stands among those that a type declares itself, where these are kept.

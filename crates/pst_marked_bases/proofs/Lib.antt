@@ -1,0 +1,4 @@
+pub mod Leading
+pub mod Among
+pub mod Skipping
+pub mod Nearest

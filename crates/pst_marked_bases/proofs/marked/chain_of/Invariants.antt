@@ -1,0 +1,9 @@
+use Rattle.std.proofs.Common.{◌≡◌, ◌++◌, reverse}
+use Rattle.pst_marked_bases.specs.Marked.{marked_bases, marked_within}
+use Rattle.pst_marked_bases.proofs.marked.chain_of.Given as goal
+
+abbrev pub invariant-loop-at : goal.invariant-loop-at
+invariant-loop-at l = marked_within l.marks l.index l.left l.at ++ reverse l.chain.items ≡ marked_bases l.marks l.index l.declaration
+
+abbrev pub decreases-loop-at : goal.decreases-loop-at
+decreases-loop-at l = l.left

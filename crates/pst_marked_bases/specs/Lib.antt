@@ -1,0 +1,4 @@
+pub mod Marked
+pub mod Leads
+pub mod Shown
+pub mod Kept
