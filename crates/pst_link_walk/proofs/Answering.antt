@@ -1,10 +1,9 @@
 -- What a walk answers, by the walk over the sources if there is one.
-use Rattle.std.proofs.Common.{◌≡◌, ℕ, ◌+◌, ◌<◌, List, [], ◌∷◌, ◌++◌, map, length, Option, Some, None, refl, sym, ap, ◌∙◌, subst, append-nil, append_assoc, length-append, arith}
+use Rattle.std.proofs.Common.{◌≡◌, ℕ, ◌+◌, List, [], ◌∷◌, ◌++◌, map, length, Option, Some, None, refl, sym, ap, ◌∙◌, subst, append-nil, append_assoc, length-append, arith}
 use Rattle.pst_model.specs.declared.model.Model.{Model}
 use Rattle.pst_model.specs.ModelView.{view_model}
 use Rattle.pst_scen.specs.declared.act.Act.{Act}
 use Rattle.pst_scen.specs.declared.tree.Node.{Node}
-use Rattle.pst_scen.specs.declared.next.Next.{Next}
 use Rattle.pst_scen.specs.declared.scenario.Scenario.{Scenario}
 use Rattle.pst_legal.specs.Reading.{Reading, Wants, Stops, Reads}
 use Rattle.pst_legal.specs.SupplyReading.{Spot, Source, Initially, From, New, supplied_by, read_supply}
@@ -13,15 +12,15 @@ use Rattle.pst_legal.specs.ValueReading.{Answer, Options, Dead, Whole, answer_of
 use Rattle.pst_built.proofs.Goes.{Stands as Relates, stands}
 use Rattle.pst_built.proofs.Readers.{goes_supply}
 use Rattle.pst_shape_parts.specs.Trees.{bare}
-use Rattle.pst_shape.specs.Walks.{Kept as Shape, answer as shape_answer, next_of, IfRead, HasDigit}
+use Rattle.pst_shape.specs.Walks.{next_of, IfRead, HasDigit}
 use Rattle.pst_open_ends.specs.Changes.{opened}
 use Rattle.pst_supply.specs.Walks.{Kept as Supply, answer as supply_answer}
 use Rattle.pst_supply.specs.Walks.{next_of as supply_next_of, IfRead as SupplyRead, HasDigit as SupplyDigit}
-use Rattle.pst_link_walk.specs.Walks.{Kept, with_choice, tree_reading, reading, answer, IsUsed, AtEnd}
-use Rattle.pst_link_walk.specs.Made.{IsInside, choices_of, IsBehind, Stands, Begins, Goes, supply_of, shape_of}
-use Rattle.pst_link_walk.proofs.Walking.{tree_nil, tree_next, behind_reads, supply_answers}
+use Rattle.pst_link_walk.specs.Walks.{Kept, with_choice, tree_reading, answer}
+use Rattle.pst_link_walk.specs.Made.{IsInside, choices_of, IsBehind, Stands}
+use Rattle.pst_link_walk.proofs.Walking.{behind_reads, supply_answers}
 use Rattle.pst_link_walk.proofs.Plain.{IsPlain, IfThere, plain_tree}
-use Rattle.pst_link_walk.proofs.Beginning.{shape_reads, has_same, has_inside, inside_answers}
+use Rattle.pst_link_walk.proofs.Beginning.{inside_answers}
 
 pub next_same : (a : Answer) → supply_next_of a ≡ next_of a
 next_same (Options s n) = refl

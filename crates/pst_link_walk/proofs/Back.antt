@@ -1,5 +1,5 @@
 -- A choice that is taken back.
-use Rattle.std.proofs.Common.{◌≡◌, ℕ, ◌+◌, ◌-◌, ◌<◌, ◌≤◌, List, [], ◌∷◌, ◌++◌, length, Option, Some, None, refl, sym, ap, ◌∙◌, subst, length-append, arith}
+use Rattle.std.proofs.Common.{◌≡◌, ℕ, ◌+◌, ◌-◌, ◌<◌, ◌≤◌, List, [], ◌∷◌, ◌++◌, length, Option, Some, None, ap, ◌∙◌, subst, length-append, arith}
 use Rattle.pst_model.specs.declared.model.Model.{Model}
 use Rattle.pst_shape.specs.Walks.{Kept as Shape, with_choice as shape_choice}
 use Rattle.pst_supply.specs.Walks.{Kept as Supply}
@@ -7,7 +7,7 @@ use Rattle.pst_link_walk.specs.Walks.{Kept, with_choice, tree_reading}
 use Rattle.pst_link_walk.specs.Made.{IsInside, choices_of, Stands}
 use Rattle.pst_link_walk.proofs.Beginning.{inside_back}
 use Rattle.pst_link_walk.proofs.Answering.{more_links}
-use Rattle.pst_link_walk.proofs.Choosing.{shape_back, one_less}
+use Rattle.pst_link_walk.proofs.Choosing.{one_less}
 
 -- ---- a choice of a source
 

@@ -4,7 +4,6 @@ use Rattle.pst_model.specs.declared.model.Model.{Model}
 use Rattle.pst_model.specs.ModelView.{view_model}
 use Rattle.pst_scen.specs.declared.act.Act.{Act}
 use Rattle.pst_scen.specs.declared.tree.Node.{Node}
-use Rattle.pst_scen.specs.declared.next.Next.{Next}
 use Rattle.pst_scen.specs.declared.next.Next.TheVariants as next
 use Rattle.pst_scen.specs.declared.scenario.Scenario.{Scenario}
 use Rattle.pst_legal.specs.Reading.{Reading, Wants, Stops, Reads}
@@ -14,8 +13,8 @@ use Rattle.pst_shape_parts.specs.Trees.{bare}
 use Rattle.pst_shape.specs.Walks.{Kept as Shape, answer as shape_answer, next_of, IfRead, HasDigit}
 use Rattle.pst_supply.specs.Walks.{Kept as Supply, answer as supply_answer}
 use Rattle.pst_link_walk.specs.Walks.{Kept, tree_reading, reading, answer, IsUsed}
-use Rattle.pst_link_walk.specs.Made.{IsInside, choices_of, IsBehind, Stands, Begins, Goes, supply_of, shape_of}
-use Rattle.pst_link_walk.proofs.Walking.{tree_on, tree_next, tree_back, tree_place, supply_next, supply_back, supply_nil, inside_answer, whole_reads, not_whole, supply_reads, supply_answers, behind_reads, tree_plain}
+use Rattle.pst_link_walk.specs.Made.{IsInside, choices_of, IsBehind, Stands, Begins, supply_of, shape_of}
+use Rattle.pst_link_walk.proofs.Walking.{tree_back, tree_place, supply_next, supply_back, supply_nil, inside_answer, whole_reads, not_whole, supply_reads, behind_reads}
 use Rattle.pst_link_walk.proofs.Used.{inside_used}
 
 next_whole : (a : Answer) → next_of a ≡ next.Whole → (t : Scenario) × (a ≡ Whole t)

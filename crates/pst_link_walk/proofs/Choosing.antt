@@ -1,9 +1,9 @@
 -- A choice of the activity, and taking it back.
-use Rattle.std.proofs.Common.{◌≡◌, ℕ, ◌+◌, ◌<◌, List, [], ◌∷◌, ◌++◌, length, Option, Some, None, refl, sym, ap, ◌∙◌, subst, append-nil, append_assoc, length-append, arith}
+use Rattle.std.proofs.Common.{◌≡◌, ℕ, ◌+◌, ◌<◌, List, [], ◌∷◌, ◌++◌, length, Option, None, refl, sym, ap, ◌∙◌, subst, append-nil, length-append, arith}
 use Rattle.pst_model.specs.declared.model.Model.{Model}
 use Rattle.pst_model.specs.ModelView.{view_model}
 use Rattle.pst_scen.specs.declared.next.Next.{Next}
-use Rattle.pst_legal.specs.ValueReading.{Answer, answer_of}
+use Rattle.pst_legal.specs.ValueReading.{answer_of}
 use Rattle.pst_shape.specs.Walks.{Kept as Shape, answer as shape_answer, with_choice as shape_choice, next_of, HasDigit}
 use Rattle.pst_supply.specs.Walks.{Kept as Supply}
 use Rattle.pst_link_walk.specs.Walks.{Kept, with_choice, tree_reading, IsUsed}

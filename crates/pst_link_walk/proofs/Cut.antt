@@ -10,7 +10,7 @@ use Rattle.pst_scen.specs.declared.scenario.Scenario.{Scenario}
 use Rattle.pst_legal.specs.Growing.{Look, with_look, is_within, most_levels}
 use Rattle.pst_legal.specs.Pieces.{Piece, Action}
 use Rattle.pst_legal.specs.Menus.{Menu, Way, Place, Weighted, Closed, menu}
-use Rattle.pst_legal.specs.Reading.{Reading, Wants, Stops, Reads, Reader, then_read, read_place, put_value, value_number, option_at, read_fields, read_menu, read_pieces, if_within, read_way, read_piece, read_tree}
+use Rattle.pst_legal.specs.Reading.{Reading, Wants, Stops, Reads, Reader, then_read, read_place, put_value, value_number, option_at, read_fields, read_menu, read_pieces, read_way, read_piece, read_tree}
 use Rattle.pst_legal.specs.SupplyReading.{Spot, Source, next_need, sources, supplied_by, inferred, end_supply, chosen, read_turn, read_supply}
 
 -- the first of the choices are read to the end, whatever stands behind them

@@ -6,16 +6,16 @@ use Rattle.pst_model.specs.ModelView.{view_model}
 use Rattle.pst_scen.specs.declared.scenario.Scenario.{Scenario}
 use Rattle.pst_legal.specs.Growing.{nothing_yet}
 use Rattle.pst_legal.specs.Menus.{menu}
-use Rattle.pst_legal.specs.Reading.{Reading, Wants, Stops, Reads, Reader, then_read, read_tree}
+use Rattle.pst_legal.specs.Reading.{Reading, Wants, Stops, Reads}
 use Rattle.pst_legal.specs.SupplyReading.{Spot, Source, Initially, From, New, supplied_by, read_supply}
-use Rattle.pst_built.proofs.Goes.{Stands as Relates, After, Goes, stands, goes_then}
+use Rattle.pst_built.proofs.Goes.{Stands as Relates, After, stands, goes_then}
 use Rattle.pst_built.proofs.Readers.{goes_tree, goes_supply}
 use Rattle.pst_built.proofs.Read.{Any, any_fields, AnyWay, any_ways}
 use Rattle.pst_supply.specs.Walks.{Kept as Supply}
-use Rattle.pst_link_walk.specs.Walks.{Kept, tree_reading, reading, IsUsed, IsEnd, AtEnd, HasTree}
+use Rattle.pst_link_walk.specs.Walks.{Kept, tree_reading, reading, IsUsed, AtEnd, HasTree}
 use Rattle.pst_link_walk.specs.Made.{IsInside, choices_of, IsBehind, Stands}
 use Rattle.pst_link_walk.proofs.Cut.{Cuts, cuts_tree, cuts_supply, cuts_then}
-use Rattle.pst_link_walk.proofs.Used.{next_used, back_inside}
+use Rattle.pst_link_walk.proofs.Used.{back_inside}
 use Rattle.pst_link_walk.proofs.Plain.{IsPlain, IfThere, plain_tree}
 use Rattle.pst_link_walk.proofs.Walking.{tree_on, tree_place, supply_place, inside_answer, behind_reads, tree_plain}
 

@@ -1,5 +1,5 @@
 -- An activity grows at its end: from one list of choices to one more, all nodes but the last and all actions stay as they are.
-use Rattle.std.proofs.Common.{◌≡◌, ℕ, zero, suc, ◌+◌, ◌<◌, ◌≤◌, ℤ, List, [], ◌∷◌, ◌++◌, length, take, drop, Option, Some, None, refl, sym, ap, ◌∙◌, subst, append_assoc, append-nil, length-append, arith}
+use Rattle.std.proofs.Common.{◌≡◌, ℕ, zero, suc, ◌+◌, ◌<◌, ◌≤◌, ℤ, List, [], ◌∷◌, ◌++◌, length, take, drop, Option, Some, refl, sym, ap, ◌∙◌, subst, append_assoc, append-nil, length-append, arith}
 use Rattle.std.specs.Prelude.{slice_get}
 use Rattle.std.proofs.lemmas.Option.{none-some}
 use Rattle.pst_model.specs.declared.action.Field.{Field}
@@ -97,3 +97,18 @@ next first s n d (Reads u p left) go after is = absurd cc
 pub grown : (m : ModelTree) (seed root level : ℕ) (xs : List ℕ) (d : ℕ) (s : Scenario) (n : ℕ) → read_tree m seed root (nothing_yet level) 0 xs ≡ Wants s n → Stands Grown s (read_tree m seed root (nothing_yet level) 0 (xs ++ d ∷ []))
 grown m seed root level xs d s n is =
     next (nothing_yet level) s n d (read_tree m seed root (nothing_yet level) 0 xs) (λ more. read_tree m seed root (nothing_yet level) 0 (xs ++ more)) (goes m seed root level xs) is
+
+-- ---- any choices more
+
+further : (first s : Scenario) (n : ℕ) (ys : List ℕ) (r : Reading) (go : List ℕ → Reading) → After Grown first r go → r ≡ Wants s n → Stands Grown s (go ys)
+further first s n ys (Wants u j) go after is =
+    let x = after.1 in
+    let stood : Stands Grown u (read_place x.start j x.next u x.place ys) = place_stands_at Grown u x.start j x.place x.next ys (grown_same u) (λ i e rest l same. x.on i (x.place + 1) rest l) in
+    let same : u ≡ s = cc in
+    subst (λ v. Stands Grown v (go ys)) same (subst (Stands Grown u) (sym (x.is ys)) stood)
+further first s n ys Stops go after is = absurd cc
+further first s n ys (Reads u p left) go after is = absurd cc
+
+pub grown_on : (m : ModelTree) (seed root level : ℕ) (xs ys : List ℕ) (s : Scenario) (n : ℕ) → read_tree m seed root (nothing_yet level) 0 xs ≡ Wants s n → Stands Grown s (read_tree m seed root (nothing_yet level) 0 (xs ++ ys))
+grown_on m seed root level xs ys s n is =
+    further (nothing_yet level) s n ys (read_tree m seed root (nothing_yet level) 0 xs) (λ more. read_tree m seed root (nothing_yet level) 0 (xs ++ more)) (goes m seed root level xs) is

@@ -10,3 +10,4 @@ pub mod Back
 pub mod Grown
 pub mod News
 pub mod Sizes
+pub mod Opened

@@ -1,9 +1,8 @@
 -- What one choice more makes new.
-use Rattle.std.proofs.Common.{◌≡◌, ◌≢◌, ◌⊎◌, ℕ, zero, suc, ◌+◌, ◌-◌, ◌<◌, ◌≤◌, List, [], ◌∷◌, ◌++◌, map, length, take, drop, get_or, Bor, Bool, true, false, nat_eq, nat_lt, if◌then◌else◌, Option, Some, None, refl, sym, ap, ◌∙◌, subst, inl, inr, ⊎_elim, append-nil, append_assoc, arith}
+use Rattle.std.proofs.Common.{◌≡◌, ◌⊎◌, ℕ, zero, suc, ◌+◌, ◌-◌, ◌<◌, ◌≤◌, List, [], ◌∷◌, ◌++◌, map, length, take, drop, get_or, Bor, Bool, true, false, nat_eq, nat_lt, if◌then◌else◌, Option, Some, None, refl, sym, ap, ◌∙◌, subst, inl, inr, ⊎_elim, append-nil, append_assoc, arith}
 use Rattle.std.specs.Prelude.{slice_get}
 use Rattle.std.specs.Option.{option_map, is_some, IfSome}
 use Rattle.std.specs.Global.{Vec}
-use Rattle.std.proofs.lemmas.List.{length-map}
 use Rattle.std.proofs.lemmas.Bool.{cases_lt, eqb-true, ltb-false, ltb-true}
 use Rattle.std.proofs.lemmas.Option.{none-some, same_Some, slice_get-get_or, slice_get_past, slice_get_read}
 use Rattle.pst_model.specs.declared.model.Model.{Model}
@@ -14,8 +13,8 @@ use Rattle.pst_scen.specs.declared.act.Link.{Link}
 use Rattle.pst_scen.specs.declared.tree.Node.{Node}
 use Rattle.pst_scen.specs.declared.scenario.Scenario.{Scenario}
 use Rattle.pst_legal.specs.Reading.{Reading, Reader, Wants, Stops, Reads, then_read}
-use Rattle.pst_legal.specs.SupplyReading.{Spot, inferred, next_need, sources, act_with_link, put_link, read_turn, read_supply, end_supply}
-use Rattle.pst_legal.specs.ValueReading.{Answer, Options, Dead, Whole, answer_of}
+use Rattle.pst_legal.specs.SupplyReading.{Spot, inferred, next_need, sources, act_with_link, put_link, read_turn, read_supply}
+use Rattle.pst_legal.specs.ValueReading.{Answer, Options, answer_of}
 use Rattle.pst_built.proofs.Goes.{Stands as Relates}
 use Rattle.pst_built.proofs.ReadOnwardLinks.{alter_at}
 use Rattle.pst_shape_parts.specs.Trees.{bare}
@@ -25,12 +24,12 @@ use Rattle.pst_open_ends.specs.declared.links.Change.{Change}
 use Rattle.pst_open_ends.specs.Changes.{opened, unlinked, far_unlinked, ends_undone, undone}
 use Rattle.pst_supply.specs.Walks.{Kept as Supply, answer as supply_answer, IsChange}
 use Rattle.pst_supply.specs.Walks.{IfRead as SupplyRead}
-use Rattle.pst_link_walk.specs.Walks.{Kept, tree_reading, reading, answer, IsUsed}
+use Rattle.pst_link_walk.specs.Walks.{tree_reading, reading, answer, IsUsed}
 use Rattle.pst_link_walk.specs.Made.{IsInside, choices_of, IsBehind, Stands}
-use Rattle.pst_link_walk.specs.News.{at_choices, IsSize, GoesOnBy, IsNews, OpensFrom, act_of, far_act, changed_acts, AreChanged}
-use Rattle.pst_link_walk.proofs.Walking.{inside_answer, tree_plain, behind_reads, supply_reads}
+use Rattle.pst_link_walk.specs.News.{IsSize, GoesOnBy, IsNews, OpensFrom, act_of, far_act, changed_acts, AreChanged}
+use Rattle.pst_link_walk.proofs.Walking.{inside_answer, behind_reads, supply_reads}
 use Rattle.pst_link_walk.proofs.Choosing.{snoc_same}
-use Rattle.pst_link_walk.proofs.Answering.{kept_at, none_stands, some_stands, none_answers, opened_acts, read_more, read_same, supply_nodes}
+use Rattle.pst_link_walk.proofs.Answering.{kept_at, none_stands, some_stands, opened_acts, supply_nodes}
 use Rattle.pst_link_walk.proofs.Grown.{Grown, grown}
 
 -- ---- lists that grow

@@ -1,5 +1,5 @@
 -- What is read of an activity has no links, no claims and no values but those of compound actions.
-use Rattle.std.proofs.Common.{◌≡◌, ℕ, ℤ, List, [], ◌∷◌, ◌++◌, map, length, Option, Some, refl, sym, ap, ◌∙◌, subst}
+use Rattle.std.proofs.Common.{◌≡◌, ℕ, ℤ, List, [], ◌∷◌, ◌++◌, map, length, Option, Some, refl, sym, ap, ◌∙◌}
 use Rattle.std.proofs.lemmas.List.{map-append}
 use Rattle.pst_model.specs.declared.action.Field.{Field}
 use Rattle.pst_model.specs.ModelTree.{ModelTree}
@@ -7,9 +7,9 @@ use Rattle.pst_scen.specs.declared.act.Act.{Act}
 use Rattle.pst_scen.specs.declared.scenario.Scenario.{Scenario}
 use Rattle.pst_scen.specs.declared.scenario.First.{First}
 use Rattle.pst_legal.specs.Growing.{Look, Inner, Leaf, nothing_yet, with_look, open_act}
-use Rattle.pst_legal.specs.Menus.{Menu, menu}
+use Rattle.pst_legal.specs.Menus.{menu}
 use Rattle.pst_legal.specs.Reading.{Reading, Wants, Stops, Reads, read_tree, put_value}
-use Rattle.pst_built.proofs.Goes.{Stands, After, Goes, stands}
+use Rattle.pst_built.proofs.Goes.{Stands, stands}
 use Rattle.pst_built.proofs.Readers.{FieldSteps, goes_tree}
 use Rattle.pst_built.proofs.Read.{AnyWay, any_ways}
 use Rattle.pst_shape_parts.specs.Trees.{bare}

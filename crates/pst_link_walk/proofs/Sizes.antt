@@ -3,12 +3,11 @@ use Rattle.std.proofs.Common.{◌≡◌, ℕ, List, ◌++◌, map, length, Optio
 use Rattle.std.proofs.lemmas.List.{length-map}
 use Rattle.pst_model.specs.declared.model.Model.{Model}
 use Rattle.pst_scen.specs.declared.act.Act.{Act}
-use Rattle.pst_scen.specs.declared.scenario.Scenario.{Scenario}
 use Rattle.pst_legal.specs.ValueReading.{answer_of}
 use Rattle.pst_shape_parts.specs.Trees.{bare}
 use Rattle.pst_shape.specs.Walks.{IfRead}
 use Rattle.pst_supply.specs.Walks.{Kept as Supply}
-use Rattle.pst_link_walk.specs.Walks.{tree_reading, answer}
+use Rattle.pst_link_walk.specs.Walks.{tree_reading}
 use Rattle.pst_link_walk.specs.Made.{IsInside, choices_of, Stands}
 use Rattle.pst_link_walk.specs.News.{IsSize}
 use Rattle.pst_link_walk.proofs.Answering.{kept_at, none_stands, none_answers, read_more}

@@ -1,5 +1,5 @@
 -- What a walk's parts read is what its list reads.
-use Rattle.std.proofs.Common.{◌≡◌, ℕ, ◌+◌, List, [], ◌∷◌, ◌++◌, map, length, Option, Some, None, refl, sym, ap, ◌∙◌, subst, append-nil}
+use Rattle.std.proofs.Common.{◌≡◌, ℕ, ◌+◌, List, [], ◌∷◌, ◌++◌, length, refl, sym, ap, ◌∙◌, subst}
 use Rattle.pst_model.specs.declared.model.Model.{Model}
 use Rattle.pst_model.specs.ModelTree.{ModelTree}
 use Rattle.pst_model.specs.ModelView.{view_model}
@@ -8,17 +8,16 @@ use Rattle.pst_legal.specs.Growing.{nothing_yet}
 use Rattle.pst_legal.specs.Menus.{menu}
 use Rattle.pst_legal.specs.Reading.{Reading, Wants, Stops, Reads, Reader, then_read, read_tree}
 use Rattle.pst_legal.specs.SupplyReading.{read_supply}
-use Rattle.pst_legal.specs.ValueReading.{Answer, Options, Dead, Whole, answer_of}
+use Rattle.pst_legal.specs.ValueReading.{Whole, answer_of}
 use Rattle.pst_built.proofs.Goes.{After}
 use Rattle.pst_built.proofs.Readers.{goes_tree, goes_supply}
 use Rattle.pst_built.proofs.Read.{Any, any_fields, AnyWay, any_ways}
-use Rattle.pst_shape_parts.specs.Trees.{bare}
-use Rattle.pst_supply.specs.Walks.{scenario_at, answer as supply_answer}
+use Rattle.pst_supply.specs.Walks.{answer as supply_answer}
 use Rattle.pst_supply.specs.Walks.{Kept as Supply}
-use Rattle.pst_link_walk.specs.Walks.{Kept, tree_reading, reading, answer, IsUsed}
-use Rattle.pst_link_walk.specs.Made.{IsInside, choices_of, IsBehind, Stands, supply_of}
+use Rattle.pst_link_walk.specs.Walks.{tree_reading, answer, IsUsed}
+use Rattle.pst_link_walk.specs.Made.{IsInside, IsBehind}
 use Rattle.pst_link_walk.proofs.Cut.{cuts_tree, cuts_supply}
-use Rattle.pst_link_walk.proofs.Used.{next_used, back_inside, nil_used, place_is, inside_used}
+use Rattle.pst_link_walk.proofs.Used.{next_used, back_inside, nil_used, place_is}
 use Rattle.pst_link_walk.proofs.Plain.{IsPlain, IfThere, plain_tree, plain_is}
 
 read_on : (s t : Scenario) (q : ℕ) (left : List ℕ) (r : Reading) (go : List ℕ → Reading) → After Any s r go → r ≡ Reads t q left → (more : List ℕ) → go more ≡ Reads t q (left ++ more)

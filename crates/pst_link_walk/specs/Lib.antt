@@ -1,3 +1,4 @@
 pub mod Walks
 pub mod Made
 pub mod News
+pub mod Opened

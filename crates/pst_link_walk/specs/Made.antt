@@ -11,6 +11,7 @@ use Rattle.pst_shape.specs.Walks.{Kept as Shape}
 use Rattle.pst_supply.specs.Walks.{Kept as Supply}
 use Rattle.pst_link_walk.specs.declared.walk.LinkWalk.TheInside.{Inside}
 use Rattle.pst_link_walk.specs.Walks.{Kept, tree_reading, IsUsed}
+use Rattle.pst_link_walk.specs.Opened.{AreOpened}
 
 -- the activity isn't read through yet
 abbrev pub IsInside : Reading → Type 0
@@ -60,3 +61,4 @@ pub record IsKept (w : Inside) : Type 0 where
   pub made : w.made ≡ length w.shape.choices
   pub linked : w.linked ≡ length (choices_of w.supply)
   pub stands : Stands w.model.now w.root w.seed w.level w.shape.choices w.supply
+  pub opened : AreOpened w.model.now w.root w.seed w.level w.shape.choices w.opened.items

@@ -9,7 +9,7 @@ use Rattle.pst_legal.specs.Reading.{Wants}
 use Rattle.pst_shape.specs.Walks.{IfRead}
 use Rattle.pst_open_ends.specs.declared.links.Relinked.{Relinked}
 use Rattle.pst_open_ends.specs.declared.links.Change.{Change}
-use Rattle.pst_open_ends.specs.Changes.{opened, undone}
+use Rattle.pst_open_ends.specs.Changes.{opened}
 use Rattle.pst_link_walk.specs.Walks.{Kept, tree_reading, reading, answer}
 use Rattle.pst_link_walk.specs.Made.{IsInside}
 

@@ -1,11 +1,14 @@
 //! Walks through the choices of an activity and of its sources.
-ghost use Rattle.std.specs.Prelude.{◌≡◌, ℕ, ◌+◌, ◌++◌, ◌<◌, true, IfOk, OnOk, OnErr, length, slice_get, [], IsTrue};
+ghost use Rattle.std.specs.Prelude.{◌≡◌, ℕ, ◌+◌, ◌++◌, ◌<◌, true, IfOk, IfSome, OnOk, OnErr, length, drop, map, slice_get, [], IsTrue};
 ghost use Rattle.pst_model.specs.ModelView.{view_model};
 ghost use Rattle.pst_model.specs.Served.{IsInOrder};
 ghost use Rattle.pst_legal.specs.ValueReading.{answer_of};
+ghost use Rattle.pst_open_ends.specs.Changes.{opened};
 ghost use Rattle.pst_shape.specs.Walks.{next_of, IfRead, HasDigit};
+ghost use Rattle.pst_shape.specs.Walks.{answer as shape_answer};
 ghost use Rattle.pst_link_walk.specs.Walks.{with_choice, tree_reading, reading, answer, IsUsed, AtEnd, HasTree};
 ghost use Rattle.pst_link_walk.specs.Made.{shape_of, IsInside, Begins, Goes};
+ghost use Rattle.pst_link_walk.specs.Opened.{IsOptions};
 ghost use Rattle.pst_link_walk.specs.News.{IsSize, IsNews, OpensFrom, AreChanged, act_of, far_act};
 
 use pst_base::NoMemory;
@@ -16,6 +19,7 @@ use pst_scen::{Act, Next, Node};
 use pst_shape::Walk;
 use pst_supply::SupplyWalk;
 use std::alloc::Global;
+use std::mem;
 
 // The walk over the sources, where the activity is read through. `in_order`: the entries for what serves
 // references stand in order.
@@ -156,6 +160,46 @@ fn changed(alloc: Global, acts: &[Act], change: &Change) -> Result<Option<Vec<Ac
     Ok(Some(found))
 }
 
+// Whether the activity has a next place.
+fn is_at_place(shape: &Walk<'_>) -> bool
+    ensures { (level : ℕ) → result ≡ true → IsOptions (shape_answer shape.now level) }
+{
+    match shape.next() {
+        Next::Options(_) => true,
+        _ => false,
+    }
+}
+
+// These actions, and then those.
+fn joined(kept: Vec<Act>, more: Vec<Act>) -> Result<Vec<Act>, NoMemory>
+    ensures { IfOk result (λ acts. acts.items ≡ kept.items ++ more.items) }
+{
+    let mut acts = kept;
+    let mut more = more;
+    acts.append(&mut more)?;
+    Ok(acts)
+}
+
+// The leaves with open references, of which the first are kept.
+fn opened_on(
+    alloc: Global,
+    model: &Model,
+    in_order: bool,
+    leaves: &[Act],
+    kept: Vec<Act>,
+) -> Result<Vec<Act>, NoMemory>
+    requires { IsTrue in_order → IsInOrder (view_model model.now).served }
+    ensures { IfOk result (λ acts. acts.items ≡ kept.items ++ drop (length kept.items) (map (opened (view_model model.now)) leaves.now)) }
+{
+    let count = kept.len();
+    if count > leaves.len() {
+        return Ok(kept);
+    }
+    let more = open_leaves(alloc, model, in_order, &leaves[count..])?;
+    let acts = joined(kept, more)?;
+    Ok(acts)
+}
+
 /// A walk through the lists of choices that fill an activity and give its needs their sources. Contracts
 /// see its model, its root, its seed, its level and its choices.
 #[derive(Drop)]
@@ -170,6 +214,7 @@ pub struct LinkWalk<'a> {
     made: u64,
     supply: Option<SupplyWalk<'a>>,
     linked: u64,
+    opened: Vec<Act>,
 }
 
 impl<'a> std::marker::Model for LinkWalk<'a> {
@@ -204,6 +249,7 @@ impl<'a> LinkWalk<'a> {
         let in_order = serves_in_order(model);
         let shape = Walk::new(alloc, model, root, seed)?;
         let supply = begin(alloc, model, in_order, &shape, root, seed, 0, level)?;
+        let opened = Vec::new(alloc);
         Ok(LinkWalk {
             alloc,
             model,
@@ -215,6 +261,7 @@ impl<'a> LinkWalk<'a> {
             made: 0,
             supply,
             linked: 0,
+            opened,
         })
     }
 
@@ -282,6 +329,40 @@ impl<'a> LinkWalk<'a> {
         }
     }
 
+    /// Opens the references of the actions so far, while the activity is being read, so that `opened` has
+    /// them. Those that were opened before, and stand as they stood, are kept.
+    pub fn open(&mut self) -> Result<(), NoMemory>
+        ensures { self.new ≡ self.old }
+    {
+        if !is_at_place(&self.shape) {
+            return Ok(());
+        }
+        let kept = mem::replace(&mut self.opened, Vec::new(self.alloc));
+        self.opened = opened_on(
+            self.alloc,
+            self.model,
+            self.in_order,
+            self.shape.leaves(),
+            kept,
+        )?;
+        Ok(())
+    }
+
+    /// The actions so far with their links, where they are kept.
+    pub fn opened(&self) -> Option<&[Act]>
+        ensures { IfSome result (λ acts. IfRead (answer self.now) (λ s. acts.now ≡ s.actions)) }
+    {
+        match &self.supply {
+            None => {
+                if self.opened.len() != self.shape.leaves().len() {
+                    return None;
+                }
+                Some(&self.opened)
+            }
+            Some(supply) => Some(supply.actions()),
+        }
+    }
+
     /// How many actions there are so far, while the activity is being read.
     pub fn size(&self) -> Option<usize>
         ensures { IsSize self.now result }
@@ -342,6 +423,7 @@ impl<'a> LinkWalk<'a> {
             }
             None => {
                 let made = sum(self.made, 1)?;
+                let leaves = self.shape.leaves().len();
                 let supply = choose_shape(
                     self.alloc,
                     self.model,
@@ -353,6 +435,7 @@ impl<'a> LinkWalk<'a> {
                     self.level,
                     digit,
                 )?;
+                self.opened.truncate(leaves);
                 self.supply = supply;
                 self.made = made;
                 Ok(())

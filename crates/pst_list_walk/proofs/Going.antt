@@ -1,5 +1,5 @@
 -- What is known of a list's beginnings behind one choice more.
-use Rattle.std.proofs.Common.{◌≡◌, ℕ, ◌+◌, ◌-◌, ◌<◌, List, [], ◌∷◌, ◌++◌, length, Bool, true, false, Option, Some, None, refl, sym, ap, ◌∙◌, subst, length-append}
+use Rattle.std.proofs.Common.{◌≡◌, ℕ, ◌+◌, ◌-◌, ◌<◌, List, [], ◌∷◌, ◌++◌, length, Bool, true, false, Option, Some, None, refl, sym, ap, ◌∙◌, subst, inl, inr, length-append}
 use Rattle.std.specs.Global.{Vec}
 use Rattle.pst_model.specs.declared.model.Model.{Model}
 use Rattle.pst_model.specs.ModelView.{view_model}
@@ -18,7 +18,7 @@ use Rattle.pst_link_walk.specs.News.{IsSize, IsNews}
 use Rattle.pst_list_walk.specs.Walks.{answer}
 use Rattle.pst_list_walk.specs.Free.{kept_at, IfPlace, IsFree, IsFreed, Frees}
 use Rattle.pst_list_walk.specs.Made.{choices_of, Stands, Goes}
-use Rattle.pst_new_refusals.specs.Newly.{StaysFree}
+use Rattle.pst_new_refusals.specs.Newly.{AreGiven, StaysFree}
 use Rattle.pst_list_walk.proofs.Growing.{freed}
 use Rattle.pst_list_walk.proofs.Free.{free_next, free_here}
 use Rattle.pst_list_walk.proofs.Answering.{none_stands}
@@ -54,8 +54,20 @@ module _ (m : Model) (root seed level : ℕ) where
       (told m (reading links) (subst (λ k. IsInside (reading k)) (sym e) (none_stands m root seed level links.choices values none stands)) (subst (λ k. IfPlace (link_answer k) (NoneRefused (view_model m))) (sym e) (free_here m root seed level links.choices free linked is many l)))
 
   -- with what is new
-  pub freed_on : (digit : ℕ) (size : Option ℕ) (count : ℕ) (new : Kept) (nodes : List Node) (fresh : Vec Act) → IsNews new size (Some fresh) → IfRead (link_answer new) (λ t. nodes ≡ t.nodes) → StaysFree (view_model m) nodes (count - 1) fresh.items
-      → IsFreed m root seed level digit size count new
-  freed_on digit size count new nodes fresh news same stays = λ xs e has sized counts none.
+  pub freed_on : (digit : ℕ) (size : Option ℕ) (count : ℕ) (new : Kept) (far : Bool) (nodes : List Node) (acts : List Act) (fresh : Vec Act) → IsNews new size (Some fresh) → IfRead (link_answer new) (λ t. nodes ≡ t.nodes) → IfRead (link_answer new) (AreGiven far acts)
+      → StaysFree (view_model m) far nodes acts (count - 1) fresh.items → IsFreed m root seed level digit size count new
+  freed_on digit size count new far nodes acts fresh news same given stays = λ xs e has sized counts none.
       let at : IsNews (kept_at m root seed level (xs ++ digit ∷ [])) size (Some fresh) = subst (λ k. IsNews k size (Some fresh)) e news in
-      freed m root seed level xs digit nodes count fresh.items stays (λ s t n k here there. at xs digit refl sized s t n k here there) has counts (subst (λ k. IfRead (link_answer k) (λ t. nodes ≡ t.nodes)) e same) none
+      freed m root seed level xs digit far nodes acts count fresh.items stays (λ s t n k here there. at xs digit refl sized s t n k here there) has counts (subst (λ k. IfRead (link_answer k) (λ t. nodes ≡ t.nodes)) e same)
+      (subst (λ k. IfRead (link_answer k) (AreGiven far acts)) e given) none
+
+-- the actions are those that are read, or none
+pub given_all : (far : Bool) (a : Answer) (acts : List Act) → IfRead a (λ s. acts ≡ s.actions) → IfRead a (AreGiven far acts)
+given_all far (Options s n) acts same = inl (sym same)
+given_all far Dead acts same = tt
+given_all far (Whole s) acts same = inl (sym same)
+
+pub given_none : (far : Bool) (a : Answer) (acts : List Act) → far ≡ false → acts ≡ [] → IfRead a (AreGiven far acts)
+given_none far (Options s n) acts near none = inr (near, none)
+given_none far Dead acts near none = tt
+given_none far (Whole s) acts near none = inr (near, none)

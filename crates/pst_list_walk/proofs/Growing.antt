@@ -1,5 +1,5 @@
 -- Where nothing new is refused, nothing is.
-use Rattle.std.proofs.Common.{◌≡◌, ℕ, ◌-◌, ◌≤◌, List, [], ◌∷◌, ◌++◌, length, Some, refl, sym, ap, subst, arith}
+use Rattle.std.proofs.Common.{◌≡◌, ℕ, ◌-◌, ◌≤◌, List, [], ◌∷◌, ◌++◌, length, Bool, Some, refl, sym, ap, subst, arith}
 use Rattle.std.specs.Prelude.{slice_get}
 use Rattle.std.proofs.lemmas.Option.{slice_get_within, option_and_then_some}
 use Rattle.pst_model.specs.declared.model.Model.{Model}
@@ -21,7 +21,7 @@ use Rattle.pst_read_domains.proofs.Empty.{place_unvalued}
 use Rattle.pst_read_domains.proofs.ReadNodesWhole.{some_stand}
 use Rattle.pst_shape.specs.Walks.{IfRead, HasDigit}
 use Rattle.pst_new_refusals.specs.Since.{IsUnread, IsSince}
-use Rattle.pst_new_refusals.specs.Newly.{StaysFree}
+use Rattle.pst_new_refusals.specs.Newly.{AreGiven, StaysFree}
 use Rattle.pst_link_walk.specs.Walks.{reading}
 use Rattle.pst_link_walk.specs.News.{GoesOnBy}
 use Rattle.pst_list_walk.specs.Free.{kept_at, IfPlace, RefusesNone}
@@ -71,20 +71,21 @@ module _ (m : Model) (root seed level : ℕ) where
         homes = acts_named (view_model m) root seed level xs s n e;
       }
 
-  module _ (xs : List ℕ) (d : ℕ) (nodes : List Node) (count : ℕ) (fresh : List Act) (stays : StaysFree (view_model m) nodes (count - 1) fresh)
+  module _ (xs : List ℕ) (d : ℕ) (far : Bool) (nodes : List Node) (acts : List Act) (count : ℕ) (fresh : List Act) (stays : StaysFree (view_model m) far nodes acts (count - 1) fresh)
       (news : (s t : Scenario) (n k : ℕ) → reading (kept_at m root seed level xs) ≡ Wants s n → reading (kept_at m root seed level (xs ++ d ∷ [])) ≡ Wants t k → GoesOnBy s t fresh) where
-    freed_by : (r q : Reading) → reading (kept_at m root seed level xs) ≡ r → reading (kept_at m root seed level (xs ++ d ∷ [])) ≡ q → HasDigit (answer_of r) d → IfRead (answer_of r) (λ s. count ≡ length s.nodes) → IfRead (answer_of q) (λ t. nodes ≡ t.nodes)
+    freed_by : (r q : Reading) → reading (kept_at m root seed level xs) ≡ r → reading (kept_at m root seed level (xs ++ d ∷ [])) ≡ q → HasDigit (answer_of r) d → IfRead (answer_of r) (λ s. count ≡ length s.nodes) → IfRead (answer_of q) (λ t. nodes ≡ t.nodes) → IfRead (answer_of q) (AreGiven far acts)
         → IfPlace (answer_of r) (NoneRefused (view_model m)) → IfPlace (answer_of q) (NoneRefused (view_model m))
-    freed_by (Wants s n) (Wants t k) e f digit counts same none =
-        stays s t (sym same) (subst (λ i. IsSince s t i fresh) (ap (λ c. c - 1) (sym counts)) (since xs d s t n k fresh e f (news s t n k e f))) none
-    freed_by (Wants s n) Stops e f digit counts same none = tt
-    freed_by (Wants s n) (Reads t q []) e f digit counts same none = tt
-    freed_by (Wants s n) (Reads t q (x ∷ left)) e f digit counts same none = tt
-    freed_by Stops q e f digit counts same none = absurd digit
-    freed_by (Reads s p []) q e f digit counts same none = absurd digit
-    freed_by (Reads s p (x ∷ left)) q e f digit counts same none = absurd digit
+    freed_by (Wants s n) (Wants t k) e f digit counts same given none =
+        stays s t (sym same) given (subst (λ i. IsSince s t i fresh) (ap (λ c. c - 1) (sym counts)) (since xs d s t n k fresh e f (news s t n k e f))) none
+    freed_by (Wants s n) Stops e f digit counts same given none = tt
+    freed_by (Wants s n) (Reads t q []) e f digit counts same given none = tt
+    freed_by (Wants s n) (Reads t q (x ∷ left)) e f digit counts same given none = tt
+    freed_by Stops q e f digit counts same given none = absurd digit
+    freed_by (Reads s p []) q e f digit counts same given none = absurd digit
+    freed_by (Reads s p (x ∷ left)) q e f digit counts same given none = absurd digit
 
     -- with one choice more nothing is refused
     pub freed : HasDigit (answer_of (reading (kept_at m root seed level xs))) d → IfRead (answer_of (reading (kept_at m root seed level xs))) (λ s. count ≡ length s.nodes)
-        → IfRead (answer_of (reading (kept_at m root seed level (xs ++ d ∷ [])))) (λ t. nodes ≡ t.nodes) → RefusesNone m root seed level xs → RefusesNone m root seed level (xs ++ d ∷ [])
-    freed digit counts same none = freed_by (reading (kept_at m root seed level xs)) (reading (kept_at m root seed level (xs ++ d ∷ []))) refl refl digit counts same none
+        → IfRead (answer_of (reading (kept_at m root seed level (xs ++ d ∷ [])))) (λ t. nodes ≡ t.nodes) → IfRead (answer_of (reading (kept_at m root seed level (xs ++ d ∷ [])))) (AreGiven far acts)
+        → RefusesNone m root seed level xs → RefusesNone m root seed level (xs ++ d ∷ [])
+    freed digit counts same given none = freed_by (reading (kept_at m root seed level xs)) (reading (kept_at m root seed level (xs ++ d ∷ []))) refl refl digit counts same given none

@@ -1,5 +1,5 @@
 -- The invariant of a walk.
-use Rattle.std.specs.Prelude.{◌≡◌, ℕ, List, [], ◌∷◌, ◌++◌, length, true, false, Option, Some, None}
+use Rattle.std.specs.Prelude.{◌≡◌, ℕ, List, [], ◌∷◌, ◌++◌, length, false, Option, Some, None}
 use Rattle.pst_model.specs.declared.model.Model.{Model}
 use Rattle.pst_model.specs.ModelView.{view_model}
 use Rattle.pst_model.specs.Sound.{IsSound}
@@ -9,7 +9,7 @@ use Rattle.pst_value_walk.specs.Walks.{Kept as Values}
 use Rattle.pst_link_walk.specs.Walks.{Kept, reading}
 use Rattle.pst_link_walk.specs.Made.{IsInside}
 use Rattle.pst_refusals.specs.Inlines.{has_inlines}
-use Rattle.pst_new_refusals.specs.Far.{has_far}
+use Rattle.pst_new_refusals.specs.Far.{AreFarOf}
 pub use Rattle.pst_list_walk.specs.Free.{kept_at}
 use Rattle.pst_list_walk.specs.Free.{IsFree}
 use Rattle.pst_list_walk.specs.declared.walk.ListWalk.TheInside.{Inside}
@@ -52,7 +52,7 @@ kept_by w = kept_at w.model.now w.root w.seed w.level (w.links.choices ++ choice
 
 pub record IsKept (w : Inside) : Type 0 where
   pub sound : IsSound (view_model w.model.now)
-  pub near : w.near ≡ true → has_far (view_model w.model.now) ≡ false
+  pub far : AreFarOf (view_model w.model.now) w.far
   pub inlines : w.inlines ≡ false → has_inlines (view_model w.model.now) ≡ false
   pub linked : w.linked ≡ length w.links.choices
   pub free : IsFree w.model.now w.root w.seed w.level w.links.choices w.free

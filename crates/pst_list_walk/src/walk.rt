@@ -11,8 +11,8 @@ ghost use Rattle.pst_order_ahead.specs.LaidOut.{ReadsTree};
 ghost use Rattle.pst_refusals.specs.Answers.{StandEarlier, TellsRefusals};
 ghost use Rattle.pst_refusals.specs.Inlines.{has_inlines};
 ghost use Rattle.pst_legal.specs.First.{NoneRefused};
-ghost use Rattle.pst_new_refusals.specs.Far.{has_far};
-ghost use Rattle.pst_new_refusals.specs.Newly.{StaysFree};
+ghost use Rattle.pst_new_refusals.specs.Far.{AreFarOf};
+ghost use Rattle.pst_new_refusals.specs.Newly.{AreGiven, StaysFree};
 ghost use Rattle.pst_list_walk.specs.Walks.{answer, IsRead, HasFront, HasValue, HasDomain};
 ghost use Rattle.pst_list_walk.specs.Made.{kept_at, linked_of, Begins, Goes};
 ghost use Rattle.pst_list_walk.specs.Free.{IfPlace, IsFreed, Frees};
@@ -24,7 +24,7 @@ use pst_expr::Domain;
 use pst_known::Scene;
 use pst_link_walk::LinkWalk;
 use pst_model::Model;
-use pst_new_refusals::{has_far, some_newly_refused};
+use pst_new_refusals::{FarTypes, far_types, some_newly_refused};
 use pst_read_domains::nodes_stand_for_pieces;
 use pst_refusals::{has_inlines, some_refused};
 use pst_rng::start;
@@ -172,13 +172,6 @@ fn choose_link<'a>(
     }
 }
 
-// Whether the constraints of a model look at no action but their own.
-fn is_near(model: &Model) -> bool
-    ensures { result ≡ true → has_far (view_model model.now) ≡ false }
-{
-    !has_far(model)
-}
-
 // Whether nothing is read yet, so that no constraint is refused.
 fn is_nothing(links: &LinkWalk<'_>) -> bool
     ensures { result ≡ true → IfPlace (link_answer links.now) (NoneRefused (view_model links.now.model)) }
@@ -208,29 +201,55 @@ fn first_free(links: &LinkWalk<'_>) -> u64
 fn is_unrefused(
     alloc: Global,
     model: &Model,
+    far: &FarTypes,
     inlines: bool,
     nodes: &[Node],
+    actions: &[Act],
     from: usize,
     fresh: &[Act],
 ) -> bool
     requires sound { IsSound (view_model model.now) }
-    requires near { has_far (view_model model.now) ≡ false }
+    requires far { AreFarOf (view_model model.now) far.now }
     requires inlines { inlines ≡ false → has_inlines (view_model model.now) ≡ false }
-    ensures { result ≡ true → StaysFree (view_model model.now) nodes.now from fresh.now }
+    ensures { result ≡ true → StaysFree (view_model model.now) far.now.some nodes.now actions.now from fresh.now }
 {
-    match some_newly_refused(alloc, model, inlines, nodes, from, fresh) {
+    match some_newly_refused(alloc, model, far, inlines, nodes, actions, from, fresh) {
         Ok(refused) => !refused,
         Err(_) => false,
     }
 }
 
+// Keeps the actions so far with open references, where some constraint looks behind a handle.
+fn keep_acts(links: &mut LinkWalk<'_>, far: bool)
+    ensures { links.new ≡ links.old }
+{
+    if far {
+        // where memory is short they aren't kept
+        let _ = links.open();
+    }
+}
+
+// The actions so far, where some constraint looks behind a handle.
+fn given_acts<'a>(links: &'a LinkWalk<'_>, far: bool) -> Option<&'a [Act]>
+    ensures { IfSome result (λ acts. IfRead (link_answer links.now) (AreGiven far acts.now)) }
+{
+    if !far {
+        return Some(&[]);
+    }
+    match links.opened() {
+        None => None,
+        Some(acts) => Some(acts),
+    }
+}
+
 // Whether the list refuses no constraint, where it is known that the one without the last choice
-// refused none, of so many choices, and so many nodes and actions. Only what is new is looked at.
+// refused none, of so many choices, and so many nodes and actions. Only what is new is looked at, and
+// what stands above it.
 fn is_freed(
     alloc: Global,
     model: &Model,
     links: &LinkWalk<'_>,
-    near: bool,
+    far: &FarTypes,
     inlines: bool,
     free: u64,
     count: u64,
@@ -238,13 +257,10 @@ fn is_freed(
     nodes: usize,
 ) -> bool
     requires sound { IsSound (view_model model.now) }
-    requires near { near ≡ true → has_far (view_model model.now) ≡ false }
+    requires far { AreFarOf (view_model model.now) far.now }
     requires inlines { inlines ≡ false → has_inlines (view_model model.now) ≡ false }
     ensures { result ≡ true → (root seed level digit : ℕ) → IsFreed model.now root seed level digit size nodes links.now }
 {
-    if !near {
-        return false;
-    }
     if free <= count {
         return false;
     }
@@ -254,8 +270,20 @@ fn is_freed(
     let Some(fresh) = news else {
         return false;
     };
+    let Some(acts) = given_acts(links, far.some) else {
+        return false;
+    };
     let from = nodes.saturating_sub(1);
-    is_unrefused(alloc, model, inlines, links.nodes(), from, &fresh)
+    is_unrefused(
+        alloc,
+        model,
+        far,
+        inlines,
+        links.nodes(),
+        acts,
+        from,
+        &fresh,
+    )
 }
 
 // How many beginnings are known to refuse no constraint behind one choice more than `count`.
@@ -303,7 +331,7 @@ pub struct ListWalk<'a> {
     linked: u64,
     values: Option<ValueWalk<'a>>,
     valued: u64,
-    near: bool,
+    far: FarTypes,
     inlines: bool,
     free: u64,
 }
@@ -340,7 +368,7 @@ impl<'a> ListWalk<'a> {
     {
         let links = LinkWalk::new(alloc, model, root, seed, level)?;
         let values = begin(alloc, model, &links, root, seed, level)?;
-        let near = is_near(model);
+        let far = far_types(alloc, model)?;
         let inlines = has_inlines(model);
         let free = first_free(&links);
         Ok(ListWalk {
@@ -353,7 +381,7 @@ impl<'a> ListWalk<'a> {
             linked: 0,
             values,
             valued: 0,
-            near,
+            far,
             inlines,
             free,
         })
@@ -472,11 +500,12 @@ impl<'a> ListWalk<'a> {
                     digit,
                 )?;
                 self.values = values;
+                keep_acts(&mut self.links, self.far.some);
                 let is_freed = is_freed(
                     self.alloc,
                     self.model,
                     &self.links,
-                    self.near,
+                    &self.far,
                     self.inlines,
                     self.free,
                     self.linked,

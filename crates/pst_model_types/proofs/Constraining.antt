@@ -16,6 +16,7 @@ use Rattle.pst_tree.specs.Contents.{first_of}
 use Rattle.pst_marked_bases.specs.Marked.{is_marked, marked_bases}
 use Rattle.pst_marked_bases.proofs.Among.{is_among, neither}
 use Rattle.pst_marked_bases.proofs.Skipping.{skipped}
+use Rattle.pst_marked_bases.specs.Shown.{Shown}
 use Rattle.pst_terms.specs.Slots.{constraint_of}
 use Rattle.pst_terms.specs.Sources.{Sources, declared_in}
 use Rattle.pst_model_types.specs.Marks.{constraint_bases, has_constraint}
@@ -53,5 +54,9 @@ module _ (s : Sources) where
   unfolding action_at
   own_none d un = of_found d (action_at s.units d.name.place) (none_found d.name.place (actions s.units) (sym (is_among (constraint_bases s).places d.name.place) ∙ un))
 
-  pub own_are : (d : Declaration) → flat_map (own_constraints s) (marked_bases (constraint_bases s).places (declared_in s) d) ≡ flat_map (own_constraints s) (with_bases (declared_in s) d)
+  own_are : (d : Declaration) → flat_map (own_constraints s) (marked_bases (constraint_bases s).places (declared_in s) d) ≡ flat_map (own_constraints s) (with_bases (declared_in s) d)
   own_are d = skipped (constraint_bases s).places (own_constraints s) own_none (with_bases (declared_in s) d)
+
+  pub own_by : (shown : Shown) (d : Declaration) (found : List Declaration) → shown ≡ constraint_bases s → found ≡ marked_bases shown.places shown.declared d
+      → flat_map (own_constraints s) found ≡ flat_map (own_constraints s) (with_bases (declared_in s) d)
+  own_by shown d found are is = ap (flat_map (own_constraints s)) (is ∙ ap (λ (x : Shown). marked_bases x.places x.declared d) are) ∙ own_are d

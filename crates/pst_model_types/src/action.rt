@@ -87,7 +87,6 @@ fn add_each(
 }
 
 /// The constraints of an action type, its base's first.
-#[tactic(auto, using(crate::proofs::Constraining::own_are))]
 pub fn action_constraints(
     sources: &Sources<'_>,
     bases: &MarkedBases<'_>,

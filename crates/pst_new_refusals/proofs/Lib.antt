@@ -3,4 +3,10 @@ pub mod Same
 pub mod Nodes
 pub mod Stated
 pub mod Traversed
+pub mod Passed
+pub mod Acts
+pub mod Inline
 pub mod Kept
+pub mod Quiet
+pub mod KeptFar
+pub mod Stays

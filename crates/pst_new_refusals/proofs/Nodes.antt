@@ -3,7 +3,7 @@ use Rattle.std.proofs.Common.{◌≡◌, ◌⊎◌, ℕ, ◌+◌, ◌<◌, ◌�
 use Rattle.std.specs.Prelude.{slice_get}
 use Rattle.std.specs.List.{list_any}
 use Rattle.std.proofs.lemmas.Bool.{cases_lt}
-use Rattle.std.proofs.lemmas.Option.{same_Some}
+use Rattle.std.proofs.lemmas.Option.{same_Some, slice_get_within}
 use Rattle.pst_model.specs.ModelTree.{ModelTree}
 use Rattle.pst_scen.specs.declared.tree.Node.{Node}
 use Rattle.pst_scen.specs.declared.act.Act.{Act}
@@ -12,7 +12,8 @@ use Rattle.pst_slots.specs.Stated.{statement_of}
 use Rattle.pst_slots.specs.Listed.{of_fill, of_stated}
 use Rattle.pst_refusals.specs.Answers.{StandEarlier}
 use Rattle.pst_refusals.specs.Failing.{fails}
-use Rattle.pst_new_refusals.specs.Newly.{is_act_refused, is_leaf, is_own_refused, AreFree, AreTraversedFree, ArePlainFree, AreInlinesFree, IfNot}
+use Rattle.pst_touched.specs.Touched.{Has, HasTouched}
+use Rattle.pst_new_refusals.specs.Newly.{is_act_refused, is_leaf, is_own_refused, AreFree, AreTraversedFree, ArePlainFree, AreInlinesFree, AreFreeAt, AreNear, AreStatedFreeAt, AreTouchedFree, IfNot}
 
 below_or_at : (k n : ℕ) → k < n + 1 → (k < n) ⊎ (k ≡ n)
 below_or_at k n l = ⊎_elim (λ less. inl less) (λ more. inr (omega (arith, l, more))) (cases_lt k n)
@@ -61,3 +62,19 @@ plain_if m s from fresh false nodes e = record { nodes = nodes; acts = sym e }
 pub inlines_if : (m : ModelTree) (s : Scenario) (from : ℕ) (fresh : List Act) (b : Bool) → AreTraversedFree m s from (length s.nodes) → (StandEarlier s.nodes → b ≡ list_any (is_own_refused m s) fresh) → IfNot b (AreInlinesFree m s from fresh)
 inlines_if m s from fresh true nodes e = tt
 inlines_if m s from fresh false nodes e = record { nodes = nodes; acts = λ earlier. sym (e earlier) }
+
+-- ---- a list that is looked through
+
+pub each_more : (P : ℕ → Type 0) (list : List ℕ) (end x : ℕ) → slice_get list end ≡ Some x → P x → ((i k : ℕ) → i < end → slice_get list i ≡ Some k → P k) → (i k : ℕ) → i < end + 1 → slice_get list i ≡ Some k → P k
+each_more P list end x at one each i k l is =
+    ⊎_elim (λ below. each i k below is) (λ same. subst P (same_Some x k (sym at ∙ ap (slice_get list) (sym same) ∙ is)) one) (below_or_at i end l)
+
+pub each_all : (P : ℕ → Type 0) (list : List ℕ) (end : ℕ) → length list ≤ end → ((i k : ℕ) → i < end → slice_get list i ≡ Some k → P k) → (k : ℕ) → Has list k → P k
+each_all P list end l each k has = let within = slice_get_within list has.0 k has.1 in each has.0 k (omega (arith, within, l)) has.1
+
+-- ---- what is touched
+
+pub touched_if : (m : ModelTree) (s : Scenario) (inlined : List Bool) (inlines : Bool) (from : ℕ) (fresh : List Act) (list : List ℕ) (b : Bool) → (StandEarlier s.nodes → HasTouched s.nodes from fresh list) → AreNear s.nodes inlined list → AreFreeAt m s list
+    → IfNot b ((inlines ≡ false) ⊎ AreStatedFreeAt m s list) → IfNot b (AreTouchedFree m s inlined inlines from fresh)
+touched_if m s inlined inlines from fresh list true all near nodes stated = tt
+touched_if m s inlined inlines from fresh list false all near nodes stated = record { list = list; all = all; near = near; nodes = nodes; stated = stated }

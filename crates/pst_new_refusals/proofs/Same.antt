@@ -147,20 +147,24 @@ same_node m s u n action instance fields node slot is also of near =
 
 -- ---- constraints
 
-same_bounds : (p q : SlotTree → Standing) (slots : List SlotTree) → ((slot : SlotTree) → is_far_slot slot ≡ false → bound_of (p slot) ≡ bound_of (q slot)) → list_any is_far_slot slots ≡ false
+some_bounds : (skips : SlotTree → Bool) (p q : SlotTree → Standing) (slots : List SlotTree) → ((slot : SlotTree) → skips slot ≡ false → bound_of (p slot) ≡ bound_of (q slot)) → list_any skips slots ≡ false
     → map (λ slot. bound_of (p slot)) slots ≡ map (λ slot. bound_of (q slot)) slots
-same_bounds p q [] each near = refl
-same_bounds p q (slot ∷ slots) each near =
-    let parts = or_parts (is_far_slot slot) (list_any is_far_slot slots) near in
-    ap₂ (λ bound bounds. bound ∷ bounds) (each slot parts.0) (same_bounds p q slots each parts.1)
+some_bounds skips p q [] each none = refl
+some_bounds skips p q (slot ∷ slots) each none =
+    let parts = or_parts (skips slot) (list_any skips slots) none in
+    ap₂ (λ bound bounds. bound ∷ bounds) (each slot parts.0) (some_bounds skips p q slots each parts.1)
 
 all_bounds : (p q : SlotTree → Standing) (slots : List SlotTree) → ((slot : SlotTree) → bound_of (p slot) ≡ bound_of (q slot)) → map (λ slot. bound_of (p slot)) slots ≡ map (λ slot. bound_of (q slot)) slots
 all_bounds p q [] each = refl
 all_bounds p q (slot ∷ slots) each = ap₂ (λ bound bounds. bound ∷ bounds) (each slot) (all_bounds p q slots each)
 
 -- a constraint is refused by its bounds alone
+pub refused_but : (skips : SlotTree → Bool) (k : ConstraintTree) (p q : SlotTree → Standing) → ((slot : SlotTree) → skips slot ≡ false → bound_of (p slot) ≡ bound_of (q slot)) → list_any skips k.slots ≡ false
+    → is_refused_at k q ≡ false → is_refused_at k p ≡ false
+refused_but skips k p q each none e = ap (λ bounds. is_refused (interval k.expression bounds)) (some_bounds skips p q k.slots each none) ∙ e
+
 pub refused_near : (k : ConstraintTree) (p q : SlotTree → Standing) → ((slot : SlotTree) → is_far_slot slot ≡ false → bound_of (p slot) ≡ bound_of (q slot)) → list_any is_far_slot k.slots ≡ false → is_refused_at k q ≡ false → is_refused_at k p ≡ false
-refused_near k p q each near e = ap (λ bounds. is_refused (interval k.expression bounds)) (same_bounds p q k.slots each near) ∙ e
+refused_near k p q each near e = refused_but is_far_slot k p q each near e
 
 pub refused_same : (k : ConstraintTree) (p q : SlotTree → Standing) → ((slot : SlotTree) → bound_of (p slot) ≡ bound_of (q slot)) → is_refused_at k q ≡ false → is_refused_at k p ≡ false
 refused_same k p q each e = ap (λ bounds. is_refused (interval k.expression bounds)) (all_bounds p q k.slots each) ∙ e

@@ -1,6 +1,7 @@
 -- What is told of constraints that may newly be refused.
-use Rattle.std.specs.Prelude.{◌≡◌, ℕ, ◌≤◌, ◌<◌, List, [], length, Bool, true, false, ◌&&◌, ◌||◌, Option, Some, None, slice_get}
+use Rattle.std.specs.Prelude.{◌≡◌, ◌⊎◌, ℕ, ◌≤◌, ◌<◌, List, [], length, Bool, true, false, ◌&&◌, ◌||◌, Option, Some, None, slice_get}
 use Rattle.std.specs.List.{list_any}
+use Rattle.std.specs.Option.{unwrap_or}
 use Rattle.pst_model.specs.ModelTree.{ModelTree}
 use Rattle.pst_scen.specs.declared.tree.Node.{Node}
 use Rattle.pst_scen.specs.declared.tree.Fill.{Fill}
@@ -15,11 +16,12 @@ use Rattle.pst_slots.specs.Listed.{Stating, of_act, of_fill, of_stated, of_first
 use Rattle.pst_refusals.specs.Answers.{StandEarlier}
 use Rattle.pst_refusals.specs.Failing.{fails}
 use Rattle.pst_refusals.specs.Made.{of_made}
+use Rattle.pst_touched.specs.Touched.{Has, HasTouched}
 use Rattle.pst_new_refusals.specs.Since.{IsSince}
 
--- the nodes without actions
-abbrev pub alone : List Node → Scenario
-alone nodes = record { level = 0; nodes = nodes; actions = []; firsts = [] }
+-- nodes with actions, of which no first object is read
+abbrev pub so_far : List Node → List Act → Scenario
+so_far nodes actions = record { level = 0; nodes = nodes; actions = actions; firsts = [] }
 
 -- of the first object of a reference's pool
 abbrev pub is_pool_refused : ModelTree → Scenario → Filled → Bool
@@ -65,6 +67,44 @@ pub record AreInlinesFree (m : ModelTree) (s : Scenario) (from : ℕ) (fresh : L
   pub nodes : AreTraversedFree m s from (length s.nodes)
   pub acts : StandEarlier s.nodes → list_any (is_own_refused m s) fresh ≡ false
 
--- Where the scenario of these nodes goes on from one of which no constraint is refused, none of it is.
-abbrev pub StaysFree : ModelTree → List Node → ℕ → List Act → Type 0
-StaysFree m nodes from fresh = (s t : Scenario) → t.nodes ≡ nodes → IsSince s t from fresh → NoneRefused m s → NoneRefused m t
+-- of the compound action of a node, and of these nodes
+abbrev pub IsFreeAt : ModelTree → Scenario → ℕ → Type 0
+IsFreeAt m s n = (node : Node) → slice_get s.nodes n ≡ Some node → list_any (fails false) (of_fill m s n node.fill) ≡ false
+
+abbrev pub AreFreeAt : ModelTree → Scenario → List ℕ → Type 0
+AreFreeAt m s list = (n : ℕ) → Has list n → IsFreeAt m s n
+
+-- whether the activity of an action has an inline constraint that looks behind the action's handles, by a list of the types
+abbrev pub is_inlined : List Bool → Fill → Bool
+is_inlined inlined (fill.Compound action instance fields) = unwrap_or (slice_get inlined action) false
+is_inlined inlined _ = false
+
+-- the activity of a node has none, and those of these nodes
+abbrev pub IsNearAt : List Node → List Bool → ℕ → Type 0
+IsNearAt nodes inlined n = (node : Node) → slice_get nodes n ≡ Some node → is_inlined inlined node.fill ≡ false
+
+abbrev pub AreNear : List Node → List Bool → List ℕ → Type 0
+AreNear nodes inlined list = (n : ℕ) → Has list n → IsNearAt nodes inlined n
+
+-- the inline constraints at the traversal of a node, and of these nodes
+abbrev pub IsStatedFreeAt : ModelTree → Scenario → ℕ → Type 0
+IsStatedFreeAt m s n = StandEarlier s.nodes → list_any (fails false) (of_stated m s n (statement_of m s.nodes n)) ≡ false
+
+abbrev pub AreStatedFreeAt : ModelTree → Scenario → List ℕ → Type 0
+AreStatedFreeAt m s list = (n : ℕ) → Has list n → IsStatedFreeAt m s n
+
+-- of the old nodes that are touched; those at traversals where there are inline constraints
+pub record AreTouchedFree (m : ModelTree) (s : Scenario) (inlined : List Bool) (inlines : Bool) (from : ℕ) (fresh : List Act) : Type 0 where
+  pub list : List ℕ
+  pub all : StandEarlier s.nodes → HasTouched s.nodes from fresh list
+  pub near : AreNear s.nodes inlined list
+  pub nodes : AreFreeAt m s list
+  pub stated : (inlines ≡ false) ⊎ AreStatedFreeAt m s list
+
+-- the scenario has these actions, or no constraint looks behind a handle and there are none of them
+abbrev pub AreGiven : Bool → List Act → Scenario → Type 0
+AreGiven far actions t = (t.actions ≡ actions) ⊎ ((far ≡ false) × (actions ≡ []))
+
+-- Where the scenario of these nodes and actions goes on from one of which no constraint is refused, none of it is.
+abbrev pub StaysFree : ModelTree → Bool → List Node → List Act → ℕ → List Act → Type 0
+StaysFree m far nodes actions from fresh = (s t : Scenario) → t.nodes ≡ nodes → AreGiven far actions t → IsSince s t from fresh → NoneRefused m s → NoneRefused m t

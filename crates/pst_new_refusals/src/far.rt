@@ -1,18 +1,31 @@
 //! Whether a model has constraints that look at other actions than their own.
-ghost use Rattle.std.specs.Prelude.{◌≡◌, map};
+ghost use Rattle.std.specs.Prelude.{◌≡◌, IfOk, map};
 ghost use Rattle.std.specs.List.{list_any};
 ghost use Rattle.pst_model.specs.ModelView.{view_model, view_action};
-ghost use Rattle.pst_new_refusals.specs.Far.{is_far_type, has_far};
+ghost use Rattle.pst_refusals.specs.declared.inlines.Sought.TheVariants as sought;
+ghost use Rattle.pst_refusals.specs.Inlines.{is_far, type_has};
+ghost use Rattle.pst_new_refusals.specs.Far.{is_far_type, AreFarOf};
 
+use pst_base::NoMemory;
 use pst_model::{ActionType, Model};
-use pst_refusals::{content_has, some_far};
+use pst_refusals::{Sought, content_has, some_far};
+use std::alloc::Global;
+
+/// Which action types of a model have constraints that look behind handles.
+#[derive(Drop)]
+pub struct FarTypes {
+    /// Whether one of them has: a constraint of its own, or an inline one in its activity.
+    pub some: bool,
+    /// Of each type, whether an inline constraint in its activity looks behind a handle of its action.
+    pub inlined: Vec<bool>,
+}
 
 // Whether one of the constraints of an action type, or an inline one in its activity, looks behind a
 // handle.
 fn is_far_type(kind: &ActionType) -> bool
     ensures { result ≡ is_far_type (view_action kind.now) }
 {
-    some_far(kind.constraints.as_slice()) || content_has(true, &kind.content)
+    some_far(kind.constraints.as_slice()) || content_has(Sought::Far, &kind.content)
 }
 
 fn some_far_type(kinds: &[ActionType]) -> bool
@@ -26,10 +39,22 @@ fn some_far_type(kinds: &[ActionType]) -> bool
     false
 }
 
-/// Whether a constraint of an action type of the model, or an inline one in an activity, looks behind a
-/// handle.
-pub fn has_far(model: &Model) -> bool
-    ensures { result ≡ has_far (view_model model.now) }
+// Of each action type, whether an inline constraint in its activity looks behind a handle of its action.
+fn inlined(alloc: Global, kinds: &[ActionType]) -> Result<Vec<bool>, NoMemory>
+    ensures { IfOk result (λ found. found.items ≡ map (type_has sought.Outer) (map view_action kinds.now)) }
 {
-    some_far_type(model.actions.as_slice())
+    let mut found = Vec::new(alloc);
+    for kind in kinds {
+        found.push(content_has(Sought::Outer, &kind.content))?;
+    }
+    Ok(found)
+}
+
+/// Which action types of the model have constraints that look behind handles.
+pub fn far_types(alloc: Global, model: &Model) -> Result<FarTypes, NoMemory>
+    ensures { IfOk result (λ far. AreFarOf (view_model model.now) far) }
+{
+    let some = some_far_type(model.actions.as_slice());
+    let inlined = inlined(alloc, model.actions.as_slice())?;
+    Ok(FarTypes { some, inlined })
 }

@@ -1,17 +1,18 @@
 //! Whether a constraint may newly be refused.
-ghost use Rattle.std.specs.Prelude.{◌≡◌, length, false, not, ◌&&◌, IfOk};
+ghost use Rattle.std.specs.Prelude.{◌≡◌, ◌⊎◌, length, false, not, ◌&&◌, IfOk};
 ghost use Rattle.std.specs.List.{list_any};
 ghost use Rattle.pst_model.specs.ModelView.{view_model};
 ghost use Rattle.pst_model.specs.Sound.{IsSound};
 ghost use Rattle.pst_known.specs.Known.{seen};
-ghost use Rattle.pst_new_refusals.specs.Far.{has_far};
+ghost use Rattle.pst_new_refusals.specs.Far.{AreFarOf};
 ghost use Rattle.pst_refusals.specs.Answers.{StandEarlier};
 ghost use Rattle.pst_refusals.specs.Failing.{fails};
 ghost use Rattle.pst_refusals.specs.Inlines.{has_inlines};
 ghost use Rattle.pst_slots.specs.Listed.{of_stated};
 ghost use Rattle.pst_slots.specs.Stated.{statement_of};
-ghost use Rattle.pst_new_refusals.specs.Newly.{is_pool_refused, is_act_refused, is_leaf, is_own_refused, AreFree, AreTraversedFree, ArePlainFree, AreInlinesFree, IfNot, StaysFree};
+ghost use Rattle.pst_new_refusals.specs.Newly.{is_pool_refused, is_act_refused, is_leaf, is_own_refused, is_inlined, AreFree, AreTraversedFree, ArePlainFree, AreInlinesFree, IsFreeAt, AreFreeAt, IsNearAt, AreNear, AreStatedFreeAt, AreTouchedFree, IfNot, StaysFree};
 
+use crate::far::FarTypes;
 use pst_base::NoMemory;
 use pst_known::Scene;
 use pst_model::Model;
@@ -19,6 +20,7 @@ use pst_refusals::{
     is_act_refused, is_compound_refused, is_first_refused, is_inline_refused, is_made_refused,
 };
 use pst_scen::{Act, Fill, Filled, Node};
+use pst_touched::touched;
 use std::alloc::Global;
 
 // Of the compound actions of the nodes from a number on.
@@ -180,38 +182,200 @@ fn some_plain_refused(
     Ok(new)
 }
 
-/// Whether a constraint is refused of the compound actions of the nodes from a number on, or of new
-/// actions, what they write, claim and refer to, where no value is read, or, where the model has inline
-/// constraints, at the traversals of these. Where none is, none of a scenario of these nodes is that goes
-/// on by these actions from one of which none was. What that takes doesn't grow with the scenario but by
-/// the nodes that stand before a new one in the same activity.
-pub fn some_newly_refused(
+// Of the compound action of a node.
+fn is_node_refused(alloc: Global, scene: &Scene<'_>, n: usize) -> Result<bool, NoMemory>
+    requires { IsSound (view_model scene.now.model.now) }
+    ensures { IfOk result (λ r. IfNot r (IsFreeAt (view_model scene.now.model.now) (seen scene.now) n)) }
+{
+    match scene.nodes.get(n) {
+        None => Ok(false),
+        Some(node) => {
+            let refused = is_compound_refused(alloc, scene, n, &node.fill)?;
+            Ok(refused)
+        }
+    }
+}
+
+// Of the compound actions of these nodes.
+fn some_listed_refused(alloc: Global, scene: &Scene<'_>, list: &[usize]) -> Result<bool, NoMemory>
+    requires { IsSound (view_model scene.now.model.now) }
+    ensures { IfOk result (λ r. IfNot r (AreFreeAt (view_model scene.now.model.now) (seen scene.now) list.now)) }
+{
+    for n in list {
+        if is_node_refused(alloc, scene, *n)? {
+            return Ok(true);
+        }
+    }
+    Ok(false)
+}
+
+// An inline constraint at the traversals of these nodes.
+fn some_listed_stated(alloc: Global, scene: &Scene<'_>, list: &[usize]) -> Result<bool, NoMemory>
+    requires { IsSound (view_model scene.now.model.now) }
+    ensures { IfOk result (λ r. IfNot r (AreStatedFreeAt (view_model scene.now.model.now) (seen scene.now) list.now)) }
+{
+    for n in list {
+        if is_inline_refused(alloc, scene, *n)? {
+            return Ok(true);
+        }
+    }
+    Ok(false)
+}
+
+// The same, where the model has inline constraints.
+fn some_stated_at(
     alloc: Global,
-    model: &Model,
+    scene: &Scene<'_>,
+    inlines: bool,
+    list: &[usize],
+) -> Result<bool, NoMemory>
+    requires { IsSound (view_model scene.now.model.now) }
+    ensures { IfOk result (λ r. IfNot r ((inlines ≡ false) ⊎ AreStatedFreeAt (view_model scene.now.model.now) (seen scene.now) list.now)) }
+{
+    if !inlines {
+        return Ok(false);
+    }
+    let refused = some_listed_stated(alloc, scene, list)?;
+    Ok(refused)
+}
+
+// Whether the activity of the action of a node of this fill has an inline constraint that looks behind
+// the action's handles.
+fn is_inlined(inlined: &[bool], fill: &Fill) -> bool
+    ensures { result ≡ is_inlined inlined.now fill.now }
+{
+    match fill {
+        Fill::Compound { action, .. } => match inlined.get(*action as usize) {
+            None => false,
+            Some(inlined) => *inlined,
+        },
+        _ => false,
+    }
+}
+
+fn is_node_inlined(nodes: &[Node], inlined: &[bool], n: usize) -> bool
+    ensures { IfNot result (IsNearAt nodes.now inlined.now n) }
+{
+    match nodes.get(n) {
+        None => false,
+        Some(node) => is_inlined(inlined, &node.fill),
+    }
+}
+
+// The same of one of these nodes.
+fn some_inlined(nodes: &[Node], inlined: &[bool], list: &[usize]) -> bool
+    ensures { IfNot result (AreNear nodes.now inlined.now list.now) }
+{
+    for n in list {
+        if is_node_inlined(nodes, inlined, *n) {
+            return true;
+        }
+    }
+    false
+}
+
+// Of old nodes that a choice touched: their compound actions and what stands at their traversals, or
+// else whether there are constraints that may have come to look at others.
+fn some_touched_refused(
+    alloc: Global,
+    scene: &Scene<'_>,
+    inlined: &[bool],
+    inlines: bool,
+    from: usize,
+    fresh: &[Act],
+) -> Result<bool, NoMemory>
+    requires { IsSound (view_model scene.now.model.now) }
+    ensures { IfOk result (λ r. IfNot r (AreTouchedFree (view_model scene.now.model.now) (seen scene.now) inlined.now inlines from fresh.now)) }
+{
+    let list = touched(alloc, scene.nodes, from, fresh)?;
+    if some_inlined(scene.nodes, inlined, &list) {
+        return Ok(true);
+    }
+    let listed = some_listed_refused(alloc, scene, &list)?;
+    if listed {
+        return Ok(true);
+    }
+    let stated = some_stated_at(alloc, scene, inlines, &list)?;
+    Ok(stated)
+}
+
+// What stands at traversals, where the model has inline constraints.
+fn some_stated_refused(
+    alloc: Global,
+    scene: &Scene<'_>,
     inlines: bool,
     nodes: &[Node],
     from: usize,
     fresh: &[Act],
 ) -> Result<bool, NoMemory>
+    requires sound { IsSound (view_model scene.now.model.now) }
+    requires nodes { nodes.now ≡ (seen scene.now).nodes }
+    ensures { IfOk result (λ r. IfNot r ((inlines ≡ false) ⊎ AreInlinesFree (view_model scene.now.model.now) (seen scene.now) from fresh.now)) }
+{
+    if !inlines {
+        return Ok(false);
+    }
+    let refused = some_inline_refused(alloc, scene, nodes, from, fresh)?;
+    Ok(refused)
+}
+
+// What belongs to old nodes that a choice touched, where some constraint looks behind a handle.
+fn some_over_refused(
+    alloc: Global,
+    scene: &Scene<'_>,
+    far: &FarTypes,
+    inlines: bool,
+    from: usize,
+    fresh: &[Act],
+) -> Result<bool, NoMemory>
+    requires { IsSound (view_model scene.now.model.now) }
+    ensures { IfOk result (λ r. IfNot r ((far.now.some ≡ false) ⊎ AreTouchedFree (view_model scene.now.model.now) (seen scene.now) far.now.inlined.items inlines from fresh.now)) }
+{
+    if !far.some {
+        return Ok(false);
+    }
+    let refused = some_touched_refused(alloc, scene, &far.inlined, inlines, from, fresh)?;
+    Ok(refused)
+}
+
+/// Whether a constraint may newly be refused. What is looked at, where no value is read: the compound
+/// actions of the nodes from a number on, new actions, what they write, claim and refer to, and, where
+/// the model has inline constraints, the traversals of these; where some constraint looks behind a
+/// handle, also the compound actions above these. Where nothing of that is refused, nothing of a
+/// scenario of these nodes and actions is that goes on by the new ones from one of which nothing was.
+/// What that takes doesn't grow with the scenario but by the nodes that stand before a new one in the
+/// same activity, and by what handles lead through. The actions are only looked at where some constraint
+/// looks behind a handle.
+pub fn some_newly_refused(
+    alloc: Global,
+    model: &Model,
+    far: &FarTypes,
+    inlines: bool,
+    nodes: &[Node],
+    actions: &[Act],
+    from: usize,
+    fresh: &[Act],
+) -> Result<bool, NoMemory>
     requires sound { IsSound (view_model model.now) }
-    requires near { has_far (view_model model.now) ≡ false }
+    requires far { AreFarOf (view_model model.now) far.now }
     requires inlines { inlines ≡ false → has_inlines (view_model model.now) ≡ false }
-    ensures { IfOk result (λ r. IfNot r (StaysFree (view_model model.now) nodes.now from fresh.now)) }
+    ensures { IfOk result (λ r. IfNot r (StaysFree (view_model model.now) far.now.some nodes.now actions.now from fresh.now)) }
 {
     let scene = Scene {
         model,
         level: 0,
         nodes,
-        actions: &[],
+        actions,
         firsts: &[],
     };
     let plain = some_plain_refused(alloc, &scene, nodes, from, fresh)?;
     if plain {
         return Ok(true);
     }
-    if !inlines {
-        return Ok(false);
+    let stated = some_stated_refused(alloc, &scene, inlines, nodes, from, fresh)?;
+    if stated {
+        return Ok(true);
     }
-    let inline = some_inline_refused(alloc, &scene, nodes, from, fresh)?;
-    Ok(inline)
+    let over = some_over_refused(alloc, &scene, far, inlines, from, fresh)?;
+    Ok(over)
 }

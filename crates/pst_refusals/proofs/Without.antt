@@ -20,34 +20,36 @@ use Rattle.pst_slots.specs.Stated.{Stated, statement_of}
 use Rattle.pst_slots.specs.Listed.{stating, of_fill, of_step, of_stated, of_node}
 use Rattle.pst_slots.proofs.Found.{found}
 use Rattle.pst_refusals.specs.Failing.{of_numbered}
+use Rattle.pst_refusals.specs.declared.inlines.Sought.{Sought}
+use Rattle.pst_refusals.specs.declared.inlines.Sought.TheVariants as sought
 use Rattle.pst_refusals.specs.Inlines.{has_inline, steps_have, branches_have, branch_has, arms_have, arm_has, maybe_has, content_has, type_has, has_inlines}
 
-module _ (far : Bool) where
+module _ (which : Sought) where
   abbrev pub HasNone : StepTree → Type 0
-  HasNone step = has_inline far step ≡ false
+  HasNone step = has_inline which step ≡ false
 
-  in_row : (steps : StepRow) (k : ℕ) (step : StepTree) → steps_have far steps ≡ false → slice_get (steps_of steps) k ≡ Some step → HasNone step
+  in_row : (steps : StepRow) (k : ℕ) (step : StepTree) → steps_have which steps ≡ false → slice_get (steps_of steps) k ≡ Some step → HasNone step
   in_row NoSteps k step none is = absurd (none-some step is)
-  in_row (MoreSteps first steps) zero step none is = subst HasNone (same_Some first step is) (or_parts (has_inline far first) (steps_have far steps) none).0
-  in_row (MoreSteps first steps) (suc k) step none is = in_row steps k step (or_parts (has_inline far first) (steps_have far steps) none).1 is
+  in_row (MoreSteps first steps) zero step none is = subst HasNone (same_Some first step is) (or_parts (has_inline which first) (steps_have which steps) none).0
+  in_row (MoreSteps first steps) (suc k) step none is = in_row steps k step (or_parts (has_inline which first) (steps_have which steps) none).1 is
 
-  in_branch : (branch : BranchTree) → branch_has far branch ≡ false → HasNone (branch_step branch)
+  in_branch : (branch : BranchTree) → branch_has which branch ≡ false → HasNone (branch_step branch)
   in_branch (MakeBranch guard weight step) none = none
 
-  in_branches : (branches : BranchRow) (k : ℕ) (step : StepTree) → branches_have far branches ≡ false → option_map branch_step (slice_get (branches_of branches) k) ≡ Some step → HasNone step
+  in_branches : (branches : BranchRow) (k : ℕ) (step : StepTree) → branches_have which branches ≡ false → option_map branch_step (slice_get (branches_of branches) k) ≡ Some step → HasNone step
   in_branches NoBranches k step none is = absurd (none-some step is)
-  in_branches (MoreBranches branch more) zero step none is = subst HasNone (same_Some (branch_step branch) step is) (in_branch branch (or_parts (branch_has far branch) (branches_have far more) none).0)
-  in_branches (MoreBranches branch more) (suc k) step none is = in_branches more k step (or_parts (branch_has far branch) (branches_have far more) none).1 is
+  in_branches (MoreBranches branch more) zero step none is = subst HasNone (same_Some (branch_step branch) step is) (in_branch branch (or_parts (branch_has which branch) (branches_have which more) none).0)
+  in_branches (MoreBranches branch more) (suc k) step none is = in_branches more k step (or_parts (branch_has which branch) (branches_have which more) none).1 is
 
-  in_arm : (arm : ArmTree) → arm_has far arm ≡ false → HasNone (arm_step arm)
+  in_arm : (arm : ArmTree) → arm_has which arm ≡ false → HasNone (arm_step arm)
   in_arm (MakeArm spans step) none = none
 
-  in_arms : (arms : ArmRow) (k : ℕ) (step : StepTree) → arms_have far arms ≡ false → option_map arm_step (slice_get (arms_of arms) k) ≡ Some step → HasNone step
+  in_arms : (arms : ArmRow) (k : ℕ) (step : StepTree) → arms_have which arms ≡ false → option_map arm_step (slice_get (arms_of arms) k) ≡ Some step → HasNone step
   in_arms NoArms k step none is = absurd (none-some step is)
-  in_arms (MoreArms arm arms) zero step none is = subst HasNone (same_Some (arm_step arm) step is) (in_arm arm (or_parts (arm_has far arm) (arms_have far arms) none).0)
-  in_arms (MoreArms arm arms) (suc k) step none is = in_arms arms k step (or_parts (arm_has far arm) (arms_have far arms) none).1 is
+  in_arms (MoreArms arm arms) zero step none is = subst HasNone (same_Some (arm_step arm) step is) (in_arm arm (or_parts (arm_has which arm) (arms_have which arms) none).0)
+  in_arms (MoreArms arm arms) (suc k) step none is = in_arms arms k step (or_parts (arm_has which arm) (arms_have which arms) none).1 is
 
-  in_maybe : (maybe : MaybeStep) (step : StepTree) → maybe_has far maybe ≡ false → step_of maybe ≡ Some step → HasNone step
+  in_maybe : (maybe : MaybeStep) (step : StepTree) → maybe_has which maybe ≡ false → step_of maybe ≡ Some step → HasNone step
   in_maybe NoStep step none is = absurd (none-some step is)
   in_maybe (SomeStep inner) step none is = subst HasNone (same_Some inner step is) none
 
@@ -57,40 +59,40 @@ module _ (far : Bool) where
   none_below fill.Schedule (Schedule steps) index step none is = in_row steps index step none is
   none_below (fill.Joined _ _) (Joined parallel join steps) index step none is = in_row steps index step none is
   none_below (fill.Select branch) (Select branches) index step none is = in_branches branches branch step none is
-  none_below (fill.If true) (If condition holds fails) index step none is = subst HasNone (same_Some holds step is) (or_parts (has_inline far holds) (maybe_has far fails) none).0
-  none_below (fill.If false) (If condition holds fails) index step none is = in_maybe fails step (or_parts (has_inline far holds) (maybe_has far fails) none).1 is
-  none_below (fill.Match (Some arm)) (Match matched arms other) index step none is = in_arms arms arm step (or_parts (arms_have far arms) (maybe_has far other) none).0 is
-  none_below (fill.Match None) (Match matched arms other) index step none is = in_maybe other step (or_parts (arms_have far arms) (maybe_has far other) none).1 is
+  none_below (fill.If true) (If condition holds fails) index step none is = subst HasNone (same_Some holds step is) (or_parts (has_inline which holds) (maybe_has which fails) none).0
+  none_below (fill.If false) (If condition holds fails) index step none is = in_maybe fails step (or_parts (has_inline which holds) (maybe_has which fails) none).1 is
+  none_below (fill.Match (Some arm)) (Match matched arms other) index step none is = in_arms arms arm step (or_parts (arms_have which arms) (maybe_has which other) none).0 is
+  none_below (fill.Match None) (Match matched arms other) index step none is = in_maybe other step (or_parts (arms_have which arms) (maybe_has which other) none).1 is
   none_below _ _ index step none is = absurd (none-some step is)
 
-  in_content : (content : ContentTree) (activity : ActivityTree) → activity_in content ≡ Some activity → content_has far content ≡ false → list_any (has_inline far) activity.steps ≡ false
+  in_content : (content : ContentTree) (activity : ActivityTree) → activity_in content ≡ Some activity → content_has which content ≡ false → list_any (has_inline which) activity.steps ≡ false
   in_content (Atomic body) activity e none = absurd (none-some activity e)
-  in_content (Compound own) activity e none = subst (λ (a : ActivityTree). list_any (has_inline far) a.steps ≡ false) (same_Some own activity e) none
+  in_content (Compound own) activity e none = subst (λ (a : ActivityTree). list_any (has_inline which) a.steps ≡ false) (same_Some own activity e) none
 
 -- no step of the model's activities has one
-module _ (m : ModelTree) (far : Bool) (without : list_any (type_has far) m.actions ≡ false) where
-  none_of : (action : ℕ) (type : ActionTree) → type_of m action ≡ Some type → content_has far type.content ≡ false
-  none_of action type is = none_any (type_has far) m.actions type without (in_get m.actions action type is)
+module _ (m : ModelTree) (which : Sought) (without : list_any (type_has which) m.actions ≡ false) where
+  none_of : (action : ℕ) (type : ActionTree) → type_of m action ≡ Some type → content_has which type.content ≡ false
+  none_of action type is = none_any (type_has which) m.actions type without (in_get m.actions action type is)
 
-  pub none_stands : (nodes : List Node) (top : ℕ) {n : ℕ} {step : StepTree} {indices : List ℕ} → StandsFor m nodes top n step indices → HasNone far step
+  pub none_stands : (nodes : List Node) (top : ℕ) {n : ℕ} {step : StepTree} {indices : List ℕ} → StandsFor m nodes top n step indices → HasNone which step
   none_stands nodes top (AtTop n index action instance fields activity node step is leaf has branch at) =
       option_and_then_some (λ (t : ActionTree). activity_in t.content) (type_of m action) activity has
-      (λ type typed of. none_any (has_inline far) activity.steps step (in_content far type.content activity of (none_of action type typed)) (in_get activity.steps index step at))
-  none_stands nodes top (Below n parent index node above step indices over is branch at) = none_below far node.fill above index step (none_stands nodes top over) at
+      (λ type typed of. none_any (has_inline which) activity.steps step (in_content which type.content activity of (none_of action type typed)) (in_get activity.steps index step at))
+  none_stands nodes top (Below n parent index node above step indices over is branch at) = none_below which node.fill above index step (none_stands nodes top over) at
   none_stands nodes top (InTurn n turn parent index node count body round over in_parent is of in_it) = none_stands nodes top over
 
 module _ (m : ModelTree) (without : has_inlines m ≡ false) where
   -- so no statement has an inline constraint
   pub none_inline : (nodes : List Node) (top n action : ℕ) (handle : _) (inline : List ConstraintTree) (indices : List ℕ) (k : ConstraintTree) → StandsFor m nodes top n (Traverse action handle inline) indices → Contains inline k → ⊥
   none_inline nodes top n action handle inline indices k stands has =
-      let none : length inline ≤ 0 = ltb-false 0 (length inline) (none_stands m false without nodes top stands) in
+      let none : length inline ≤ 0 = ltb-false 0 (length inline) (none_stands m sought.Any without nodes top stands) in
       omega (arith, none, has.1)
 
   -- nor has the one that is found from a node up
   pub none_found : (nodes : List Node) (n : ℕ) (x : Stated) (action : ℕ) (handle : _) (inline : List ConstraintTree) → statement_of m nodes n ≡ Some x → x.step ≡ Traverse action handle inline → inline ≡ []
   none_found nodes n x action handle inline is of =
       let stands : StandsFor m nodes x.top n (Traverse action handle inline) x.indices = subst (λ step. StandsFor m nodes x.top n step x.indices) of (found m nodes (length nodes) n x is) in
-      is_empty inline (ltb-false 0 (length inline) (none_stands m false without nodes x.top stands))
+      is_empty inline (ltb-false 0 (length inline) (none_stands m sought.Any without nodes x.top stands))
     where
       is_empty : (ks : List ConstraintTree) → length ks ≤ 0 → ks ≡ []
       is_empty [] none = refl

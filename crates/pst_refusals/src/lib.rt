@@ -14,7 +14,7 @@ mod statement;
 mod whole;
 
 pub use far::some_far;
-pub use inlines::{content_has, has_inlines};
+pub use inlines::{Sought, content_has, has_inlines};
 pub use made::{is_inline_refused, is_made_refused};
 pub use places::places_of;
 pub use single::{is_act_refused, is_compound_refused, is_first_refused};

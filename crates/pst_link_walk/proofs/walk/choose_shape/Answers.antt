@@ -1,4 +1,3 @@
-use Rattle.std.proofs.Common.{◌∙◌}
 use Rattle.pst_link_walk.proofs.Choosing.{same_before, shape_digit, chosen_self, chosen_count, chosen_used, chosen_goes}
 use Rattle.pst_link_walk.proofs.walk.choose_shape.Goals as goal
 

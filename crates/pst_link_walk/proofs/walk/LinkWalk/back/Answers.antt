@@ -1,9 +1,11 @@
-use Rattle.std.proofs.Common.{◌≡◌, ◌<◌, ◌∙◌, ◌++◌, length, ap, sym, subst}
+use Rattle.std.proofs.Common.{◌<◌, ◌∙◌, length, ap, sym, subst}
 use Rattle.pst_link_walk.specs.Made.{choices_of}
 use Rattle.pst_link_walk.proofs.Beginning.{behind_back}
 use Rattle.pst_link_walk.proofs.Answering.{some_stands}
 use Rattle.pst_link_walk.proofs.Choosing.{shape_back, shape_before}
-use Rattle.pst_link_walk.proofs.Back.{linked_some, linked_more, one_unlinked, links_before, shape_some, no_links, shape_less, shape_inside, links_none}
+use Rattle.pst_link_walk.proofs.Back.{linked_more, one_unlinked, links_before, shape_some, no_links, shape_less, shape_inside, links_none}
+use Rattle.pst_shape.specs.Walks.{Kept as Shape}
+use Rattle.pst_link_walk.proofs.Opened.{opened_back}
 use Rattle.pst_link_walk.proofs.walk.LinkWalk.back.Goals as goal
 
 pub back-requires : goal.back-requires
@@ -24,6 +26,7 @@ invariant_of-self c =
       made = c.self.invariant.made;
       linked = one_unlinked w.supply k l d w.linked c.in-Some.is c.self.invariant.linked e;
       stands = behind_back w.model.now w.root w.seed w.level w.shape.choices k l d (some_stands w.model.now w.root w.seed w.level w.shape.choices w.supply k c.in-Some.is c.self.invariant.stands) e;
+      opened = c.self.invariant.opened;
     }
 
 pub returns-then-self-gt0 : goal.returns-then-self-gt0
@@ -55,6 +58,7 @@ invariant_of-self-2 c =
       made = shape_less w.model.now w.root w.seed w.level w.shape new d w.made c.self.invariant.made e;
       linked = links_none w.model.now w.root w.seed w.level w.linked c.if-self-gt0.false;
       stands = shape_inside w.model.now w.root w.seed w.level w.shape new d w.supply e c.self.invariant.stands;
+      opened = opened_back w.model.now w.root w.seed w.level w.shape.choices new.choices d w.opened.items (ap (λ (x : Shape). x.choices) e) c.self.invariant.opened;
     }
 
 pub returns : goal.returns

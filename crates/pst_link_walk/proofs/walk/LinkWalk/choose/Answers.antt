@@ -1,11 +1,14 @@
-use Rattle.std.proofs.Common.{◌≡◌, ◌+◌, ◌∙◌, length, ap, sym, subst}
-use Rattle.pst_shape.specs.Walks.{HasDigit}
+use Rattle.std.proofs.Common.{◌≡◌, ◌+◌, ◌∙◌, [], ◌∷◌, ◌++◌, map, length, ap, sym, subst}
+use Rattle.pst_shape_parts.specs.Trees.{bare}
+use Rattle.pst_shape.specs.Walks.{Kept as Shape, HasDigit, IfRead}
 use Rattle.pst_supply.specs.Walks.{answer as supply_answer}
 use Rattle.pst_link_walk.specs.Walks.{answer, with_choice}
 use Rattle.pst_link_walk.specs.Made.{choices_of}
-use Rattle.pst_link_walk.proofs.Beginning.{behind_next}
+use Rattle.pst_link_walk.proofs.Beginning.{behind_next, shape_reads}
 use Rattle.pst_link_walk.proofs.Answering.{digit_same, none_stands, none_answers, some_stands, some_answers, one_linked, links_more}
 use Rattle.pst_link_walk.proofs.Choosing.{goes_self, goes_count, goes_links, goes_stands, shape_value}
+use Rattle.pst_link_walk.specs.Opened.{AreOpened}
+use Rattle.pst_link_walk.proofs.Opened.{opened_next}
 use Rattle.pst_link_walk.proofs.walk.LinkWalk.choose.Goals as goal
 
 pub choose-requires : goal.choose-requires
@@ -30,6 +33,7 @@ invariant_of-self-in-Some c =
       made = c.self.invariant.made;
       linked = c.in_ok-linked-in-Some.ensures ∙ one_linked w.model.now w.root w.seed w.level k l c.args.digit w.linked (c.self.invariant.linked ∙ ap (λ o. length (choices_of o)) c.in-Some.is) e;
       stands = behind_next w.model.now w.root w.seed w.level w.shape.choices k l c.args.digit (some_stands w.model.now w.root w.seed w.level w.shape.choices w.supply k c.in-Some.is c.self.invariant.stands) has e;
+      opened = c.self.invariant.opened;
     }
 
 pub returns-in_ok-choose-in-Some-clause-ok : goal.returns-in_ok-choose-in-Some-clause-ok
@@ -68,6 +72,14 @@ invariant_of-self-in-None c =
       made = goes_count w.model.now w.root w.seed w.level w.shape.choices new c.args.digit c.in_ok-made-in-None.made after (c.in_ok-made-in-None.ensures ∙ ap (λ n. n + 1) c.self.invariant.made) goes;
       linked = goes_links w.model.now w.root w.seed w.level w.shape.choices new c.args.digit w.linked w.supply after c.in-None.is c.self.invariant.linked goes;
       stands = goes_stands w.model.now w.root w.seed w.level w.shape.choices new c.args.digit after goes;
+      opened =
+          let leaves = c.leaves-leaves.result.now in
+          subst (λ xs. AreOpened w.model.now w.root w.seed w.level xs c.truncate.new.self.items) (sym (ap (λ (x : Shape). x.choices) goes.is))
+          (subst (AreOpened w.model.now w.root w.seed w.level (w.shape.choices ++ c.args.digit ∷ [])) (sym c.truncate.ensures.items)
+          (opened_next w.model.now w.root w.seed w.level w.shape.choices c.args.digit w.opened.items leaves
+          (subst (λ a. HasDigit a c.args.digit) (none_answers w.model.now w.root w.seed w.level w.shape.choices w.supply c.in-None.is c.self.invariant.stands) (subst (λ x. HasDigit (answer x) c.args.digit) (sym c.self.view_is) c.requires))
+          (subst (λ a. IfRead a (λ s. leaves ≡ map bare s.actions)) (shape_reads w.model.now w.root w.seed w.level w.shape.choices w.shape c.self.invariant.shape) (c.leaves-leaves.ensures w.level))
+          c.self.invariant.opened));
     }
 
 pub returns-in_ok-supply-in-None-clause-ok : goal.returns-in_ok-supply-in-None-clause-ok

@@ -1,5 +1,7 @@
-use Rattle.std.proofs.Common.{ap, sym, length}
+use Rattle.std.proofs.Common.{ap, sym, subst, length}
 use Rattle.pst_link_walk.proofs.Choosing.{first_self, first_count, first_used, first_value}
+use Rattle.pst_link_walk.specs.Opened.{AreOpened}
+use Rattle.pst_link_walk.proofs.Opened.{opened_none}
 use Rattle.pst_link_walk.proofs.walk.LinkWalk.new.Goals as goal
 
 pub begin-requires-clause-shape : goal.begin-requires-clause-shape
@@ -18,6 +20,7 @@ invariant_of-result c = record {
   made = first_count c.args.model.now c.args.root c.args.seed c.args.level c.in_ok-shape.shape c.in_ok-shape.ensures;
   linked = ap length (sym c.in_ok-supply.ensures.fresh);
   stands = c.in_ok-supply.ensures.stands;
+  opened = subst (AreOpened c.args.model.now c.args.root c.args.seed c.args.level c.in_ok-shape.shape.choices) (sym c.new-opened.ensures.items) (opened_none c.args.model.now c.args.root c.args.seed c.args.level c.in_ok-shape.shape.choices);
 }
 
 pub returns : goal.returns

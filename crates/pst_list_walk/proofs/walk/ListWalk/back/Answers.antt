@@ -20,7 +20,7 @@ invariant_of-self c =
     let e = c.back.ensures.1 in
     record {
       sound = c.self.invariant.sound;
-      near = c.self.invariant.near;
+      far = c.self.invariant.far;
       inlines = c.self.invariant.inlines;
       linked = c.self.invariant.linked;
       free = c.self.invariant.free;
@@ -49,7 +49,7 @@ invariant_of-self-2 c =
     let e = c.back-2.ensures.1 in
     record {
       sound = c.self.invariant.sound;
-      near = c.self.invariant.near;
+      far = c.self.invariant.far;
       inlines = c.self.invariant.inlines;
       linked = c.saturating_sub-self-inside.ensures ∙ linked_before w.model.now w.root w.seed w.level w.links new d w.linked e c.self.invariant.linked;
       free = free_before w.model.now w.root w.seed w.level w.links new d w.free w.linked c.least-self-inside.result e c.self.invariant.linked c.least-self-inside.ensures.first c.least-self-inside.ensures.second c.self.invariant.free;

@@ -3,7 +3,7 @@ use Rattle.pst_shape.specs.Walks.{HasDigit}
 use Rattle.pst_value_walk.specs.Walks.{answer as value_answer}
 use Rattle.pst_link_walk.specs.Walks.{with_choice}
 use Rattle.pst_list_walk.specs.Walks.{answer}
-use Rattle.pst_list_walk.specs.Made.{choices_of}
+use Rattle.pst_list_walk.specs.Made.{choices_of, Goes}
 use Rattle.pst_list_walk.proofs.Parts.{behind_next}
 use Rattle.pst_list_walk.proofs.Answering.{digit_same, some_stands, some_answers, one_valued}
 use Rattle.pst_list_walk.proofs.Going.{goes_linked, goes_free}
@@ -26,7 +26,7 @@ invariant_of-self-in-Some c =
     let e = c.in_ok-choose-in-Some.ensures.ok in
     record {
       sound = c.self.invariant.sound;
-      near = c.self.invariant.near;
+      far = c.self.invariant.far;
       inlines = c.self.invariant.inlines;
       linked = c.self.invariant.linked;
       free = c.self.invariant.free;
@@ -54,12 +54,12 @@ choose_link-requires-clause-digit c =
 pub invariant_of-self-in-None : goal.invariant_of-self-in-None
 invariant_of-self-in-None c =
     let w = c.self.inside in
-    let new = c.choose_link.new.links in
+    let new = c.keep_acts.new.links in
     let after = c.in_ok-values-in-None.values in
-    let goes = c.in_ok-values-in-None.ensures.ok in
+    let goes = subst (λ k. Goes w.model.now w.root w.seed w.level w.links.choices c.args.digit k after) (sym c.keep_acts.ensures) c.in_ok-values-in-None.ensures.ok in
     record {
       sound = c.self.invariant.sound;
-      near = c.self.invariant.near;
+      far = c.self.invariant.far;
       inlines = c.self.invariant.inlines;
       linked = c.in_ok-linked-in-None.ensures ∙ goes_linked w.model.now w.root w.seed w.level w.links.choices new c.args.digit w.linked after c.self.invariant.linked goes;
       free = goes_free w.model.now w.root w.seed w.level w.links w.values new c.args.digit w.free w.linked c.free_behind-self-inside.result c.size-size.result (length c.nodes-nodes.result.now) c.nodes-nodes.result.now after c.is_freed-is_freed.result c.self.invariant.links
@@ -73,4 +73,5 @@ invariant_of-self-in-None c =
 pub returns-in_ok-values-in-None-clause-ok : goal.returns-in_ok-values-in-None-clause-ok
 returns-in_ok-values-in-None-clause-ok c =
     let w = c.self.inside in
-    link_value w.model.now w.root w.seed w.level w.links.choices c.choose_link.new.links c.args.digit w.values c.in_ok-values-in-None.values c.in-None.is c.in_ok-values-in-None.ensures.ok ∙ ap (λ x. with_choice x c.args.digit) c.self.view_is
+    link_value w.model.now w.root w.seed w.level w.links.choices c.keep_acts.new.links c.args.digit w.values c.in_ok-values-in-None.values c.in-None.is
+    (subst (λ k. Goes w.model.now w.root w.seed w.level w.links.choices c.args.digit k c.in_ok-values-in-None.values) (sym c.keep_acts.ensures) c.in_ok-values-in-None.ensures.ok) ∙ ap (λ x. with_choice x c.args.digit) c.self.view_is

@@ -10,7 +10,7 @@ begin-requires c = first_self c.args.model.now c.args.root c.args.seed c.args.le
 pub invariant_of-result : goal.invariant_of-result
 invariant_of-result c = record {
   sound = c.requires;
-  near = c.is_near-near.ensures;
+  far = c.in_ok-far.ensures;
   inlines = λ none. sym c.has_inlines-inlines.ensures ∙ none;
   linked = ap (λ (k : Kept). length k.choices) (sym c.in_ok-links.ensures);
   free = free_first c.args.model.now c.args.root c.args.seed c.args.level c.in_ok-links.links c.first_free-free.result c.in_ok-links.ensures c.first_free-free.ensures.few c.first_free-free.ensures.free;

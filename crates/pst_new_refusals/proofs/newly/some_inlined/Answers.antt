@@ -1,0 +1,16 @@
+use Rattle.std.proofs.Common.{get_or, subst, arith}
+use Rattle.std.proofs.lemmas.Option.{slice_get-get_or}
+use Rattle.pst_new_refusals.specs.Newly.{IfNot, IsNearAt}
+use Rattle.pst_new_refusals.proofs.Nodes.{each_more, each_all}
+use Rattle.pst_new_refusals.proofs.newly.some_inlined.Goals as goal
+
+pub loop-n-preserved : goal.loop-n-preserved
+loop-n-preserved c =
+    let list = c.args.list.now in
+    let i = c.loop-n.n-index in
+    let x = get_or list i 0 in
+    each_more (IsNearAt c.args.nodes.now c.args.inlined.now) list i x (slice_get-get_or list i 0 c.loop-n-test.true)
+    (subst (λ b. IfNot b (IsNearAt c.args.nodes.now c.args.inlined.now x)) c.if-is_node_inlined.false c.is_node_inlined.ensures) c.loop-n.invariant
+
+pub returns : goal.returns
+returns c = each_all (IsNearAt c.args.nodes.now c.args.inlined.now) c.args.list.now c.loop-n.n-index (omega arith) c.loop-n.invariant

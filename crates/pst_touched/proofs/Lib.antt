@@ -1,0 +1,4 @@
+pub mod Ways
+pub mod Kids
+pub mod Behind
+pub mod Untouched
