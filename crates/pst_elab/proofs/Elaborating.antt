@@ -1,17 +1,14 @@
 -- What elaboration finds, part by part.
 use Rattle.std.proofs.Common.{◌≡◌, ℕ, List, map, ap, sym, ◌∙◌}
 use Rattle.pst_ast.specs.DeclarationTree.{UnitTree}
-use Rattle.pst_ast.specs.DeclarationView.{view_unit}
 use Rattle.pst_ast.specs.declared.instance.Instance.{Instance}
-use Rattle.pst_expr.specs.declared.ranges.Span.{Span}
 use Rattle.pst_model.specs.ModelTree.{ModelTree}
 use Rattle.pst_elab_rules.specs.Ends.{IsElaborated}
 use Rattle.pst_elab_rules.specs.Model.{IsModel, model_by}
-use Rattle.pst_elab_rules.specs.Spans.{AreDomains}
 use Rattle.pst_field_domains.specs.Kept.{HasDomains, KeptDomains}
 use Rattle.pst_source_rules.specs.Judged.{IsJudged}
 use Rattle.pst_source_rules.specs.declared.judged.Judged.{Judged}
-use Rattle.pst_sources.specs.Shown.{Shown, sources_of, with_constants}
+use Rattle.pst_sources.specs.Shown.{with_constants}
 use Rattle.pst_terms.specs.Sources.{Sources}
 use Rattle.pst_tree.specs.Instances.{AreInstances}
 use Rattle.pst_type_rules.specs.Sites.{DeclaredField, fields}
