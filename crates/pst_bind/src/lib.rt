@@ -20,5 +20,5 @@ pub use laws::{
 };
 pub use pool_map::{PoolMap, PoolPlace, Served};
 pub use pst_bound_pools::component_of;
-pub use sources::pools;
+pub use sources::{pools, pools_by};
 pub use wants::Wanted;

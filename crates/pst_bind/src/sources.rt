@@ -120,17 +120,30 @@ fn pooled(
     }
 }
 
-// The same, given the sources alone.
-fn pooled_units(
-    alloc: Global,
-    units: &[Unit],
-    instances: &[Instance],
-) -> Result<Result<PoolMap, Finding>, NoMemory>
-    ensures { IfOk result (ArePooled (map view_unit units.now) instances.now) }
+// The index of what sources declare.
+fn index_of(alloc: Global, units: &[Unit]) -> Result<Index, NoMemory>
+    ensures { IfOk result (λ index. index ≡ the_declarations (map view_unit units.now)) }
 {
     let declared = declarations(alloc, units)?;
-    let index = Index::new(alloc, declared)?;
-    pooled(alloc, units, &index, instances)
+    Index::new(alloc, declared)
+}
+
+/// What `pools` answers, given the index of what the sources declare.
+pub fn pools_by(
+    alloc: Global,
+    units: &[Unit],
+    index: &Index,
+    instances: &[Instance],
+) -> Result<PoolMap, RuleEnd>
+    requires declared { index.now ≡ the_declarations (map view_unit units.now) }
+    ensures pools { IfOk result (λ found. ArePooled (map view_unit units.now) instances.now (Rattle.std.specs.Prelude.Ok found)) }
+    ensures broken { IfErr result (λ end. IsPoolEnd (map view_unit units.now) instances.now end) }
+{
+    match pooled(alloc, units, index, instances) {
+        Ok(Ok(found)) => Ok(found),
+        Ok(Err(Finding { place, rule })) => Err(RuleEnd::Broken { place, rule }),
+        Err(NoMemory) => Err(RuleEnd::NoMemory),
+    }
 }
 
 /// The pools of the instances of sources that keep the rules of names and of types, by instance and
@@ -154,9 +167,8 @@ pub fn pools(
     ensures pools { IfOk result (λ found. ArePooled (map view_unit units.now) tree.now.instances (Rattle.std.specs.Prelude.Ok found)) }
     ensures broken { IfErr result (λ end. IsPoolEnd (map view_unit units.now) tree.now.instances end) }
 {
-    match pooled_units(alloc, units, tree.instances.as_slice()) {
-        Ok(Ok(found)) => Ok(found),
-        Ok(Err(Finding { place, rule })) => Err(RuleEnd::Broken { place, rule }),
+    match index_of(alloc, units) {
+        Ok(index) => pools_by(alloc, units, &index, tree.instances.as_slice()),
         Err(NoMemory) => Err(RuleEnd::NoMemory),
     }
 }

@@ -1,6 +1,7 @@
 //! Elaborating sources.
-ghost use Rattle.std.specs.Prelude.{IfErr, IfOk, map};
+ghost use Rattle.std.specs.Prelude.{◌≡◌, IfErr, IfOk, map};
 ghost use Rattle.pst_ast.specs.DeclarationView.{view_unit};
+ghost use Rattle.pst_ast.specs.Declarations.{declarations as the_declarations};
 ghost use Rattle.pst_elab_rules.specs.Ends.{IsElaborated};
 ghost use Rattle.pst_model.specs.ModelView.{view_model};
 ghost use Rattle.pst_source_rules.specs.Judged.{IsEnd};
@@ -8,13 +9,43 @@ ghost use Rattle.pst_source_rules.specs.Judged.{IsEnd};
 use crate::model::model_of;
 use pst_ast::Unit;
 use pst_base::{Names, NoMemory};
+use pst_collect::declarations;
 use pst_elab_rules::ElabEnd;
+use pst_index::Index;
 use pst_model::Model;
 use pst_source_rules::judge;
 use std::alloc::Global;
 
-// The same, with the names of the root as bytes.
+// The same, given the index of what the sources declare, with the names of the root as bytes.
 #[tactic(auto, using(crate::proofs::Elaborating::elaborated))]
+fn elaborated_by(
+    alloc: Global,
+    units: &[Unit],
+    index: &Index,
+    names: &Names,
+    component: &[u8],
+    action: &[u8],
+) -> Result<(Model, u32), ElabEnd>
+    requires { index.now ≡ the_declarations (map view_unit units.now) }
+    ensures model { IfOk result (λ found. IsElaborated (map view_unit units.now) names.now component.now action.now (view_model found.0) found.1) }
+    ensures end { IfErr result (IsEnd (map view_unit units.now) names.now component.now action.now) }
+{
+    let judged = judge(alloc, units, index, names, component, action)?;
+    match model_of(alloc, units, index, names, &judged) {
+        Ok(model) => Ok((model, judged.root)),
+        Err(NoMemory) => Err(ElabEnd::NoMemory),
+    }
+}
+
+// The index of what sources declare.
+fn index_of(alloc: Global, units: &[Unit]) -> Result<Index, NoMemory>
+    ensures { IfOk result (λ index. index ≡ the_declarations (map view_unit units.now)) }
+{
+    let declared = declarations(alloc, units)?;
+    Index::new(alloc, declared)
+}
+
+// The same, with the names of the root as bytes.
 fn elaborated(
     alloc: Global,
     units: &[Unit],
@@ -25,9 +56,8 @@ fn elaborated(
     ensures model { IfOk result (λ found. IsElaborated (map view_unit units.now) names.now component.now action.now (view_model found.0) found.1) }
     ensures end { IfErr result (IsEnd (map view_unit units.now) names.now component.now action.now) }
 {
-    let judged = judge(alloc, units, names, component, action)?;
-    match model_of(alloc, units, names, &judged) {
-        Ok(model) => Ok((model, judged.root)),
+    match index_of(alloc, units) {
+        Ok(index) => elaborated_by(alloc, units, &index, names, component, action),
         Err(NoMemory) => Err(ElabEnd::NoMemory),
     }
 }

@@ -15,7 +15,6 @@ ghost use Rattle.pst_type_rules.specs.Sites.{fields};
 use pst_ast::{Instance, Unit};
 use pst_base::{Names, NoMemory};
 use pst_bind::Served;
-use pst_collect::declarations;
 use pst_field_domains::FieldDomains;
 use pst_index::Index;
 use pst_member_bases::MemberBases;
@@ -132,20 +131,20 @@ fn model_in(
     model_over(alloc, sites, &bases, names, judged, &domains)
 }
 
-/// The model of sources that keep all rules.
+/// The model of sources that keep all rules, given the index of what they declare.
 pub(crate) fn model_of(
     alloc: Global,
     units: &[Unit],
+    index: &Index,
     names: &Names,
     judged: &Judged,
 ) -> Result<Model, NoMemory>
+    requires declared { index.now ≡ the_declarations (map view_unit units.now) }
     requires constants { AreConstants (map view_unit units.now) names.now judged.now.typed.constants }
     requires instances { AreInstances (map view_unit units.now) names.now judged.now.tree.instances }
     requires pooled { IsPoolMap (map view_unit units.now) judged.now.tree.instances judged.now.pools.pools judged.now.pools.served }
     ensures { IfOk result (λ m. tree.IsModel (map view_unit units.now) names.now (view_model m)) }
 {
-    let declared = declarations(alloc, units)?;
-    let index = Index::new(alloc, declared)?;
     let sites = Sites::new(alloc, units)?;
-    model_in(alloc, &sites, &index, names, judged)
+    model_in(alloc, &sites, index, names, judged)
 }

@@ -12,4 +12,4 @@ mod sources;
 
 pub use end::RuleEnd;
 pub use judge_targets::{TargetRead, read_target};
-pub use sources::resolve;
+pub use sources::{resolve, resolve_by};

@@ -57,13 +57,30 @@ fn judged_index(
     }
 }
 
-// What judging the names of sources says of them.
-fn judged_units(alloc: Global, units: &[Unit], names: &Names) -> Result<Checked<Scopes>, NoMemory>
-    ensures { IfOk result (λ found. IsJudged (map view_unit units.now) names.now found) }
+// The index of what sources declare.
+fn index_of(alloc: Global, units: &[Unit]) -> Result<Index, NoMemory>
+    ensures { IfOk result (λ index. index ≡ the_declarations (map view_unit units.now)) }
 {
     let declared = declarations(alloc, units)?;
-    let index = Index::new(alloc, declared)?;
-    judged_index(alloc, units, &index, names)
+    Index::new(alloc, declared)
+}
+
+/// What `resolve` answers, given the index of what the sources declare.
+pub fn resolve_by(
+    alloc: Global,
+    units: &[Unit],
+    index: &Index,
+    names: &Names,
+) -> Result<Scopes, RuleEnd>
+    requires declared { index.now ≡ the_declarations (map view_unit units.now) }
+    ensures resolved { IfOk result (λ scopes. AreResolved (map view_unit units.now) names.now scopes.types scopes.meanings) }
+    ensures broken { IfErr result (λ end. IsUnresolved (map view_unit units.now) names.now end) }
+{
+    match judged_index(alloc, units, index, names) {
+        Ok(Checked::Is(scopes)) => Ok(scopes),
+        Ok(Checked::Breaks { place, rule }) => Err(RuleEnd::Broken { place, rule }),
+        Err(NoMemory) => Err(RuleEnd::NoMemory),
+    }
 }
 
 /// Judges the names of sources by the rules of names: the types of the sources, and what each name
@@ -77,9 +94,8 @@ pub fn resolve(alloc: Global, units: &[Unit], names: &Names) -> Result<Scopes, R
     ensures resolved { IfOk result (λ scopes. AreResolved (map view_unit units.now) names.now scopes.types scopes.meanings) }
     ensures broken { IfErr result (λ end. IsUnresolved (map view_unit units.now) names.now end) }
 {
-    match judged_units(alloc, units, names) {
-        Ok(Checked::Is(scopes)) => Ok(scopes),
-        Ok(Checked::Breaks { place, rule }) => Err(RuleEnd::Broken { place, rule }),
+    match index_of(alloc, units) {
+        Ok(index) => resolve_by(alloc, units, &index, names),
         Err(NoMemory) => Err(RuleEnd::NoMemory),
     }
 }

@@ -4,14 +4,12 @@ use Rattle.std.specs.Prelude.{Ok, Err}
 use Rattle.pst_base.specs.declared.position.Place.{Place}
 use Rattle.pst_ast.specs.declared.instance.Instance.{Instance}
 use Rattle.pst_ast.specs.DeclarationTree.{UnitTree}
-use Rattle.pst_bind.specs.declared.pool_map.PoolMap.{PoolMap}
 use Rattle.pst_elab_rules.specs.declared.end.ElabEnd.TheVariants as the_end
-use Rattle.pst_elab_rules.specs.Ends.{AreTyped, HasMany, IsFirstBreach, InNames, InTypes, AtLast}
+use Rattle.pst_elab_rules.specs.Ends.{AreTyped, InNames, InTypes, AtLast}
 use Rattle.pst_names.specs.declared.end.RuleEnd.TheVariants as rule_end
 use Rattle.pst_names.specs.Resolved.{IsUnresolved}
 use Rattle.pst_ast.specs.Breaches.{IsNone}
 use Rattle.pst_ast.specs.NameRules.{NameBreach}
-use Rattle.pst_ast.specs.declared.referent.Finding.{Finding}
 use Rattle.pst_tree.specs.Found.{AreMany}
 use Rattle.pst_tree.specs.Instances.{AreInstances}
 use Rattle.pst_type_rules.specs.Typed.{AreConstants}

@@ -10,8 +10,8 @@ use Rattle.pst_bind.specs.declared.pool_map.PoolMap.{PoolMap}
 use Rattle.pst_bind.specs.PoolRules.{PoolBreach}
 use Rattle.pst_bind.specs.PooledSources.{ArePooled}
 use Rattle.pst_elab_rules.specs.Ends.{LastBreach, OfPools, OfRoot, RootBreach, NoRoot, root_number, root_place}
-use Rattle.pst_name_rules.specs.Earlier.{earlier, is_no_later}
-use Rattle.pst_name_rules.specs.Leasts.{IsLeastOf, NoLater}
+use Rattle.pst_name_rules.specs.Earlier.{is_no_later}
+use Rattle.pst_name_rules.specs.Leasts.{IsLeastOf}
 use Rattle.pst_name_rules.proofs.Leasts.{least_of_both}
 use Rattle.pst_ast.specs.Breaches.{IsLeast, IsNone, IsNoLater}
 use Rattle.pst_ast.specs.declared.referent.Finding.{Finding}

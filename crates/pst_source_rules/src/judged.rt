@@ -3,6 +3,7 @@ ghost use Rattle.std.specs.Prelude.{◌≡◌, ◌≤◌, IfErr, IfOk, length, m
 ghost use Rattle.pst_ast.specs.DeclarationView.{view_unit};
 ghost use Rattle.pst_elab_rules.specs.Ends as ends;
 ghost use Rattle.pst_ast.specs.Breaches.{IsNone};
+ghost use Rattle.pst_ast.specs.Declarations.{declarations as the_declarations};
 ghost use Rattle.pst_ast.specs.NameRules.{NameBreach};
 ghost use Rattle.pst_ast.specs.Scopes.{AreScopes};
 ghost use Rattle.pst_source_rules.specs.Judged.{IsEnd, IsJudged};
@@ -15,10 +16,11 @@ use pst_ast::{Finding, Scopes, Unit};
 use pst_base::Names;
 use pst_bind::PoolMap;
 use pst_elab_rules::ElabEnd;
-use pst_names::{RuleEnd, resolve};
+use pst_index::Index;
+use pst_names::{RuleEnd, resolve_by};
 use pst_tree::{Tree, TreeEnd, instances};
 use pst_type_rules::Typed;
-use pst_types::check;
+use pst_types::check_by;
 use std::alloc::Global;
 
 /// Sources that keep all rules.
@@ -39,21 +41,21 @@ pub struct Judged {
 fn judged_last(
     alloc: Global,
     units: &[Unit],
+    index: &Index,
     names: &Names,
-    scopes: &Scopes,
     words: &RootWords<'_>,
     typed: Typed,
     tree: Tree,
 ) -> Result<Judged, ElabEnd>
+    requires declared { index.now ≡ the_declarations (map view_unit units.now) }
     requires typed { ends.AreTyped (map view_unit units.now) names.now }
-    requires scopes { AreScopes (map view_unit units.now) names.now scopes.now.types scopes.now.meanings }
     requires constants { AreConstants (map view_unit units.now) names.now typed.constants }
     requires tree { AreInstances (map view_unit units.now) names.now tree.instances }
     requires few { length tree.instances ≤ 256 }
     ensures judged { IfOk result (IsJudged (map view_unit units.now) names.now words.now.component.now words.now.action.now) }
     ensures end { IfErr result (IsEnd (map view_unit units.now) names.now words.now.component.now words.now.action.now) }
 {
-    match last(alloc, units, names, scopes, &tree, words) {
+    match last(alloc, units, index, names, tree.instances.as_slice(), words) {
         Ok(Ok((pools, root))) => Ok(Judged {
             typed,
             tree,
@@ -70,11 +72,13 @@ fn judged_last(
 fn judged_typed(
     alloc: Global,
     units: &[Unit],
+    index: &Index,
     names: &Names,
     scopes: &Scopes,
     words: &RootWords<'_>,
     typed: Typed,
 ) -> Result<Judged, ElabEnd>
+    requires declared { index.now ≡ the_declarations (map view_unit units.now) }
     requires typed { ends.AreTyped (map view_unit units.now) names.now }
     requires scopes { AreScopes (map view_unit units.now) names.now scopes.now.types scopes.now.meanings }
     requires constants { AreConstants (map view_unit units.now) names.now typed.constants }
@@ -82,7 +86,7 @@ fn judged_typed(
     ensures end { IfErr result (IsEnd (map view_unit units.now) names.now words.now.component.now words.now.action.now) }
 {
     match instances(alloc, units, names, scopes) {
-        Ok(tree) => judged_last(alloc, units, names, scopes, words, typed, tree),
+        Ok(tree) => judged_last(alloc, units, index, names, words, typed, tree),
         Err(TreeEnd::Many { count }) => Err(ElabEnd::Many { count }),
         Err(TreeEnd::NoMemory) => Err(ElabEnd::NoMemory),
     }
@@ -93,24 +97,27 @@ fn judged_typed(
 fn judged_named(
     alloc: Global,
     units: &[Unit],
+    index: &Index,
     names: &Names,
     scopes: &Scopes,
     words: &RootWords<'_>,
 ) -> Result<Judged, ElabEnd>
+    requires declared { index.now ≡ the_declarations (map view_unit units.now) }
     requires named { IsNone (NameBreach (map view_unit units.now) names.now) }
     requires scopes { AreScopes (map view_unit units.now) names.now scopes.now.types scopes.now.meanings }
     ensures judged { IfOk result (IsJudged (map view_unit units.now) names.now words.now.component.now words.now.action.now) }
     ensures end { IfErr result (IsEnd (map view_unit units.now) names.now words.now.component.now words.now.action.now) }
 {
-    match check(alloc, units, names, scopes) {
-        Ok(typed) => judged_typed(alloc, units, names, scopes, words, typed),
+    match check_by(alloc, units, index, names) {
+        Ok(typed) => judged_typed(alloc, units, index, names, scopes, words, typed),
         Err(RuleEnd::Broken { place, rule }) => Err(ElabEnd::Broken { place, rule }),
         Err(RuleEnd::NoMemory) => Err(ElabEnd::NoMemory),
     }
 }
 
 /// Judges sources by all rules, in their order: those of names, those of types, the number of
-/// instances, and those of pools and of the root, whose component and action have these names.
+/// instances, and those of pools and of the root, whose component and action have these names. The
+/// index is that of what the sources declare.
 ///
 /// `Broken` has the least place at which a rule of the first part is broken that has a breach, and
 /// the least rule that is broken there. `Many` comes where the first two parts have none and there
@@ -120,16 +127,18 @@ fn judged_named(
 pub fn judge(
     alloc: Global,
     units: &[Unit],
+    index: &Index,
     names: &Names,
     component: &[u8],
     action: &[u8],
 ) -> Result<Judged, ElabEnd>
+    requires { index.now ≡ the_declarations (map view_unit units.now) }
     ensures judged { IfOk result (IsJudged (map view_unit units.now) names.now component.now action.now) }
     ensures end { IfErr result (IsEnd (map view_unit units.now) names.now component.now action.now) }
 {
     let words = RootWords { component, action };
-    match resolve(alloc, units, names) {
-        Ok(scopes) => judged_named(alloc, units, names, &scopes, &words),
+    match resolve_by(alloc, units, index, names) {
+        Ok(scopes) => judged_named(alloc, units, index, names, &scopes, &words),
         Err(RuleEnd::Broken { place, rule }) => Err(ElabEnd::Broken { place, rule }),
         Err(RuleEnd::NoMemory) => Err(ElabEnd::NoMemory),
     }

@@ -4,40 +4,30 @@ ghost use Rattle.pst_ast.specs.DeclarationView.{view_unit};
 ghost use Rattle.pst_bind.specs.PooledSources.{ArePooled};
 ghost use Rattle.pst_elab_rules.specs.Ends as ends;
 ghost use Rattle.pst_name_rules.specs.Earlier;
-ghost use Rattle.pst_ast.specs.Breaches.{IsNone};
-ghost use Rattle.pst_ast.specs.NameRules.{NameBreach};
-ghost use Rattle.pst_ast.specs.Scopes.{AreScopes};
-ghost use Rattle.pst_tree.specs.Instances.{AreInstances};
-ghost use Rattle.pst_type_rules.specs.TypeRules.{TypeBreach};
+ghost use Rattle.pst_ast.specs.Declarations.{declarations as the_declarations};
 ghost use Rattle.pst_source_rules.specs.Judged.{IsLast, both_of, or_first};
 
 use crate::root::{RootWords, root_number};
-use pst_ast::{Finding, Instance, Scopes, Unit};
+use pst_ast::{Finding, Instance, Unit};
 use pst_base::{Names, NoMemory, Place};
-use pst_bind::{PoolMap, pools};
-use pst_collect::declarations;
+use pst_bind::{PoolMap, pools_by};
 use pst_index::Index;
 use pst_name_rules::earlier;
 use pst_names::RuleEnd;
 use pst_sites::Sites;
-use pst_tree::Tree;
 use std::alloc::Global;
 
 // The pools and what they serve, or the least breach of the rules of pools.
 fn pooled(
     alloc: Global,
     units: &[Unit],
-    names: &Names,
-    scopes: &Scopes,
-    tree: &Tree,
+    index: &Index,
+    instances: &[Instance],
 ) -> Result<Result<PoolMap, Finding>, NoMemory>
-    requires names_kept { IsNone (NameBreach (map view_unit units.now) names.now) }
-    requires types_kept { IsNone (TypeBreach (map view_unit units.now) names.now) }
-    requires scopes { AreScopes (map view_unit units.now) names.now scopes.now.types scopes.now.meanings }
-    requires tree { AreInstances (map view_unit units.now) names.now tree.now.instances }
-    ensures { IfOk result (ArePooled (map view_unit units.now) tree.now.instances) }
+    requires { index.now ≡ the_declarations (map view_unit units.now) }
+    ensures { IfOk result (ArePooled (map view_unit units.now) instances.now) }
 {
-    match pools(alloc, units, names, scopes, tree) {
+    match pools_by(alloc, units, index, instances) {
         Ok(found) => Ok(Ok(found)),
         Err(RuleEnd::Broken { place, rule }) => Ok(Err(Finding { place, rule })),
         Err(RuleEnd::NoMemory) => Err(NoMemory),
@@ -48,16 +38,16 @@ fn pooled(
 fn root_of(
     alloc: Global,
     units: &[Unit],
+    index: &Index,
     names: &Names,
     instances: &[Instance],
     words: &RootWords<'_>,
 ) -> Result<Option<u32>, NoMemory>
+    requires { index.now ≡ the_declarations (map view_unit units.now) }
     ensures { IfOk result (λ n. n ≡ ends.root_number (map view_unit units.now) names.now instances.now words.now.component.now words.now.action.now) }
 {
-    let declared = declarations(alloc, units)?;
-    let index = Index::new(alloc, declared)?;
     let sites = Sites::new(alloc, units)?;
-    root_number(alloc, &sites, &index, names, instances, words)
+    root_number(alloc, &sites, index, names, instances, words)
 }
 
 // That the words name no root.
@@ -106,19 +96,16 @@ fn both(pooled: Result<PoolMap, Finding>, root: Option<u32>) -> Result<(PoolMap,
 pub fn last(
     alloc: Global,
     units: &[Unit],
+    index: &Index,
     names: &Names,
-    scopes: &Scopes,
-    tree: &Tree,
+    instances: &[Instance],
     words: &RootWords<'_>,
 ) -> Result<Result<(PoolMap, u32), Finding>, NoMemory>
-    requires names_kept { IsNone (NameBreach (map view_unit units.now) names.now) }
-    requires types_kept { IsNone (TypeBreach (map view_unit units.now) names.now) }
-    requires scopes { AreScopes (map view_unit units.now) names.now scopes.now.types scopes.now.meanings }
-    requires tree { AreInstances (map view_unit units.now) names.now tree.now.instances }
-    ensures { IfOk result (IsLast (map view_unit units.now) names.now tree.now.instances words.now.component.now words.now.action.now) }
+    requires { index.now ≡ the_declarations (map view_unit units.now) }
+    ensures { IfOk result (IsLast (map view_unit units.now) names.now instances.now words.now.component.now words.now.action.now) }
 {
     pst_base::places_are_ordered();
-    let pooled = pooled(alloc, units, names, scopes, tree)?;
-    let root = root_of(alloc, units, names, tree.instances.as_slice(), words)?;
+    let pooled = pooled(alloc, units, index, instances)?;
+    let root = root_of(alloc, units, index, names, instances, words)?;
     Ok(both(pooled, root))
 }

@@ -115,14 +115,31 @@ fn judged_by_index(
     judged_by_sites(alloc, &sites, index, names)
 }
 
-// The same.
-fn judged_units(alloc: Global, units: &[Unit], names: &Names) -> Result<Checked<Typed>, NoMemory>
-    requires named { IsNone (NameBreach (map view_unit units.now) names.now) }
-    ensures { IfOk result (λ found. IsChecked (map view_unit units.now) names.now found) }
+// The index of what sources declare.
+fn index_of(alloc: Global, units: &[Unit]) -> Result<Index, NoMemory>
+    ensures { IfOk result (λ index. index ≡ the_declarations (map view_unit units.now)) }
 {
     let declared = declarations(alloc, units)?;
-    let index = Index::new(alloc, declared)?;
-    judged_by_index(alloc, units, &index, names)
+    Index::new(alloc, declared)
+}
+
+/// What `check` answers, given the index of what the sources declare.
+pub fn check_by(
+    alloc: Global,
+    units: &[Unit],
+    index: &Index,
+    names: &Names,
+) -> Result<Typed, RuleEnd>
+    requires declared { index.now ≡ the_declarations (map view_unit units.now) }
+    requires named { IsNone (NameBreach (map view_unit units.now) names.now) }
+    ensures typed { IfOk result (λ typed. AreTyped (map view_unit units.now) names.now typed.constants) }
+    ensures broken { IfErr result (λ end. IsUntyped (map view_unit units.now) names.now end) }
+{
+    match judged_by_index(alloc, units, index, names) {
+        Ok(Checked::Is(typed)) => Ok(typed),
+        Ok(Checked::Breaks { place, rule }) => Err(RuleEnd::Broken { place, rule }),
+        Err(NoMemory) => Err(RuleEnd::NoMemory),
+    }
 }
 
 /// Judges sources that keep the rules of names by the rules of types: the values of the parts that
@@ -143,9 +160,8 @@ pub fn check(
     ensures typed { IfOk result (λ typed. AreTyped (map view_unit units.now) names.now typed.constants) }
     ensures broken { IfErr result (λ end. IsUntyped (map view_unit units.now) names.now end) }
 {
-    match judged_units(alloc, units, names) {
-        Ok(Checked::Is(typed)) => Ok(typed),
-        Ok(Checked::Breaks { place, rule }) => Err(RuleEnd::Broken { place, rule }),
+    match index_of(alloc, units) {
+        Ok(index) => check_by(alloc, units, &index, names),
         Err(NoMemory) => Err(RuleEnd::NoMemory),
     }
 }

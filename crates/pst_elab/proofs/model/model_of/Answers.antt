@@ -1,4 +1,4 @@
-use Rattle.std.proofs.Common.{◌≡◌, List, sym, subst, ◌∙◌}
+use Rattle.std.proofs.Common.{◌≡◌, List, sym, subst}
 use Rattle.std.specs.Prelude.{IfOk, map}
 use Rattle.pst_ast.specs.DeclarationView.{view_unit}
 use Rattle.pst_ast.specs.declared.declaration.Unit.{Unit}
@@ -11,7 +11,7 @@ use Rattle.pst_type_rules.specs.Typed.{AreConstants}
 use Rattle.pst_elab.proofs.model.model_of.Goals as goal
 
 pub model_in-requires-clause-declared : goal.model_in-requires-clause-declared
-model_in-requires-clause-declared c = subst (λ (us : List Unit). c.in_ok-index.index ≡ declarations (map view_unit us)) (sym c.in_ok-sites.ensures) (c.in_ok-index.ensures ∙ c.in_ok-declared.ensures)
+model_in-requires-clause-declared c = subst (λ (us : List Unit). c.args.index.now ≡ declarations (map view_unit us)) (sym c.in_ok-sites.ensures) c.requires.declared
 
 pub model_in-requires-clause-constants : goal.model_in-requires-clause-constants
 model_in-requires-clause-constants c = subst (λ (us : List Unit). AreConstants (map view_unit us) c.args.names.now c.args.judged.now.typed.constants) (sym c.in_ok-sites.ensures) c.requires.constants
