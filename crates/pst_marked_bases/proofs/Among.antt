@@ -1,6 +1,6 @@
 -- Places that are among others.
 use Rattle.std.proofs.Common.{◌≡◌, refl, true≢false}
-use Rattle.std.specs.Prelude.{ℕ, suc, Bool, true, false, ◌||◌, List, [], ◌∷◌, Option, Some, None, is_some, if◌then◌else◌}
+use Rattle.std.specs.Prelude.{ℕ, suc, Bool, true, false, ◌||◌, List, [], ◌∷◌, Option, Some, is_some, if◌then◌else◌}
 use Rattle.std.specs.List.{list_any}
 use Rattle.pst_base.specs.declared.position.Place.{Place}
 use Rattle.pst_places.specs.Numbers.{number_in, number_from}

@@ -1,6 +1,6 @@
 -- The values of items are those of the trees of their enums.
 use Rattle.std.proofs.Common.{◌≡◌, refl, ap, ◌∙◌, append_assoc}
-use Rattle.std.specs.Prelude.{ℤ, pos, List, [], ◌∷◌, ◌++◌, map, Option, Some, None}
+use Rattle.std.specs.Prelude.{ℤ, pos, List, [], ◌∷◌, ◌++◌, map, Option, Some}
 use Rattle.std.specs.List.{flat_map}
 use Rattle.pst_base.specs.declared.position.Place.{Place}
 use Rattle.pst_ast.specs.declared.leaf.Name.{Name}
@@ -12,7 +12,7 @@ use Rattle.pst_type_rules.specs.Enums.{DeclaredEnum, items_behind, enums}
 use Rattle.pst_site_lists.specs.Sited.{view_enum_site}
 use Rattle.pst_site_lists.specs.declared.site.EnumSite.{EnumSite}
 use Rattle.pst_terms.specs.Sources.{Sources, item_values, next_value, all_item_values}
-use Rattle.pst_sources.specs.Listed.{item_expr, item_place, value_with, values_from}
+use Rattle.pst_sources.specs.Listed.{item_expr, value_with, values_from}
 
 pub values_are : (s : Sources) (next : Option ℤ) (component : Option Place) (before : Option Name) (items : List EnumItemTree) → values_from s next items ≡ item_values s next (items_behind component before items)
 values_are s next component before [] = refl

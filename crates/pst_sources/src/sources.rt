@@ -3,6 +3,7 @@ ghost use Rattle.std.specs.Prelude.{◌≡◌, IfOk};
 ghost use Rattle.pst_terms.specs.Fields as numbering;
 ghost use Rattle.pst_terms.specs.Sources as tree;
 ghost use Rattle.pst_sources.specs.Shown.{sources_of};
+ghost use Rattle.pst_sources.specs.Valued.{AreTables};
 
 use crate::fields::FieldNumbers;
 use crate::items::list_values;
@@ -13,6 +14,17 @@ use pst_base::{NoMemory, Place};
 use pst_places::PlaceList;
 use std::marker::Model;
 
+// What is found once for all of the sources.
+#[derive(Drop)]
+pub(crate) struct SourceTables {
+    // The values of enum items.
+    pub(crate) items: Vec<(Place, Option<i64>)>,
+    // The places of their names.
+    pub(crate) places: PlaceList,
+    // The numbers of the fields of types.
+    pub(crate) numbers: FieldNumbers,
+}
+
 /// The sources with the values of their constants and of their enum items, and with the numbers of
 /// the fields of their types.
 ///
@@ -21,9 +33,7 @@ use std::marker::Model;
 #[derive(Drop)]
 pub struct Sources<'a> {
     known: Known<'a>,
-    items: Vec<(Place, Option<i64>)>,
-    places: PlaceList,
-    numbers: FieldNumbers,
+    tables: SourceTables,
 }
 
 impl<'a> Model for Sources<'a> {
@@ -46,7 +56,7 @@ impl<'a> Model for Sources<'a> {
     ghost use Rattle.pst_ast.specs.contracts.constraint.ConstraintItem as the_constraint_item;
     ghost use Rattle.pst_ast.specs.contracts.body.BodyStatement as the_body_statement;
     ghost use Rattle.pst_sources.specs.Shown.{Shown};
-    ghost use Rattle.pst_sources.specs.Valued.{HasItems};
+    ghost use Rattle.pst_sources.specs.Valued.{HasTables};
 
     ghost Value = { Shown };
 
@@ -54,7 +64,21 @@ impl<'a> Model for Sources<'a> {
 
     ghost view = { λ s. s.known };
 
-    ghost invariant = { HasItems };
+    ghost invariant = { HasTables };
+}
+
+// What is found once for all of the sources.
+fn tables_of(known: &Known<'_>) -> Result<SourceTables, NoMemory>
+    ensures { IfOk result (AreTables (sources_of known.now)) }
+{
+    let items = list_values(known)?;
+    let places = places_of_items(known.alloc(), items.as_slice())?;
+    let numbers = FieldNumbers::new(known)?;
+    Ok(SourceTables {
+        items,
+        places,
+        numbers,
+    })
 }
 
 impl<'a> Sources<'a> {
@@ -62,15 +86,8 @@ impl<'a> Sources<'a> {
     pub fn new(known: Known<'a>) -> Result<Sources<'a>, NoMemory>
         ensures { IfOk result (λ s. s ≡ known.entry) }
     {
-        let items = list_values(&known)?;
-        let places = places_of_items(known.alloc(), items.as_slice())?;
-        let numbers = FieldNumbers::new(&known)?;
-        Ok(Sources {
-            known,
-            items,
-            places,
-            numbers,
-        })
+        let tables = tables_of(&known)?;
+        Ok(Sources { known, tables })
     }
 
     /// The sources with the values of their constants.
@@ -85,7 +102,7 @@ impl<'a> Sources<'a> {
     pub fn item_value(&self, place: Place) -> Option<i64>
         ensures { result ≡ tree.item_value (sources_of self.now) place }
     {
-        match item_in(self.items.as_slice(), &self.places, place) {
+        match item_in(self.tables.items.as_slice(), &self.tables.places, place) {
             None => None,
             Some(item) => item.1,
         }
@@ -95,7 +112,7 @@ impl<'a> Sources<'a> {
     pub fn field_number(&self, owner: &Declaration, field: &Declaration) -> Result<u32, NoMemory>
         ensures { IfOk result (λ n. n ≡ numbering.field_number (sources_of self.now) owner.now field.now) }
     {
-        match self.numbers.number(owner, field) {
+        match self.tables.numbers.number(owner, field) {
             Some(number) => Ok(number),
             None => self.known.field_number(owner, field),
         }

@@ -3,8 +3,9 @@ ghost use Rattle.std.specs.Prelude.{◌≡◌, IfOk};
 ghost use Rattle.pst_tree.specs.Bases;
 ghost use Rattle.pst_terms.specs.Sources.{declared_in};
 ghost use Rattle.pst_sources.specs.Shown.{sources_of};
+ghost use Rattle.pst_type_numbers.specs.Placed.{AreTables};
 
-use crate::places::{TypePlaces, TypeSort, number_of, places_of};
+use crate::places::{TypeTables, number_of, tables_of};
 use pst_ast::Declaration;
 use pst_base::NoMemory;
 use pst_sources::Sources;
@@ -16,9 +17,7 @@ use std::marker::Model;
 #[derive(Drop)]
 pub struct Numbered<'a> {
     sources: &'a Sources<'a>,
-    actions: TypePlaces,
-    objects: TypePlaces,
-    functions: TypePlaces,
+    tables: TypeTables,
 }
 
 impl<'a> Model for Numbered<'a> {
@@ -52,22 +51,21 @@ impl<'a> Model for Numbered<'a> {
     ghost invariant = { HasNumbers };
 }
 
+// The places of the types that sources declare.
+fn tables_in(sources: &Sources<'_>) -> Result<TypeTables, NoMemory>
+    ensures { IfOk result (AreTables (declared_in (sources_of sources.now))) }
+{
+    let known = sources.known();
+    tables_of(known.alloc(), known.index().as_slice())
+}
+
 impl<'a> Numbered<'a> {
     /// The sources with the numbers of their types.
     pub fn new(sources: &'a Sources<'a>) -> Result<Numbered<'a>, NoMemory>
         ensures { IfOk result (λ n. n ≡ sources.now) }
     {
-        let alloc = sources.known().alloc();
-        let declarations = sources.known().index().as_slice();
-        let actions = places_of(alloc, TypeSort::Action, declarations)?;
-        let objects = places_of(alloc, TypeSort::Object, declarations)?;
-        let functions = places_of(alloc, TypeSort::Function, declarations)?;
-        Ok(Numbered {
-            sources,
-            actions,
-            objects,
-            functions,
-        })
+        let tables = tables_in(sources)?;
+        Ok(Numbered { sources, tables })
     }
 
     /// The sources.
@@ -82,7 +80,7 @@ impl<'a> Numbered<'a> {
     pub fn action_number(&self, action: &Declaration) -> Result<u32, NoMemory>
         ensures { IfOk result (λ n. n ≡ Bases.action_number (declared_in (sources_of self.now)) action.now) }
     {
-        number_of(&self.actions, action)
+        number_of(&self.tables.actions, action)
     }
 
     /// The number of an object type.
@@ -90,7 +88,7 @@ impl<'a> Numbered<'a> {
     pub fn object_number(&self, object: &Declaration) -> Result<u32, NoMemory>
         ensures { IfOk result (λ n. n ≡ Bases.object_number (declared_in (sources_of self.now)) object.now) }
     {
-        number_of(&self.objects, object)
+        number_of(&self.tables.objects, object)
     }
 
     /// The number of a function.
@@ -98,6 +96,6 @@ impl<'a> Numbered<'a> {
     pub fn function_number(&self, function: &Declaration) -> Result<u32, NoMemory>
         ensures { IfOk result (λ n. n ≡ Bases.function_number (declared_in (sources_of self.now)) function.now) }
     {
-        number_of(&self.functions, function)
+        number_of(&self.tables.functions, function)
     }
 }

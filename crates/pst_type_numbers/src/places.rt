@@ -1,7 +1,7 @@
 //! The places of the types of one sort.
 ghost use Rattle.std.specs.Prelude.{◌≡◌, IfOk, map};
 ghost use Rattle.pst_type_rules.specs.Members.{those_that};
-ghost use Rattle.pst_type_numbers.specs.Placed.{ArePlaces, is_of, number_or};
+ghost use Rattle.pst_type_numbers.specs.Placed.{ArePlaces, AreTables, is_of, number_or};
 
 use pst_ast::{Declaration, Sort};
 use pst_base::{NoMemory, Place};
@@ -39,6 +39,17 @@ pub struct TypePlaces {
     pub count: u32,
 }
 
+/// The places of the types of each sort.
+#[derive(Drop)]
+pub struct TypeTables {
+    /// Those of action types.
+    pub actions: TypePlaces,
+    /// Those of object types.
+    pub objects: TypePlaces,
+    /// Those of functions.
+    pub functions: TypePlaces,
+}
+
 // The places of the names of the types of a sort, in order of declaration.
 fn list_places(
     alloc: Global,
@@ -56,8 +67,8 @@ fn list_places(
     Ok(places)
 }
 
-/// The places of the types of a sort.
-pub fn places_of(
+// The places of the types of a sort.
+fn places_of(
     alloc: Global,
     by: TypeSort,
     declarations: &[Declaration],
@@ -70,6 +81,20 @@ pub fn places_of(
     };
     let places = PlaceList::new(alloc, places)?;
     Ok(TypePlaces { places, count })
+}
+
+/// The places of the types of each sort.
+pub fn tables_of(alloc: Global, declarations: &[Declaration]) -> Result<TypeTables, NoMemory>
+    ensures { IfOk result (AreTables declarations.now) }
+{
+    let actions = places_of(alloc, TypeSort::Action, declarations)?;
+    let objects = places_of(alloc, TypeSort::Object, declarations)?;
+    let functions = places_of(alloc, TypeSort::Function, declarations)?;
+    Ok(TypeTables {
+        actions,
+        objects,
+        functions,
+    })
 }
 
 /// How many types of that sort stand before one; all, where it isn't there.

@@ -1,4 +1,4 @@
-use Rattle.std.proofs.Common.{◌≡◌, ◌++◌, ◌-◌, arith, List, length, reverse, sym, ap, ◌∙◌}
+use Rattle.std.proofs.Common.{◌++◌, ◌-◌, arith, List, length, reverse, sym, ap, ◌∙◌}
 use Rattle.std.specs.Prelude.{Option, Some}
 use Rattle.pst_ast.specs.declared.scope_declaration.Declaration.{Declaration}
 use Rattle.pst_marked_bases.specs.Marked.{marked_within}

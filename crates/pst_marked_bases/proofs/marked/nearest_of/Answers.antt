@@ -1,5 +1,5 @@
-use Rattle.std.proofs.Common.{◌≡◌, ◌-◌, arith, List, length, sym, ap, ◌∙◌}
-use Rattle.std.specs.Prelude.{Option, Some}
+use Rattle.std.proofs.Common.{◌-◌, arith, List, length, sym, ap, ◌∙◌}
+use Rattle.std.specs.Prelude.{Option}
 use Rattle.pst_ast.specs.declared.scope_declaration.Declaration.{Declaration}
 use Rattle.pst_marked_bases.specs.Marked.{last_of, marked_within}
 use Rattle.pst_marked_bases.proofs.Leading.{no_level, near_begins, near_found, near_further, near_none}

@@ -1,5 +1,4 @@
-use Rattle.std.proofs.Common.{List, sym, ap, ◌∙◌}
-use Rattle.pst_ast.specs.declared.scope_declaration.Declaration.{Declaration}
+use Rattle.std.proofs.Common.{sym, ap, ◌∙◌}
 use Rattle.pst_tree.specs.Bases.{fields_of}
 use Rattle.pst_sources.proofs.Numbering.{same_fields}
 use Rattle.pst_sources.proofs.fields.is_same_type.Goals as goal

@@ -1,5 +1,4 @@
 use Rattle.std.proofs.Common.{◌≡◌, ◌++◌, drop, map}
-use Rattle.pst_base.specs.declared.position.Place.{Place}
 use Rattle.pst_type_rules.specs.Members.{those_that}
 use Rattle.pst_type_numbers.specs.Placed.{is_of}
 use Rattle.pst_type_numbers.proofs.places.list_places.Given as goal

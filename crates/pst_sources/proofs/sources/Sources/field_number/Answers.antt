@@ -1,4 +1,4 @@
-use Rattle.std.proofs.Common.{◌≡◌, sym, subst}
+use Rattle.std.proofs.Common.{◌≡◌, subst}
 use Rattle.std.specs.Prelude.{ℕ, Option, IfSome}
 use Rattle.pst_terms.specs.Fields.{field_number}
 use Rattle.pst_sources.specs.Shown.{Shown, sources_of}
