@@ -1,5 +1,5 @@
 -- Constraints that look behind handles are as they were, where nothing below was touched.
-use Rattle.std.proofs.Common.{◌≡◌, ◌⊎◌, ℕ, ℤ, ◌<◌, ◌≤◌, List, length, Contains, false, Option, Some, None, refl, sym, ap, ◌∙◌, subst, inl, inr, ⊎_elim, arith}
+use Rattle.std.proofs.Common.{◌≡◌, ◌⊎◌, ℕ, ℤ, ◌<◌, List, map, length, Contains, false, Option, Some, None, refl, sym, ap, ◌∙◌, subst, inl, inr, ⊎_elim, arith}
 use Rattle.std.specs.Prelude.{slice_get}
 use Rattle.std.specs.List.{list_any}
 use Rattle.std.specs.Option.{option_and_then}
@@ -25,23 +25,25 @@ use Rattle.pst_slots.specs.Listed.{stating, of_fill, of_stated}
 use Rattle.pst_slots.proofs.Kept.{all_found, stands_at}
 use Rattle.pst_slots.proofs.Listed.{in_contains}
 use Rattle.pst_refusals.specs.Failing.{fails}
-use Rattle.pst_refusals.specs.Inlines.{is_far_slot, is_outer_slot, has_inlines}
+use Rattle.pst_refusals.specs.Inlines.{has_inlines}
 use Rattle.pst_refusals.specs.Made.{made_slot, of_made}
 use Rattle.pst_new_refusals.specs.Since.{IsUnread, IsFresh, IsSince}
 use Rattle.pst_new_refusals.specs.Newly.{so_far, is_leaf, of_own, is_own_refused, ArePlainFree, AreInlinesFree}
 use Rattle.pst_refusals.proofs.Without.{none_inline}
 use Rattle.pst_new_refusals.proofs.Stated.{IsCompoundAt, top_before, top_is, stood}
 use Rattle.pst_new_refusals.proofs.Traversed.{leaf_node}
-use Rattle.pst_new_refusals.proofs.Same.{same_act, same_node, refused_but, refused_same}
+use Rattle.pst_new_refusals.proofs.Same.{same_act, refused_each, refused_same}
 use Rattle.pst_model.specs.ConstraintTree.{Own, Object, First as Initial-of, ClaimId, ClaimField, Prev, IsFirst, Id, Index, Local, Through, Outer}
 use Rattle.pst_legal.specs.Standing.{Lacking}
 use Rattle.pst_legal.specs.Statements.{handle_node}
 use Rattle.pst_legal.specs.Slots.{behind, traversed_type, unread_slot, compound_in, fill_slot, maybe_fill_slot, maybe_act_slot}
 use Rattle.pst_touched.specs.Touched.{IsTouched, Has, HasTouched}
 use Rattle.pst_touched.proofs.Behind.{same_slot}
-use Rattle.pst_touched.proofs.Untouched.{has_or, under_all, untouched_old, untouched_node, untouched_down, untouched_kids, untouched_act}
-use Rattle.pst_new_refusals.specs.Newly.{AreFreeAt, AreStatedFreeAt}
+use Rattle.pst_touched.proofs.Untouched.{has_or, untouched_node, untouched_down, untouched_kids, untouched_act}
+use Rattle.pst_new_refusals.specs.Named.{named_of}
+use Rattle.pst_new_refusals.specs.Newly.{AreFreeAt, AreStatedFreeAt, AreBehindFree}
 use Rattle.pst_new_refusals.proofs.Passed.{passed, of_type_in}
+use Rattle.pst_new_refusals.proofs.BehindOuter.{all_or, outer_same, looking_free, named_untouched}
 use Rattle.pst_new_refusals.proofs.Acts.{by_act, by_output, by_claim, by_first}
 
 -- what belongs to the action of a leaf, which has no handles
@@ -78,21 +80,21 @@ module _ (m : ModelTree) (s u : Scenario) (n top : ℕ) (indices : List ℕ) whe
   all_inline outer own Id = own Id
   all_inline outer own (Local local) = own (Local local)
 
-  -- and those that don't stand behind handles of the action round it
-  but_inline : ((slot : SlotTree) → is_far_slot slot ≡ false → bound_of (node_slot m s top slot) ≡ bound_of (node_slot m u top slot)) → ((slot : SlotTree) → bound_of (node_slot m s n slot) ≡ bound_of (node_slot m u n slot))
-      → (slot : SlotTree) → is_outer_slot slot ≡ false → bound_of (inline_slot m s n top indices slot) ≡ bound_of (inline_slot m u n top indices slot)
-  but_inline near own (Outer slot) e = near slot e
-  but_inline near own (Index level) e = refl
-  but_inline near own (Through handle slot) e = own (Through handle slot)
-  but_inline near own (Own field) e = own (Own field)
-  but_inline near own (Object reference field) e = own (Object reference field)
-  but_inline near own (Initial-of reference) e = own (Initial-of reference)
-  but_inline near own (ClaimId claim) e = own (ClaimId claim)
-  but_inline near own (ClaimField claim field) e = own (ClaimField claim field)
-  but_inline near own (Prev field) e = own (Prev field)
-  but_inline near own IsFirst e = own IsFirst
-  but_inline near own Id e = own Id
-  but_inline near own (Local local) e = own (Local local)
+  -- and those of a list
+  each_inline : (Other : Type 0) (slots : List SlotTree) → ((slot : SlotTree) → In (Outer slot) slots → (bound_of (node_slot m s top slot) ≡ bound_of (node_slot m u top slot)) ⊎ Other) → ((slot : SlotTree) → bound_of (node_slot m s n slot) ≡ bound_of (node_slot m u n slot))
+      → (slot : SlotTree) → In slot slots → (bound_of (inline_slot m s n top indices slot) ≡ bound_of (inline_slot m u n top indices slot)) ⊎ Other
+  each_inline Other slots outer own (Outer slot) has = outer slot has
+  each_inline Other slots outer own (Index level) has = inl refl
+  each_inline Other slots outer own (Through handle slot) has = inl (own (Through handle slot))
+  each_inline Other slots outer own (Own field) has = inl (own (Own field))
+  each_inline Other slots outer own (Object reference field) has = inl (own (Object reference field))
+  each_inline Other slots outer own (Initial-of reference) has = inl (own (Initial-of reference))
+  each_inline Other slots outer own (ClaimId claim) has = inl (own (ClaimId claim))
+  each_inline Other slots outer own (ClaimField claim field) has = inl (own (ClaimField claim field))
+  each_inline Other slots outer own (Prev field) has = inl (own (Prev field))
+  each_inline Other slots outer own IsFirst has = inl (own IsFirst)
+  each_inline Other slots outer own Id has = inl (own Id)
+  each_inline Other slots outer own (Local local) has = inl (own (Local local))
 
   -- and of an action that is looked at by itself
   all_made : ((slot : SlotTree) → bound_of (node_slot m s top slot) ≡ bound_of (node_slot m u top slot)) → (act : Act) → ((slot : SlotTree) → bound_of (node_slot m s n slot) ≡ bound_of (act_slot m u 0 act slot)) → (slot : SlotTree) → bound_of (inline_slot m s n top indices slot) ≡ bound_of (made_slot m u act top indices slot)
@@ -161,26 +163,9 @@ module _ (m : ModelTree) (s t : Scenario) (from : ℕ) (fresh : List Act) (since
   -- ---- inline constraints
 
   module _ (n top action : ℕ) (handle : Option ℕ) (inline : List ConstraintTree) (indices : List ℕ) (k : ConstraintTree) (stands : StandsFor m t.nodes top n (Traverse action handle inline) indices) (has : Contains inline k)
-      (near : Has list top → list_any is_outer_slot k.slots ≡ false) (tests : AreInlinesFree m u from fresh) (stated : AreStatedFreeAt m u list) where
+      (named : List (List ℕ)) (of_types : named ≡ map named_of m.actions) (looked_behind : AreBehindFree m u named from list) (tests : AreInlinesFree m u from fresh) (stated : AreStatedFreeAt m u list) where
     abbrev found : Stated
     found = record { top = top; step = Traverse action handle inline; indices = indices }
-
-    -- the node stood for the statement before
-    by_old : n < length s.nodes → ((slot : SlotTree) → bound_of (node_slot m t n slot) ≡ bound_of (node_slot m s n slot)) → is_refused_at k (inline_slot m t n top indices) ≡ false
-    by_old l own =
-        ⊎_elim
-        (λ there. refused_but is_outer_slot k (inline_slot m t n top indices) (inline_slot m s n top indices) (but_inline m t s n top indices (λ slot outer. same_node m t s top up.action up.instance up.fields up.node slot up.is (since.nodes top up.node before up.is) up.of outer) own) (near there) free_before)
-        (λ other. refused_same k (inline_slot m t n top indices) (inline_slot m s n top indices) (all_inline m t s n top indices (λ slot. same_old slot top (λ touched. other (all top before touched))) own) free_before)
-        (has_or list top)
-      where
-        up : IsCompoundAt t.nodes top
-        up = top_is m t.nodes top stands
-
-        before : top < from
-        before = let lower = top_before m t.nodes since.earlier top stands in let few = since.few in omega (arith, lower, l, few)
-
-        free_before : is_refused_at k (inline_slot m s n top indices) ≡ false
-        free_before = none k (inline_slot m s n top indices) (Inline n top action handle inline indices k (stood m s.nodes t.nodes since.more since.earlier top n (Traverse action handle inline) indices l stands) has)
 
     is_found : statement_of m u.nodes n ≡ Some found
     is_found = all_found m t.nodes since.earlier n top (Traverse action handle inline) indices stands
@@ -192,6 +177,36 @@ module _ (m : ModelTree) (s t : Scenario) (from : ℕ) (fresh : List Act) (since
         let inside : In one (of_stated m u n (statement_of m u.nodes n)) = subst (λ o. In one (of_stated m u n o)) (sym is_found) (to_map (stating (inline_slot m u n top indices)) inline k (in_contains inline k has)) in
         refused_same k (inline_slot m t n top indices) (inline_slot m u n top indices) (all_inline m t u n top indices (λ slot. same_now slot top) (λ slot. same_now slot n))
         (passed (of_stated m u n (statement_of m u.nodes n)) (inline_slot m u n top indices) k passes inside)
+
+    abbrev IsFree : Type 0
+    IsFree = is_refused_at k (inline_slot m t n top indices) ≡ false
+
+    -- the node stood for the statement before
+    by_old : n < length s.nodes → ((slot : SlotTree) → bound_of (node_slot m t n slot) ≡ bound_of (node_slot m s n slot)) → IsFree
+    by_old l own =
+        ⊎_elim (λ same. refused_each k (inline_slot m t n top indices) (inline_slot m s n top indices) same free_before) (λ free. free)
+        (all_or (λ slot. bound_of (inline_slot m t n top indices slot) ≡ bound_of (inline_slot m s n top indices slot)) IsFree k.slots (each_inline m t s n top indices IsFree k.slots outer own))
+      where
+        up : IsCompoundAt t.nodes top
+        up = top_is m t.nodes top stands
+
+        before : top < from
+        before = let lower = top_before m t.nodes since.earlier top stands in let few = since.few in omega (arith, lower, l, few)
+
+        free_before : is_refused_at k (inline_slot m s n top indices) ≡ false
+        free_before = none k (inline_slot m s n top indices) (Inline n top action handle inline indices k (stood m s.nodes t.nodes since.more since.earlier top n (Traverse action handle inline) indices l stands) has)
+
+        behind_it : Has list top → (name : ℕ) (inner : SlotTree) → In (Outer (Through name inner)) k.slots → (j : ℕ) → handle_node m t.nodes top up.action name ≡ Some j → IsUntouched j ⊎ IsFree
+        behind_it there name inner looks j at =
+            ⊎_elim (λ not_touched. inl not_touched) (λ free. inr (by_looked (looking_free m u since.earlier n top action handle inline indices k stands has name inner looks free)))
+            (named_untouched m u since.earlier n top action handle inline indices k stands has name inner looks s.nodes from fresh since.nodes since.more list all there up named of_types looked_behind j at)
+
+        outer : (slot : SlotTree) → In (Outer slot) k.slots → (bound_of (node_slot m t top slot) ≡ bound_of (node_slot m s top slot)) ⊎ IsFree
+        outer slot looks =
+            ⊎_elim
+            (λ there. outer_same m s t from fresh since same_old top up (since.nodes top up.node before up.is) IsFree slot (λ name inner same. behind_it there name inner (subst (λ x. In (Outer x) k.slots) same looks)))
+            (λ other. inl (same_old slot top (λ touched. other (all top before touched))))
+            (has_or list top)
 
     by_leaf : (a : ℕ) (node : Node) (act : Act) → slice_get t.nodes n ≡ Some node → node.fill ≡ fill.Leaf a → slice_get t.actions a ≡ Some act → act.node ≡ Some n → (slice_get s.actions a ≡ Some act) ⊎ IsFresh fresh act → is_refused_at k (inline_slot m t n top indices) ≡ false
     by_leaf a node act is leaf at home (inl old) =
@@ -235,13 +250,13 @@ module _ (m : ModelTree) (s t : Scenario) (from : ℕ) (fresh : List Act) (since
   -- ---- all constraints
 
   module _ (free : ArePlainFree m u from fresh) (above : AreFreeAt m u list)
-      (near : (n action top : ℕ) (handle : Option ℕ) (inline : List ConstraintTree) (indices : List ℕ) (k : ConstraintTree) → Has list top → StandsFor m t.nodes top n (Traverse action handle inline) indices → Contains inline k → list_any is_outer_slot k.slots ≡ false)
+      (named : List (List ℕ)) (of_types : named ≡ map named_of m.actions) (looked_behind : AreBehindFree m u named from list)
       (inlines : (has_inlines m ≡ false) ⊎ (AreInlinesFree m u from fresh × AreStatedFreeAt m u list)) where
     by_inline : (n top action : ℕ) (handle : Option ℕ) (inline : List ConstraintTree) (indices : List ℕ) (k : ConstraintTree) → StandsFor m t.nodes top n (Traverse action handle inline) indices → Contains inline k
         → (has_inlines m ≡ false) ⊎ (AreInlinesFree m u from fresh × AreStatedFreeAt m u list) → is_refused_at k (inline_slot m t n top indices) ≡ false
     by_inline n top action handle inline indices k stands has (inl without) = absurd (none_inline m without t.nodes top n action handle inline indices k stands has)
     by_inline n top action handle inline indices k stands has (inr tests) =
-        by_any n top action handle inline indices k stands has (λ there. near n action top handle inline indices k there stands has) tests.0 tests.1
+        by_any n top action handle inline indices k stands has named of_types looked_behind tests.0 tests.1
 
     each : {k : ConstraintTree} {standing : SlotTree → Standing} → HasConstraint m t k standing → is_refused_at k standing ≡ false
     each (OfCompound n action instance fields node type k is leaf of has) = by_node free above n action instance fields node type k is leaf of has

@@ -7,6 +7,10 @@ pub mod Passed
 pub mod Acts
 pub mod Inline
 pub mod Kept
-pub mod Quiet
+pub mod Rows
+pub mod Names
+pub mod OldWays
+pub mod HandleWays
+pub mod BehindOuter
 pub mod KeptFar
 pub mod Stays

@@ -13,7 +13,8 @@ use Rattle.pst_slots.specs.Listed.{of_fill, of_stated}
 use Rattle.pst_refusals.specs.Answers.{StandEarlier}
 use Rattle.pst_refusals.specs.Failing.{fails}
 use Rattle.pst_touched.specs.Touched.{Has, HasTouched}
-use Rattle.pst_new_refusals.specs.Newly.{is_act_refused, is_leaf, is_own_refused, AreFree, AreTraversedFree, ArePlainFree, AreInlinesFree, AreFreeAt, AreNear, AreStatedFreeAt, AreTouchedFree, IfNot}
+use Rattle.pst_new_refusals.specs.Settled.{is_looking_refused, AreLookingFree}
+use Rattle.pst_new_refusals.specs.Newly.{is_act_refused, is_leaf, is_own_refused, AreFree, AreTraversedFree, ArePlainFree, AreInlinesFree, AreFreeAt, AreBehindFree, AreStatedFreeAt, AreTouchedFree, IfNot}
 
 below_or_at : (k n : ℕ) → k < n + 1 → (k < n) ⊎ (k ≡ n)
 below_or_at k n l = ⊎_elim (λ less. inl less) (λ more. inr (omega (arith, l, more))) (cases_lt k n)
@@ -72,9 +73,34 @@ each_more P list end x at one each i k l is =
 pub each_all : (P : ℕ → Type 0) (list : List ℕ) (end : ℕ) → length list ≤ end → ((i k : ℕ) → i < end → slice_get list i ≡ Some k → P k) → (k : ℕ) → Has list k → P k
 each_all P list end l each k has = let within = slice_get_within list has.0 k has.1 in each has.0 k (omega (arith, within, l)) has.1
 
+-- ---- numbers from one on
+
+module _ (P : ℕ → Type 0) (from : ℕ) where
+  pub from_none : (n : ℕ) → from ≤ n → n < from → P n
+  from_none n above below = absurd (omega (arith, above, below))
+
+  pub from_more : (end : ℕ) → P end → ((n : ℕ) → from ≤ n → n < end → P n) → (n : ℕ) → from ≤ n → n < end + 1 → P n
+  from_more end one each n above l = ⊎_elim (λ below. each n above below) (λ same. subst P (sym same) one) (below_or_at n end l)
+
+  pub from_all : (end all : ℕ) → all ≤ end → ((n : ℕ) → from ≤ n → n < end → P n) → (n : ℕ) → from ≤ n → n < all → P n
+  from_all end all l each n above below = each n above (omega (arith, l, below))
+
+-- ---- inline constraints that look behind a handle
+
+module _ (m : ModelTree) (s : Scenario) (top handle : ℕ) where
+  pub looking_none : AreLookingFree m s top handle 0
+  looking_none earlier n below = absurd (omega (arith, below))
+
+  pub looking_more : (end : ℕ) → (StandEarlier s.nodes → is_looking_refused m s top handle end ≡ false) → AreLookingFree m s top handle end → AreLookingFree m s top handle (end + 1)
+  looking_more end one each earlier n l =
+      ⊎_elim (λ below. each earlier n below) (λ same. subst (λ k. is_looking_refused m s top handle k ≡ false) (sym same) (one earlier)) (below_or_at n end l)
+
+  pub looking_all : (end all : ℕ) → all ≤ end → AreLookingFree m s top handle end → AreLookingFree m s top handle all
+  looking_all end all l each earlier n below = each earlier n (omega (arith, l, below))
+
 -- ---- what is touched
 
-pub touched_if : (m : ModelTree) (s : Scenario) (inlined : List Bool) (inlines : Bool) (from : ℕ) (fresh : List Act) (list : List ℕ) (b : Bool) → (StandEarlier s.nodes → HasTouched s.nodes from fresh list) → AreNear s.nodes inlined list → AreFreeAt m s list
-    → IfNot b ((inlines ≡ false) ⊎ AreStatedFreeAt m s list) → IfNot b (AreTouchedFree m s inlined inlines from fresh)
-touched_if m s inlined inlines from fresh list true all near nodes stated = tt
-touched_if m s inlined inlines from fresh list false all near nodes stated = record { list = list; all = all; near = near; nodes = nodes; stated = stated }
+pub touched_if : (m : ModelTree) (s : Scenario) (named : List (List ℕ)) (inlines : Bool) (from : ℕ) (fresh : List Act) (list : List ℕ) (b : Bool) → (StandEarlier s.nodes → HasTouched s.nodes from fresh list) → AreBehindFree m s named from list → AreFreeAt m s list
+    → IfNot b ((inlines ≡ false) ⊎ AreStatedFreeAt m s list) → IfNot b (AreTouchedFree m s named inlines from fresh)
+touched_if m s named inlines from fresh list true all behind nodes stated = tt
+touched_if m s named inlines from fresh list false all behind nodes stated = record { list = list; all = all; behind = behind; nodes = nodes; stated = stated }

@@ -1,5 +1,5 @@
 -- In scenarios without values the bounds of what belongs to an action are the same.
-use Rattle.std.proofs.Common.{◌≡◌, ℕ, ℤ, pos, List, [], ◌∷◌, map, Bool, true, false, if◌then◌else◌, Option, Some, None, refl, sym, ap, ap₂, ◌∙◌}
+use Rattle.std.proofs.Common.{◌≡◌, ℕ, ℤ, pos, List, [], ◌∷◌, map, Bool, true, false, if◌then◌else◌, Option, Some, None, refl, sym, ap, ap₂, ◌∙◌, inl, inr}
 use Rattle.std.specs.Prelude.{slice_get}
 use Rattle.std.specs.List.{list_any}
 use Rattle.std.specs.Option.{option_map}
@@ -22,6 +22,7 @@ use Rattle.pst_legal.specs.Blanks.{Blank, OfFirst, OfAct, OfOutput, OfClaim, Ins
 use Rattle.pst_legal.specs.Standing.{Standing, bound_of, value_or, open_value, hull, field_span}
 use Rattle.pst_legal.specs.Slots.{pool_span, first_values, claim_values, first_slot, written_slot, output_values, linked_slot, flow_slot, claim_slot, claim_field_slot, act_slot, compound_slot, fill_slot, maybe_fill_slot, node_slot, output_slot, resource_slot, first_object_slot}
 use Rattle.pst_legal.specs.Constraints.{is_refused_at}
+use Rattle.pst_built.proofs.Members.{In}
 use Rattle.pst_refusals.specs.Inlines.{is_far_slot}
 use Rattle.pst_new_refusals.specs.Since.{IsUnread}
 
@@ -158,6 +159,10 @@ all_bounds : (p q : SlotTree → Standing) (slots : List SlotTree) → ((slot : 
 all_bounds p q [] each = refl
 all_bounds p q (slot ∷ slots) each = ap₂ (λ bound bounds. bound ∷ bounds) (each slot) (all_bounds p q slots each)
 
+each_bound : (p q : SlotTree → Standing) (slots : List SlotTree) → ((slot : SlotTree) → In slot slots → bound_of (p slot) ≡ bound_of (q slot)) → map (λ slot. bound_of (p slot)) slots ≡ map (λ slot. bound_of (q slot)) slots
+each_bound p q [] each = refl
+each_bound p q (slot ∷ slots) each = ap₂ (λ bound bounds. bound ∷ bounds) (each slot (inl refl)) (each_bound p q slots (λ other has. each other (inr has)))
+
 -- a constraint is refused by its bounds alone
 pub refused_but : (skips : SlotTree → Bool) (k : ConstraintTree) (p q : SlotTree → Standing) → ((slot : SlotTree) → skips slot ≡ false → bound_of (p slot) ≡ bound_of (q slot)) → list_any skips k.slots ≡ false
     → is_refused_at k q ≡ false → is_refused_at k p ≡ false
@@ -165,6 +170,9 @@ refused_but skips k p q each none e = ap (λ bounds. is_refused (interval k.expr
 
 pub refused_near : (k : ConstraintTree) (p q : SlotTree → Standing) → ((slot : SlotTree) → is_far_slot slot ≡ false → bound_of (p slot) ≡ bound_of (q slot)) → list_any is_far_slot k.slots ≡ false → is_refused_at k q ≡ false → is_refused_at k p ≡ false
 refused_near k p q each near e = refused_but is_far_slot k p q each near e
+
+pub refused_each : (k : ConstraintTree) (p q : SlotTree → Standing) → ((slot : SlotTree) → In slot k.slots → bound_of (p slot) ≡ bound_of (q slot)) → is_refused_at k q ≡ false → is_refused_at k p ≡ false
+refused_each k p q each e = ap (λ bounds. is_refused (interval k.expression bounds)) (each_bound p q k.slots each) ∙ e
 
 pub refused_same : (k : ConstraintTree) (p q : SlotTree → Standing) → ((slot : SlotTree) → bound_of (p slot) ≡ bound_of (q slot)) → is_refused_at k q ≡ false → is_refused_at k p ≡ false
 refused_same k p q each e = ap (λ bounds. is_refused (interval k.expression bounds)) (all_bounds p q k.slots each) ∙ e

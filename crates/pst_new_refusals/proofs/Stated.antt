@@ -28,7 +28,7 @@ there (x ∷ xs) (suc n) l = there xs n (omega (arith, l))
 parent_before : (nodes : List Node) → StandEarlier nodes → (n parent : ℕ) → parent_of nodes n ≡ Some parent → parent < n
 parent_before nodes earlier n parent e = option_and_then_some (λ (node : Node). node.parent) (slice_get nodes n) parent e (λ node at on. earlier n parent node at on)
 
-branch_before : (nodes : List Node) → StandEarlier nodes → (parent index n : ℕ) → IsBranch nodes parent index n → parent < n
+pub branch_before : (nodes : List Node) → StandEarlier nodes → (parent index n : ℕ) → IsBranch nodes parent index n → parent < n
 branch_before nodes earlier parent index n branch =
     let kid = kid_at 0 nodes parent index n branch in
     let same : kid.place ≡ n = omega (arith, kid.number) in
@@ -62,7 +62,7 @@ top_is m nodes top (InTurn n turn parent index node count body round over in_par
 -- ---- statements
 
 module _ (m : ModelTree) (old new : List Node) (more : Each MoreNode old new) (earlier : StandEarlier new) where
-  same_parent : (n : ℕ) → n < length old → parent_of new n ≡ parent_of old n
+  pub same_parent : (n : ℕ) → n < length old → parent_of new n ≡ parent_of old n
   same_parent n l =
       let x = there old n l in
       let y = more n x.0 x.1 in
@@ -82,7 +82,7 @@ module _ (m : ModelTree) (old new : List Node) (more : Each MoreNode old new) (e
       ∙ ap₂ (λ (k : ℕ) (o : Option ℕ). k + cond (is_parent parent o) 1 0) (same_count parent n (omega (arith, l))) (same_parent n under)
       ∙ sym (with_next old parent n (parent_of old n) under refl)
 
-  same_place : (n parent : ℕ) → n < length old → parent_of old n ≡ Some parent → place_in new parent n ≡ place_in old parent n
+  pub same_place : (n parent : ℕ) → n < length old → parent_of old n ≡ Some parent → place_in new parent n ≡ place_in old parent n
   same_place n parent l e =
       place_is new n parent (same_parent n l ∙ e) ∙ ap Some (same_count parent n (omega (arith, l))) ∙ sym (place_is old n parent e)
 

@@ -1,35 +1,23 @@
 -- Where nothing new is refused, nothing is.
-use Rattle.std.proofs.Common.{◌≡◌, ◌⊎◌, ℕ, ℤ, List, [], map, Bool, true, false, Option, Some, refl, sym, ap, ap₂, ◌∙◌, subst, inl, inr, ⊎_elim}
-use Rattle.std.specs.Prelude.{slice_get}
-use Rattle.std.specs.Option.{option_map, unwrap_or}
-use Rattle.std.proofs.lemmas.Option.{none-some, slice_get-map}
-use Rattle.pst_model.specs.ModelTree.{ModelTree, ActionTree}
+use Rattle.std.proofs.Common.{◌≡◌, ◌⊎◌, ℕ, List, [], Bool, true, false, refl, sym, ap₂, subst, inl, inr, ⊎_elim}
+use Rattle.std.proofs.lemmas.Option.{none-some}
+use Rattle.pst_model.specs.ModelTree.{ModelTree}
 use Rattle.pst_scen.specs.declared.act.Act.{Act}
 use Rattle.pst_scen.specs.declared.tree.Node.{Node}
-use Rattle.pst_scen.specs.declared.tree.Fill.TheVariants as fill
 use Rattle.pst_scen.specs.declared.scenario.Scenario.{Scenario}
-use Rattle.pst_legal.specs.Types.{type_of}
 use Rattle.pst_legal.specs.First.{NoneRefused}
-use Rattle.pst_refusals.specs.declared.inlines.Sought.TheVariants as sought
-use Rattle.pst_refusals.specs.Inlines.{has_inlines, type_has}
+use Rattle.pst_refusals.specs.Inlines.{has_inlines}
 use Rattle.pst_new_refusals.specs.declared.far.FarTypes.{FarTypes}
 use Rattle.pst_new_refusals.specs.Far.{AreFarOf}
+use Rattle.pst_new_refusals.specs.Named.{rows}
 use Rattle.pst_new_refusals.specs.Since.{IsUnread, IsSince}
-use Rattle.pst_new_refusals.specs.Newly.{so_far, is_inlined, ArePlainFree, AreInlinesFree, AreTouchedFree, IfNot, StaysFree}
+use Rattle.pst_new_refusals.specs.Newly.{so_far, ArePlainFree, AreInlinesFree, AreTouchedFree, IfNot, StaysFree}
 use Rattle.pst_new_refusals.proofs.Kept.{kept}
-use Rattle.pst_new_refusals.proofs.Quiet.{near_at}
 use Rattle.pst_new_refusals.proofs.KeptFar.{kept_far}
 
 -- nothing is read of nodes without actions
 unread : (nodes : List Node) (actions : List Act) → actions ≡ [] → IsUnread (so_far nodes actions)
 unread nodes actions none = subst (λ acts. IsUnread (so_far nodes acts)) (sym none) (record { outputs = λ a r f is. absurd (none-some f is); firsts = refl })
-
--- the type of a node's action has without inline constraint that looks behind a handle
-quiet_at : (m : ModelTree) (inlined : List Bool) → inlined ≡ map (type_has sought.Outer) m.actions → (node : Node) (action instance : ℕ) (fields : List ℤ) (type : ActionTree) → node.fill ≡ fill.Compound action instance fields → type_of m action ≡ Some type
-    → is_inlined inlined node.fill ≡ false → type_has sought.Outer type ≡ false
-quiet_at m inlined same node action instance fields type of typed none =
-    sym (ap (λ (o : Option Bool). unwrap_or o false) (ap (λ (xs : List Bool). slice_get xs action) same ∙ slice_get-map (type_has sought.Outer) m.actions action ∙ ap (option_map (type_has sought.Outer)) typed))
-    ∙ sym (ap (is_inlined inlined) of) ∙ none
 
 module _ (m : ModelTree) (far : FarTypes) (of : AreFarOf m far) (inlines : Bool) (has : inlines ≡ false → has_inlines m ≡ false) (actions : List Act) (from : ℕ) (fresh : List Act) where
   -- of nodes
@@ -42,27 +30,26 @@ module _ (m : ModelTree) (far : FarTypes) (of : AreFarOf m far) (inlines : Bool)
     near_stays read without = kept m s t from fresh since none actions read (of.none without) free some_stated
 
   far_stays : (s t : Scenario) → IsSince s t from fresh → NoneRefused m s → ArePlainFree m (so_far t.nodes t.actions) from fresh → (inlines ≡ false) ⊎ AreInlinesFree m (so_far t.nodes t.actions) from fresh
-      → AreTouchedFree m (so_far t.nodes t.actions) far.inlined.items inlines from fresh → NoneRefused m t
+      → AreTouchedFree m (so_far t.nodes t.actions) (rows far.named.items) inlines from fresh → NoneRefused m t
   far_stays s t since none free stated over =
       kept_far m s t from fresh since none over.list (over.all since.earlier) free over.nodes
-      (λ n action top handle inline indices k there stands inside.
-      near_at m t.nodes top (λ node kind instance fields type is leaf typed. quiet_at m far.inlined.items of.inlined node kind instance fields type leaf typed (over.near top there node is)) n action handle inline indices k stands inside)
+      (rows far.named.items) of.named over.behind
       (⊎_elim (λ without. inl (has without)) (λ tests. ⊎_elim (λ without. inl (has without)) (λ at. inr (tests, at)) over.stated) stated)
 
   pub stays : (nodes : List Node) → ArePlainFree m (so_far nodes actions) from fresh → (inlines ≡ false) ⊎ AreInlinesFree m (so_far nodes actions) from fresh
-      → (far.some ≡ false) ⊎ AreTouchedFree m (so_far nodes actions) far.inlined.items inlines from fresh → StaysFree m far.some nodes actions from fresh
+      → (far.some ≡ false) ⊎ AreTouchedFree m (so_far nodes actions) (rows far.named.items) inlines from fresh → StaysFree m far.some nodes actions from fresh
   stays nodes free stated over s t same (inr without) since none =
       near_stays s t since none (subst (λ ns. ArePlainFree m (so_far ns actions) from fresh) (sym same) free) (subst (λ ns. (inlines ≡ false) ⊎ AreInlinesFree m (so_far ns actions) from fresh) (sym same) stated) (unread t.nodes actions without.1) without.0
   stays nodes free stated (inl without) s t same (inl acts) since none =
       near_stays s t since none (subst (λ ns. ArePlainFree m (so_far ns actions) from fresh) (sym same) free) (subst (λ ns. (inlines ≡ false) ⊎ AreInlinesFree m (so_far ns actions) from fresh) (sym same) stated)
       (subst (λ xs. IsUnread (so_far t.nodes xs)) acts (record { outputs = since.new.outputs; firsts = refl })) without
   stays nodes free stated (inr over) s t same (inl acts) since none =
-      far_stays s t since none (subst (λ u. ArePlainFree m u from fresh) (as_is t same acts) free) (subst (λ u. (inlines ≡ false) ⊎ AreInlinesFree m u from fresh) (as_is t same acts) stated) (subst (λ u. AreTouchedFree m u far.inlined.items inlines from fresh) (as_is t same acts) over)
+      far_stays s t since none (subst (λ u. ArePlainFree m u from fresh) (as_is t same acts) free) (subst (λ u. (inlines ≡ false) ⊎ AreInlinesFree m u from fresh) (as_is t same acts) stated) (subst (λ u. AreTouchedFree m u (rows far.named.items) inlines from fresh) (as_is t same acts) over)
     where
       as_is : (t : Scenario) → t.nodes ≡ nodes → t.actions ≡ actions → so_far nodes actions ≡ so_far t.nodes t.actions
       as_is t same acts = ap₂ so_far (sym same) (sym acts)
 
   pub stays_if : (nodes : List Node) (b : Bool) → ArePlainFree m (so_far nodes actions) from fresh → (inlines ≡ false) ⊎ AreInlinesFree m (so_far nodes actions) from fresh
-      → IfNot b ((far.some ≡ false) ⊎ AreTouchedFree m (so_far nodes actions) far.inlined.items inlines from fresh) → IfNot b (StaysFree m far.some nodes actions from fresh)
+      → IfNot b ((far.some ≡ false) ⊎ AreTouchedFree m (so_far nodes actions) (rows far.named.items) inlines from fresh) → IfNot b (StaysFree m far.some nodes actions from fresh)
   stays_if nodes true free stated over = tt
   stays_if nodes false free stated over = stays nodes free stated over

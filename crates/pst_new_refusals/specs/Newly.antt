@@ -1,7 +1,6 @@
 -- What is told of constraints that may newly be refused.
 use Rattle.std.specs.Prelude.{◌≡◌, ◌⊎◌, ℕ, ◌≤◌, ◌<◌, List, [], length, Bool, true, false, ◌&&◌, ◌||◌, Option, Some, None, slice_get}
 use Rattle.std.specs.List.{list_any}
-use Rattle.std.specs.Option.{unwrap_or}
 use Rattle.pst_model.specs.ModelTree.{ModelTree}
 use Rattle.pst_scen.specs.declared.tree.Node.{Node}
 use Rattle.pst_scen.specs.declared.tree.Fill.{Fill}
@@ -18,6 +17,7 @@ use Rattle.pst_refusals.specs.Failing.{fails}
 use Rattle.pst_refusals.specs.Made.{of_made}
 use Rattle.pst_touched.specs.Touched.{Has, HasTouched}
 use Rattle.pst_new_refusals.specs.Since.{IsSince}
+use Rattle.pst_new_refusals.specs.Settled.{AreNear, AreSettled}
 
 -- nodes with actions, of which no first object is read
 abbrev pub so_far : List Node → List Act → Scenario
@@ -74,18 +74,6 @@ IsFreeAt m s n = (node : Node) → slice_get s.nodes n ≡ Some node → list_an
 abbrev pub AreFreeAt : ModelTree → Scenario → List ℕ → Type 0
 AreFreeAt m s list = (n : ℕ) → Has list n → IsFreeAt m s n
 
--- whether the activity of an action has an inline constraint that looks behind the action's handles, by a list of the types
-abbrev pub is_inlined : List Bool → Fill → Bool
-is_inlined inlined (fill.Compound action instance fields) = unwrap_or (slice_get inlined action) false
-is_inlined inlined _ = false
-
--- the activity of a node has none, and those of these nodes
-abbrev pub IsNearAt : List Node → List Bool → ℕ → Type 0
-IsNearAt nodes inlined n = (node : Node) → slice_get nodes n ≡ Some node → is_inlined inlined node.fill ≡ false
-
-abbrev pub AreNear : List Node → List Bool → List ℕ → Type 0
-AreNear nodes inlined list = (n : ℕ) → Has list n → IsNearAt nodes inlined n
-
 -- the inline constraints at the traversal of a node, and of these nodes
 abbrev pub IsStatedFreeAt : ModelTree → Scenario → ℕ → Type 0
 IsStatedFreeAt m s n = StandEarlier s.nodes → list_any (fails false) (of_stated m s n (statement_of m s.nodes n)) ≡ false
@@ -93,11 +81,16 @@ IsStatedFreeAt m s n = StandEarlier s.nodes → list_any (fails false) (of_state
 abbrev pub AreStatedFreeAt : ModelTree → Scenario → List ℕ → Type 0
 AreStatedFreeAt m s list = (n : ℕ) → Has list n → IsStatedFreeAt m s n
 
+-- no inline constraint is refused that looks at one of these nodes, or at one of those from a number on, behind a handle of the
+-- action round its traversal
+abbrev pub AreBehindFree : ModelTree → Scenario → List (List ℕ) → ℕ → List ℕ → Type 0
+AreBehindFree m s named from list = AreNear s.nodes named list ⊎ AreSettled m s named from list
+
 -- of the old nodes that are touched; those at traversals where there are inline constraints
-pub record AreTouchedFree (m : ModelTree) (s : Scenario) (inlined : List Bool) (inlines : Bool) (from : ℕ) (fresh : List Act) : Type 0 where
+pub record AreTouchedFree (m : ModelTree) (s : Scenario) (named : List (List ℕ)) (inlines : Bool) (from : ℕ) (fresh : List Act) : Type 0 where
   pub list : List ℕ
   pub all : StandEarlier s.nodes → HasTouched s.nodes from fresh list
-  pub near : AreNear s.nodes inlined list
+  pub behind : AreBehindFree m s named from list
   pub nodes : AreFreeAt m s list
   pub stated : (inlines ≡ false) ⊎ AreStatedFreeAt m s list
 

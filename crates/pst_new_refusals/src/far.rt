@@ -2,10 +2,10 @@
 ghost use Rattle.std.specs.Prelude.{◌≡◌, IfOk, map};
 ghost use Rattle.std.specs.List.{list_any};
 ghost use Rattle.pst_model.specs.ModelView.{view_model, view_action};
-ghost use Rattle.pst_refusals.specs.declared.inlines.Sought.TheVariants as sought;
-ghost use Rattle.pst_refusals.specs.Inlines.{is_far, type_has};
 ghost use Rattle.pst_new_refusals.specs.Far.{is_far_type, AreFarOf};
+ghost use Rattle.pst_new_refusals.specs.Named.{named_of, rows};
 
+use crate::named::named_of;
 use pst_base::NoMemory;
 use pst_model::{ActionType, Model};
 use pst_refusals::{Sought, content_has, some_far};
@@ -16,8 +16,8 @@ use std::alloc::Global;
 pub struct FarTypes {
     /// Whether one of them has: a constraint of its own, or an inline one in its activity.
     pub some: bool,
-    /// Of each type, whether an inline constraint in its activity looks behind a handle of its action.
-    pub inlined: Vec<bool>,
+    /// Of each type, the handles that inline constraints in its activity name of its action.
+    pub named: Vec<Vec<u32>>,
 }
 
 // Whether one of the constraints of an action type, or an inline one in its activity, looks behind a
@@ -39,13 +39,14 @@ fn some_far_type(kinds: &[ActionType]) -> bool
     false
 }
 
-// Of each action type, whether an inline constraint in its activity looks behind a handle of its action.
-fn inlined(alloc: Global, kinds: &[ActionType]) -> Result<Vec<bool>, NoMemory>
-    ensures { IfOk result (λ found. found.items ≡ map (type_has sought.Outer) (map view_action kinds.now)) }
+// Of each action type, the handles that inline constraints in its activity name of its action.
+fn named_by(alloc: Global, kinds: &[ActionType]) -> Result<Vec<Vec<u32>>, NoMemory>
+    ensures { IfOk result (λ found. rows found.items ≡ map named_of (map view_action kinds.now)) }
 {
     let mut found = Vec::new(alloc);
     for kind in kinds {
-        found.push(content_has(Sought::Outer, &kind.content))?;
+        let named = named_of(alloc, kind)?;
+        found.push(named)?;
     }
     Ok(found)
 }
@@ -55,6 +56,6 @@ pub fn far_types(alloc: Global, model: &Model) -> Result<FarTypes, NoMemory>
     ensures { IfOk result (λ far. AreFarOf (view_model model.now) far) }
 {
     let some = some_far_type(model.actions.as_slice());
-    let inlined = inlined(alloc, model.actions.as_slice())?;
-    Ok(FarTypes { some, inlined })
+    let named = named_by(alloc, model.actions.as_slice())?;
+    Ok(FarTypes { some, named })
 }

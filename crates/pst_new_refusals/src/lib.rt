@@ -4,7 +4,10 @@
 #![tactic(auto)]
 
 mod far;
+mod looking;
+mod named;
 mod newly;
+mod settled;
 
 pub use far::{FarTypes, far_types};
 pub use newly::some_newly_refused;

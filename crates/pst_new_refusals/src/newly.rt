@@ -5,14 +5,16 @@ ghost use Rattle.pst_model.specs.ModelView.{view_model};
 ghost use Rattle.pst_model.specs.Sound.{IsSound};
 ghost use Rattle.pst_known.specs.Known.{seen};
 ghost use Rattle.pst_new_refusals.specs.Far.{AreFarOf};
+ghost use Rattle.pst_new_refusals.specs.Named.{rows};
 ghost use Rattle.pst_refusals.specs.Answers.{StandEarlier};
 ghost use Rattle.pst_refusals.specs.Failing.{fails};
 ghost use Rattle.pst_refusals.specs.Inlines.{has_inlines};
 ghost use Rattle.pst_slots.specs.Listed.{of_stated};
 ghost use Rattle.pst_slots.specs.Stated.{statement_of};
-ghost use Rattle.pst_new_refusals.specs.Newly.{is_pool_refused, is_act_refused, is_leaf, is_own_refused, is_inlined, AreFree, AreTraversedFree, ArePlainFree, AreInlinesFree, IsFreeAt, AreFreeAt, IsNearAt, AreNear, AreStatedFreeAt, AreTouchedFree, IfNot, StaysFree};
+ghost use Rattle.pst_new_refusals.specs.Newly.{is_pool_refused, is_act_refused, is_leaf, is_own_refused, AreFree, AreTraversedFree, ArePlainFree, AreInlinesFree, IsFreeAt, AreFreeAt, AreStatedFreeAt, AreTouchedFree, IfNot, StaysFree};
 
 use crate::far::FarTypes;
+use crate::settled::some_behind_refused;
 use pst_base::NoMemory;
 use pst_known::Scene;
 use pst_model::Model;
@@ -239,56 +241,23 @@ fn some_stated_at(
     Ok(refused)
 }
 
-// Whether the activity of the action of a node of this fill has an inline constraint that looks behind
-// the action's handles.
-fn is_inlined(inlined: &[bool], fill: &Fill) -> bool
-    ensures { result ≡ is_inlined inlined.now fill.now }
-{
-    match fill {
-        Fill::Compound { action, .. } => match inlined.get(*action as usize) {
-            None => false,
-            Some(inlined) => *inlined,
-        },
-        _ => false,
-    }
-}
-
-fn is_node_inlined(nodes: &[Node], inlined: &[bool], n: usize) -> bool
-    ensures { IfNot result (IsNearAt nodes.now inlined.now n) }
-{
-    match nodes.get(n) {
-        None => false,
-        Some(node) => is_inlined(inlined, &node.fill),
-    }
-}
-
-// The same of one of these nodes.
-fn some_inlined(nodes: &[Node], inlined: &[bool], list: &[usize]) -> bool
-    ensures { IfNot result (AreNear nodes.now inlined.now list.now) }
-{
-    for n in list {
-        if is_node_inlined(nodes, inlined, *n) {
-            return true;
-        }
-    }
-    false
-}
-
-// Of old nodes that a choice touched: their compound actions and what stands at their traversals, or
-// else whether there are constraints that may have come to look at others.
+// Of old nodes that a choice touched: their compound actions, what stands at their traversals, and the
+// inline constraints that look at them, or at new nodes, behind a handle of the action round their own
+// traversals.
 fn some_touched_refused(
     alloc: Global,
     scene: &Scene<'_>,
-    inlined: &[bool],
+    named: &[Vec<u32>],
     inlines: bool,
     from: usize,
     fresh: &[Act],
 ) -> Result<bool, NoMemory>
     requires { IsSound (view_model scene.now.model.now) }
-    ensures { IfOk result (λ r. IfNot r (AreTouchedFree (view_model scene.now.model.now) (seen scene.now) inlined.now inlines from fresh.now)) }
+    ensures { IfOk result (λ r. IfNot r (AreTouchedFree (view_model scene.now.model.now) (seen scene.now) (rows named.now) inlines from fresh.now)) }
 {
     let list = touched(alloc, scene.nodes, from, fresh)?;
-    if some_inlined(scene.nodes, inlined, &list) {
+    let behind = some_behind_refused(alloc, scene, named, from, &list)?;
+    if behind {
         return Ok(true);
     }
     let listed = some_listed_refused(alloc, scene, &list)?;
@@ -329,12 +298,12 @@ fn some_over_refused(
     fresh: &[Act],
 ) -> Result<bool, NoMemory>
     requires { IsSound (view_model scene.now.model.now) }
-    ensures { IfOk result (λ r. IfNot r ((far.now.some ≡ false) ⊎ AreTouchedFree (view_model scene.now.model.now) (seen scene.now) far.now.inlined.items inlines from fresh.now)) }
+    ensures { IfOk result (λ r. IfNot r ((far.now.some ≡ false) ⊎ AreTouchedFree (view_model scene.now.model.now) (seen scene.now) (rows far.now.named.items) inlines from fresh.now)) }
 {
     if !far.some {
         return Ok(false);
     }
-    let refused = some_touched_refused(alloc, scene, &far.inlined, inlines, from, fresh)?;
+    let refused = some_touched_refused(alloc, scene, &far.named, inlines, from, fresh)?;
     Ok(refused)
 }
 
