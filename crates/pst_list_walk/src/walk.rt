@@ -366,10 +366,10 @@ impl<'a> ListWalk<'a> {
         requires { IsSound (view_model model.now) }
         ensures { IfOk result (λ w. w ≡ kept_at model.now root seed level []) }
     {
-        let links = LinkWalk::new(alloc, model, root, seed, level)?;
-        let values = begin(alloc, model, &links, root, seed, level)?;
         let far = far_types(alloc, model)?;
         let inlines = has_inlines(model);
+        let links = LinkWalk::new(alloc, model, root, seed, level)?;
+        let values = begin(alloc, model, &links, root, seed, level)?;
         let free = first_free(&links);
         Ok(ListWalk {
             alloc,
