@@ -25,7 +25,7 @@ use Rattle.pst_terms.specs.Readings.{Setting, expression_of}
 use Rattle.pst_elab_rules.specs.Steps.{core_step, statement_step, one_step, more_steps, row_steps, branch_step, branch_steps, add_arm, arm_row as arm_before, arm_rows, default_of, default_in, together_step}
 use Rattle.pst_elab_rules.specs.Spans.{range_spans}
 use Rattle.pst_walk_parts.specs.Shown.{row_of, view_statements}
-use Rattle.pst_activity_steps.specs.Listed.{step_row, branch_row, arm_row, arm_by, arm_in, default_among, or_step, ArmsFound, with_arm, with_arms}
+use Rattle.pst_step_forms.specs.Listed.{step_row, branch_row, arm_row, arm_by, arm_in, default_among, or_step, ArmsFound, with_arm, with_arms}
 
 module _ (s : Sources) (setting : Setting) (level : ℕ) where
   -- ---- statements

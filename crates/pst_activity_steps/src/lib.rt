@@ -1,8 +1,6 @@
 //! The steps of an activity, made from its statements.
 #![tactic(auto)]
 
-mod arms;
-mod made;
 mod statements;
 
 pub use statements::activity_steps;

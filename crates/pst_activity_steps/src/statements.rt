@@ -4,23 +4,22 @@ ghost use Rattle.std.specs.List.{cons_option, filter_map};
 ghost use Rattle.std.specs.Option.{option_map};
 ghost use Rattle.pst_ast.specs.ActivityView.{view_arm as view_arm_node, view_branch as view_branch_node, view_core, view_statement};
 ghost use Rattle.pst_ast.specs.ExpressionView.{view_expr};
-ghost use Rattle.pst_elab_rules.specs.Constraints.{with_turn};
 ghost use Rattle.pst_elab_rules.specs.Steps as tree;
 ghost use Rattle.pst_model.specs.ActivityTree as model;
 ghost use Rattle.pst_model.specs.ModelView.{view_branch, view_step};
 ghost use Rattle.pst_path_readings.specs.Set.{view_setting};
 ghost use Rattle.pst_sources.specs.Shown.{sources_of};
 ghost use Rattle.pst_terms.specs.Readings as reading;
-ghost use Rattle.pst_walk_parts.specs.Shown.{view_statements};
-ghost use Rattle.pst_activity_steps.specs.Listed.{step_row, with_arm, with_arms};
-ghost use Rattle.pst_activity_steps.specs.Shown.{view_arms};
+ghost use Rattle.pst_step_forms.specs.Listed.{with_arm, with_arms};
+ghost use Rattle.pst_step_forms.specs.Shown.{view_arms};
 
-use crate::arms::{Arms, no_arms, push_arm, push_branch};
-use crate::made::{if_of, match_of, repeat_of, select, sequence, together};
-use pst_ast::{ArmNode, BranchNode, CoreNode, ExprNode, LabelNode, Name, StatementNode};
+use pst_ast::{ArmNode, BranchNode, CoreNode, ExprNode, LabelNode, StatementNode};
 use pst_base::NoMemory;
 use pst_model::{Branch, Step};
 use pst_path_readings::{Setting, Turn};
+use pst_step_forms::{
+    Arms, if_of, match_of, no_arms, push_arm, push_branch, repeat_of, select, sequence, together,
+};
 use pst_step_parts::{expression_of, pop_turn, push_turn, traverse_handle, traverse_type};
 use pst_type_numbers::Numbered;
 
@@ -73,25 +72,6 @@ fn push_step(found: &mut Vec<Step>, step: Option<Step>) -> Result<(), NoMemory>
     }
 }
 
-// Adds the steps of statements.
-#[cycle(steps)]
-fn add_steps(
-    numbered: &Numbered<'_>,
-    setting: &mut Setting<'_>,
-    level: u32,
-    statements: &[StatementNode],
-    found: &mut Vec<Step>,
-) -> Result<(), NoMemory>
-    ensures found { OnOk result (map view_step found.new.items ≡ map view_step found.old.items ++ filter_map (tree.statement_step (sources_of numbered.now) (view_setting setting.old) level) (map view_statement statements.now)) }
-    ensures kept { OnOk result (view_setting setting.new ≡ view_setting setting.old) }
-{
-    for statement in statements {
-        let step = statement_step(numbered, setting, level, statement)?;
-        push_step(found, step)?;
-    }
-    Ok(())
-}
-
 // The steps of a block.
 #[cycle(steps)]
 fn block(
@@ -100,11 +80,14 @@ fn block(
     level: u32,
     statements: &[StatementNode],
 ) -> Result<Vec<Step>, NoMemory>
-    ensures steps { IfOk result (λ steps. step_row (map view_step steps.items) ≡ tree.row_steps (sources_of numbered.now) (view_setting setting.old) level (view_statements statements.now)) }
+    ensures steps { IfOk result (λ steps. map view_step steps.items ≡ filter_map (tree.statement_step (sources_of numbered.now) (view_setting setting.old) level) (map view_statement statements.now)) }
     ensures kept { OnOk result (view_setting setting.new ≡ view_setting setting.old) }
 {
     let mut steps = Vec::new(numbered.sources().known().alloc());
-    add_steps(numbered, setting, level, statements, &mut steps)?;
+    for statement in statements {
+        let step = statement_step(numbered, setting, level, statement)?;
+        push_step(&mut steps, step)?;
+    }
     Ok(steps)
 }
 
@@ -235,7 +218,7 @@ fn repeat_step(
     Ok(repeat_of(times, step))
 }
 
-// A repeated step.
+// A repeated step, in the scope of an index of that level where it has one.
 #[cycle(steps)]
 fn turn(
     numbered: &Numbered<'_>,
@@ -252,27 +235,13 @@ fn turn(
     };
     match index {
         None => one_step(numbered, setting, inner, statement),
-        Some(index) => indexed_turn(numbered, setting, level, inner, index.name, statement),
+        Some(index) => {
+            push_turn(setting, index.name, Turn::AtLevel(level))?;
+            let step = one_step(numbered, setting, inner, statement)?;
+            pop_turn(setting);
+            Ok(step)
+        }
     }
-}
-
-// A repeated step, in the scope of an index of that level.
-#[cycle(steps)]
-fn indexed_turn(
-    numbered: &Numbered<'_>,
-    setting: &mut Setting<'_>,
-    level: u32,
-    inner: u32,
-    index: Name,
-    statement: &StatementNode,
-) -> Result<Box<Step>, NoMemory>
-    ensures step { IfOk result (λ step. view_step step.value ≡ tree.one_step (tree.statement_step (sources_of numbered.now) (with_turn (view_setting setting.old) index (reading.AtLevel level)) inner (view_statement statement.now))) }
-    ensures kept { OnOk result (view_setting setting.new ≡ view_setting setting.old) }
-{
-    push_turn(setting, index, Turn::AtLevel(level))?;
-    let step = one_step(numbered, setting, inner, statement)?;
-    pop_turn(setting);
-    Ok(step)
 }
 
 // Adds a branch.
@@ -353,7 +322,5 @@ pub fn activity_steps(
 ) -> Result<Vec<Step>, NoMemory>
     ensures { IfOk result (λ steps. map view_step steps.items ≡ filter_map (tree.statement_step (sources_of numbered.now) (view_setting setting.old) 0) (map view_statement statements.now)) }
 {
-    let mut found = Vec::new(numbered.sources().known().alloc());
-    add_steps(numbered, setting, 0, statements, &mut found)?;
-    Ok(found)
+    block(numbered, setting, 0, statements)
 }

@@ -1,10 +1,6 @@
 //! The steps of a body, made from its statements.
 #![tactic(auto)]
 
-mod calls;
-mod locals;
-mod scopes;
-mod single;
 mod statements;
 mod steps;
 

@@ -11,12 +11,11 @@ ghost use Rattle.pst_model.specs.ModelView.{view_body_step};
 ghost use Rattle.pst_path_readings.specs.Set.{view_setting};
 ghost use Rattle.pst_sources.specs.Shown.{sources_of};
 ghost use Rattle.pst_terms.specs.Readings as reading;
-ghost use Rattle.pst_body_steps.specs.Listed.{list_steps, row_of};
+ghost use Rattle.pst_body_parts.specs.Listed.{list_steps, row_of};
 
-use crate::scopes::{enter_behind, leave_locals};
-use crate::single::{assign, call_step, declare, if_of, repeat_of};
 use pst_ast::{BodyStatement, ExprNode, LabelNode, Name};
 use pst_base::NoMemory;
+use pst_body_parts::{assign, call_step, declare, enter_behind, if_of, leave_locals, repeat_of};
 use pst_constraints::{expression_of, pop_turn, push_turn};
 use pst_model::BodyStep;
 use pst_path_readings::{Setting, Turn};

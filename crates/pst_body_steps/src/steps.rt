@@ -7,12 +7,12 @@ ghost use Rattle.pst_model.specs.ModelView.{view_body_step};
 ghost use Rattle.pst_path_readings.specs.Set.{view_setting};
 ghost use Rattle.pst_ast.specs.declared.referent.Owner.TheVariants as owner;
 ghost use Rattle.pst_sources.specs.Shown.{sources_of};
-ghost use Rattle.pst_body_steps.specs.Listed.{with_locals};
+ghost use Rattle.pst_body_parts.specs.Listed.{with_locals};
 
-use crate::locals::locals_in;
 use crate::statements::add_statements;
 use pst_ast::{BodyNode, Declaration, Environment, Inner, Owner};
 use pst_base::NoMemory;
+use pst_body_parts::locals_in;
 use pst_model::BodyStep;
 use pst_path_readings::Setting;
 use pst_type_numbers::Numbered;

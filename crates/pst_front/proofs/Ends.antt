@@ -23,7 +23,7 @@ use Rattle.pst_outcome.specs.Texts.{no_file_text, read_fault_text, large_text}
 use Rattle.pst_outcome.specs.Outcome.{OfFiles, ASource, TheTrace, IsNoFile, IsUnread, HasManyBytes, HasLongTrace, bytes_of}
 use Rattle.pst_front.specs.declared.stage.Stage.{Stage}
 use Rattle.pst_front.specs.declared.front.LineFront.{LineFront}
-use Rattle.pst_front.specs.Lines.{ComesTo}
+use Rattle.pst_line_parts.specs.Lines.{ComesTo}
 use Rattle.pst_front.specs.Stages.{front_of, IsStage, Says, SaysEnd, OfLine, AtFiles, BehindFiles}
 use Rattle.pst_front.proofs.Said.{told}
 

@@ -26,7 +26,7 @@ use Rattle.pst_outcome.specs.Tasks.{IsRoot, AreSources}
 use Rattle.pst_outcome.specs.Sources.{Front, Ends, OfUnits, OfTokens, OfTexts, BreaksRule, HasManyInstances, IsSyntaxFault, IsLexicalFault, HasManyTokens, HasUnits, HasTokens}
 use Rattle.pst_front.specs.declared.stage.Stage.{Stage}
 use Rattle.pst_front.specs.declared.stage.Stage.TheVariants.{Ended, Elaborated}
-use Rattle.pst_front.specs.Lines.{ComesTo}
+use Rattle.pst_line_parts.specs.Lines.{ComesTo}
 use Rattle.pst_front.specs.Stages.{front_of, IsStage, Says, SaysElabEnd, SaysUnitsEnd, SaysFault}
 
 -- a right answer was said

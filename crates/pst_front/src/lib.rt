@@ -4,15 +4,10 @@
 
 mod files;
 mod front;
-mod generated;
-mod numbers;
-mod printing;
 mod replies;
-mod root;
 mod sources;
 mod stage;
 
 pub use files::front_of_line;
 pub use front::{LineFront, trace_of};
-pub use numbers::{infer_given, lanes_given, size_given};
 pub use stage::Stage;

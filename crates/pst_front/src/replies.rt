@@ -3,11 +3,11 @@ ghost use Rattle.std.specs.Prelude.{◌≡◌, map, string_bytes, IfOk};
 ghost use Rattle.pst_outcome.specs.Texts;
 ghost use Rattle.pst_front.specs.Stages.{Says};
 
-use crate::printing::{
-    large_text, lexical_text, no_file_text, read_fault_text, rule_text, source_name, syntax_text,
-};
 use crate::stage::Stage;
 use pst_base::{NoMemory, Place};
+use pst_line_parts::{
+    large_text, lexical_text, no_file_text, read_fault_text, rule_text, source_name, syntax_text,
+};
 use pst_outcome::{Answer, Reply, What};
 use std::alloc::Global;
 

@@ -10,12 +10,12 @@ ghost use Rattle.pst_outcome.specs.Sources.{OfUnits, OfTokens, OfTexts};
 ghost use Rattle.pst_front.specs.Stages.{IsStage, SaysElabEnd, SaysFault, SaysUnitsEnd};
 
 use crate::replies::{broken, large, lexical, syntax};
-use crate::root::RootNames;
 use crate::stage::Stage;
 use pst_ast::Unit;
 use pst_base::{Items, Names, NoMemory};
 use pst_elab::{ElabEnd, elaborate};
 use pst_lexer::LexFault;
+use pst_line_parts::RootNames;
 use pst_outcome::What;
 use pst_sound_model::{models_of_texts_are_sound, roots_are_concrete};
 use pst_sources_read::{MOST_TOKENS, UnitsEnd, lex_texts, parse_units};

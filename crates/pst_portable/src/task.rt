@@ -1,9 +1,9 @@
 //! What a line asks for.
 ghost use Rattle.std.specs.Prelude.{◌≡◌, map, string_bytes};
-ghost use Rattle.pst_front.specs.Lines.{AreBehind};
+ghost use Rattle.pst_line_parts.specs.Lines.{AreBehind};
 ghost use Rattle.pst_outcome.specs.Tasks.{IsWork, AreLimits, IsTask};
 
-use pst_front::{infer_given, lanes_given, size_given};
+use pst_line_parts::{infer_given, lanes_given, size_given};
 use pst_outcome::{Task, Work};
 use pst_words::{Command, Key, Line};
 

@@ -7,7 +7,7 @@ ghost use Rattle.pst_words.specs.Lines.{IsLine};
 ghost use Rattle.pst_files_read.specs.Limits.{most_trace};
 ghost use Rattle.pst_outcome.specs.declared.answer.Answer.{Answer as AnyAnswer};
 ghost use Rattle.pst_outcome.specs.Outcome.{bytes_of};
-ghost use Rattle.pst_front.specs.Lines.{AreBehind};
+ghost use Rattle.pst_line_parts.specs.Lines.{AreBehind};
 ghost use Rattle.pst_front.specs.Stages.{front_of, HasSoundModel};
 ghost use Rattle.pst_portable.specs.Replies.{IsDone};
 ghost use Rattle.pst_portable.specs.Requests.{SaysUsage, IsServable, IsAnswered, IsRequest};

@@ -5,7 +5,7 @@ use Rattle.pst_model.specs.ModelTree.{ModelTree}
 use Rattle.pst_scen.specs.declared.act.Act.{Act}
 use Rattle.pst_scen.specs.declared.scenario.Scenario.{Scenario}
 use Rattle.pst_shape_parts.specs.Trees.{Tree, scenario_of, opened, cut_to}
-use Rattle.pst_shape.specs.declared.pending.At.{At}
+use Rattle.pst_shape_steps.specs.declared.pending.At.{At}
 use Rattle.pst_shape.specs.declared.walk.Made.{Made}
 use Rattle.pst_shape.specs.Choices.{node_count, leaf_count, undone}
 use Rattle.pst_shape.specs.Made.{AllStand}

@@ -3,7 +3,7 @@ use Rattle.std.proofs.Common.{◌≡◌, ◌⊎◌, inl, inr, ℕ, zero, suc, �
 use Rattle.std.specs.Prelude.{nat_le, nat_lt, if◌then◌else◌}
 use Rattle.std.proofs.lemmas.Bool.{le-leb, lt-leb, lt-ltb, le-ltb}
 use Rattle.pst_legal.specs.Menus.{Menu, Place, join_menu}
-use Rattle.pst_shape.specs.Pending.{options_of, menu_after}
+use Rattle.pst_shape_steps.specs.Pending.{options_of, menu_after}
 
 module _ (after : List Bool → Menu) where
   abbrev both : ℕ → ℕ → List Bool → Menu

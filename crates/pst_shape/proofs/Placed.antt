@@ -7,7 +7,7 @@ use Rattle.pst_scen.specs.declared.tree.Fill.TheVariants as fill
 use Rattle.pst_legal.specs.Reading.{with_value}
 use Rattle.pst_shape_parts.specs.Trees.{Tree, put, taken_back, without_value, values_at, Extends, cut_to}
 use Rattle.pst_shape_parts.proofs.Placed.{remade_at, remade_back, got_remade, more, less, put_nodes, back_nodes, tree_is, length_put, but_last_more, cut_back}
-use Rattle.pst_shape.specs.Pending.{IsCompound}
+use Rattle.pst_shape_steps.specs.Pending.{IsCompound}
 
 compound_back : (v : ℤ) (x : Node) → IsCompound (Some x) → less (more v x) ≡ x
 compound_back v x h =

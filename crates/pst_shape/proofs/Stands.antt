@@ -13,11 +13,11 @@ use Rattle.pst_legal.specs.Pieces.{Piece}
 use Rattle.pst_legal.specs.Menus.{Menu, Way, Place, Weighted, Closed}
 use Rattle.pst_legal.specs.Reading.{Wants, Stops, Reader, then_read, read_menu, read_fields, read_tree}
 use Rattle.pst_legal.specs.ValueReading.{Answer, Options, answer_of}
-use Rattle.pst_shape.specs.declared.pending.At.{At}
-use Rattle.pst_shape.specs.declared.pending.At.TheVariants as at
+use Rattle.pst_shape_steps.specs.declared.pending.At.{At}
+use Rattle.pst_shape_steps.specs.declared.pending.At.TheVariants as at
 use Rattle.pst_shape.specs.declared.walk.Made.{Made}
 use Rattle.pst_shape_parts.specs.Trees.{Tree, scenario_of, opened, bare, IsGrown, cut_to}
-use Rattle.pst_shape.specs.Pending.{spot_menu, read_stack, read_on, options_of, first_size, way_at, IsReady, IsOpen, IsDigit, shown_at, valued, Grows}
+use Rattle.pst_shape_steps.specs.Pending.{spot_menu, read_stack, read_on, options_of, first_size, way_at, IsReady, IsOpen, IsDigit, shown_at, valued, Grows}
 use Rattle.pst_shape.specs.Walks.{HasDigit, IfRead}
 use Rattle.pst_shape.specs.Choices.{digits_of, at_after, node_count, leaf_count, undone}
 use Rattle.pst_shape.specs.Made.{Stands, AllStand}

@@ -1,6 +1,6 @@
 -- The choices of a walk, latest first.
 use Rattle.std.specs.Prelude.{ℕ, List, [], ◌∷◌, ◌++◌, Option, None, Some}
-use Rattle.pst_shape.specs.declared.pending.At.{At}
+use Rattle.pst_shape_steps.specs.declared.pending.At.{At}
 use Rattle.pst_shape.specs.declared.walk.Made.{Made}
 use Rattle.pst_shape.specs.declared.walk.Growth.{Growth}
 use Rattle.pst_shape_parts.specs.Trees.{Tree, taken_back}

@@ -1,4 +1,3 @@
-pub mod Pending
 pub mod Walks
 pub mod Choices
 pub mod Made

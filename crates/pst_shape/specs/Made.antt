@@ -4,11 +4,11 @@ use Rattle.pst_model.specs.ModelTree.{ModelTree}
 use Rattle.pst_model.specs.ModelView.{view_model}
 use Rattle.pst_legal.specs.Growing.{nothing_yet}
 use Rattle.pst_legal.specs.Reading.{read_tree}
-use Rattle.pst_shape.specs.declared.pending.At.{At}
+use Rattle.pst_shape_steps.specs.declared.pending.At.{At}
 use Rattle.pst_shape.specs.declared.walk.Made.{Made}
 use Rattle.pst_shape.specs.declared.walk.Walk.TheInside.{Inside}
 use Rattle.pst_shape_parts.specs.Trees.{Tree, tree_of, scenario_of, cut_to, IsGrown}
-use Rattle.pst_shape.specs.Pending.{read_on, IsReady, IsOpen}
+use Rattle.pst_shape_steps.specs.Pending.{read_on, IsReady, IsOpen}
 use Rattle.pst_shape.specs.Walks.{Kept}
 use Rattle.pst_shape.specs.Choices.{digits_of, node_count, leaf_count, undone}
 

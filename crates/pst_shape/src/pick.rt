@@ -8,17 +8,17 @@ ghost use Rattle.pst_legal.specs.Reading.{option_at, read_tree};
 ghost use Rattle.pst_rng.specs.Words.{start_of};
 ghost use Rattle.pst_scen.specs.declared.scenario.Scenario.{Scenario};
 ghost use Rattle.pst_shape_parts.specs.Trees.{Tree, tree_of, scenario_of, values_at, fields_in, put, IsGrown, Extends};
-ghost use Rattle.pst_shape.specs.Pending.{chosen_menu, looked_menu, spot_menu, menu_after, start_in, options_of, first_size, first_value, Goes, GoesOnFields, Takes, IsCompound, IsOpen, IsReady, IsDigit, ValueRead, Grows, valued, read_on};
+ghost use Rattle.pst_shape_steps.specs.Pending.{chosen_menu, looked_menu, spot_menu, menu_after, start_in, options_of, first_size, first_value, Goes, GoesOnFields, Takes, IsCompound, IsOpen, IsReady, IsDigit, ValueRead, Grows, valued, read_on};
 
-use crate::pending::{At, Chosen, Fields, Parts, Spot, Stack};
-use crate::step::{
-    chosen_options, enter_action, enter_chosen, go_below, is_closed, options, settle, spot_options,
-};
 use pst_base::{Items, NoMemory};
 use pst_model::{ActionType, Activity, Content, Model};
 use pst_rng::{start, weighted_start};
 use pst_scen::Fill;
 use pst_shape_parts::{Frame, Grown};
+use pst_shape_steps::{
+    At, Chosen, Fields, Parts, Spot, Stack, chosen_options, enter_action, enter_chosen, go_below,
+    is_closed, options, settle, spot_options,
+};
 use std::alloc::Global;
 use std::rc::Rc;
 use std::slice;

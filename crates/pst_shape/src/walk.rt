@@ -2,17 +2,16 @@
 ghost use Rattle.std.specs.Prelude.{◌≡◌, ℕ, IfOk, OnOk, OnErr, ◌<◌, length, map, reverse, []};
 ghost use Rattle.pst_scen.specs.declared.scenario.Scenario.{Scenario};
 ghost use Rattle.pst_shape_parts.specs.Trees.{bare};
-ghost use Rattle.pst_shape.specs.Pending.{shown_at, valued};
+ghost use Rattle.pst_shape_steps.specs.Pending.{shown_at, valued};
 ghost use Rattle.pst_shape.specs.Choices.{at_after, node_count, leaf_count, growth_after};
 ghost use Rattle.pst_shape.specs.Walks.{Kept, with_choice, answer, next_of, IfRead, HasDigit, IsGrowth};
 
-use crate::pending::At;
 use crate::pick::{choice, first};
-use crate::step::options;
 use pst_base::NoMemory;
 use pst_model::Model;
 use pst_scen::{Act, Next, Node};
 use pst_shape_parts::Grown;
+use pst_shape_steps::{At, options};
 use std::alloc::Global;
 
 /// A choice, where reading stands after it, the numbers of nodes and leaves then, and the node to

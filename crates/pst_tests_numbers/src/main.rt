@@ -1,5 +1,6 @@
 //! The table of numbers: what is answered on whole numbers, expressions, spans, random words, names,
-//! places and words of the command line is compared with answers that were worked out by hand or by other programs.
+//! places and words of the command line, and on systems of constraints, is compared with answers that
+//! were worked out by hand, or by other programs, or by a plain enumeration in another language.
 //!
 //! `stdin` is the table, in the form that `pst_cases` describes. What each call answers stands at
 //! the function that makes it.
@@ -7,11 +8,16 @@
 
 mod arithmetic;
 mod evaluating;
+mod expressions;
+mod giving;
 mod lines;
 mod naming;
+mod narrowing;
 mod postfix;
 mod random;
 mod spanning;
+mod systems;
+mod values;
 
 use pst_cases::{Heading, Score, framed, joined_lines, repeated};
 use std::alloc::{AllocError, Global};
@@ -30,6 +36,9 @@ fn answer(alloc: Global, heading: &Heading, text: &str) -> Result<String, AllocE
         "span" | "refused" => spanning::answer(alloc, call, text),
         "word" | "start" | "weighted" => random::answer(alloc, call, text),
         "line" | "alone" | "seeds" => lines::answer(alloc, call, text, heading.number),
+        "bounds" | "given" | "fitting" | "refused system" | "solutions" => {
+            narrowing::answer(alloc, call, heading.number, text)
+        }
         _ => naming::answer(alloc, call, text),
     }
 }

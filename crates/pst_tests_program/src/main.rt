@@ -1,10 +1,12 @@
 //! The table of the program: what words are answered over files in memory, with calls of the shelf
-//! and writes to the sink that fail, is compared with answers that were worked out by hand.
+//! and writes to the sink that fail; the models of small sources; and what shelves of files, sinks and
+//! lanes answer to calls in turn. All is compared with answers that were worked out by hand, and models
+//! also with those that a second elaborator in another language makes.
 //!
-//! `stdin` is the table, in the form that `pst_cases` describes. A case is `STATUS TEXT: WORDS =>
-//! NAMES => SHELF => SINK => TEXTS`, as `pst_tests_settings` reads it: the text has a `/` for each line
-//! feed; `''` is a word without letters; the names and texts are those of the files; the shelf's calls
-//! with these numbers fail; the sink takes so many bytes a write, and the writes with the numbers
+//! `stdin` is the table, in the form that `pst_cases` describes. A case of words is `STATUS TEXT: WORDS
+//! => NAMES => SHELF => SINK => TEXTS`, as `pst_tests_settings` reads it: the text has a `/` for each
+//! line feed; `''` is a word without letters; the names and texts are those of the files; the shelf's
+//! calls with these numbers fail; the sink takes so many bytes a write, and the writes with the numbers
 //! behind fail. The calls:
 //!
 //! - `alone`: on one lane. `lanes`: on so many as `number` says.
@@ -21,12 +23,24 @@
 //! - `writes`: the status, and for how many writes of the text, where that one fails, the status isn't
 //!   7, or something else was written than what stands before it.
 //! - `cuts`: how many fronts of a source have another status than 1, and the status of the source.
+//! - `model C::A`: the model of the sources and that root, in the form of `model_text` of
+//!   `pst_model_texts`; where they have none the rule that they break with its place, or how many
+//!   instances there are.
+//! - Any other call is one of `devices`.
 #![tactic(auto)]
 
+mod broken;
 mod calls;
 mod cuts;
+mod devices;
 mod judged;
+mod lanes;
+mod models;
+mod output;
 mod runs;
+mod shelves;
+mod sinks;
+mod system;
 mod writes;
 
 use pst_cases::{Heading, Score, framed, joined_lines, repeated};
@@ -63,6 +77,7 @@ fn on_several<R: Threads + Wait + Sync + AllocGlobal>(
 // What is answered to a call on a text.
 fn answer<R: Threads + Wait + Sync + AllocGlobal>(
     rt: &R,
+    system: &HostRuntime,
     heading: &Heading,
     text: &str,
 ) -> Result<String, AllocError> {
@@ -74,13 +89,17 @@ fn answer<R: Threads + Wait + Sync + AllocGlobal>(
         "judged" => calls::judged(alloc, text),
         "writes" => writes::breaks(alloc, text),
         "cuts" => cuts::answers(alloc, text),
-        _ => on_several(rt, heading, text),
+        "lanes" | "faulty" | "shared" | "each" | "behind" | "together" => {
+            on_several(rt, heading, text)
+        }
+        call => devices::answer(system, call, text),
     }
 }
 
 // What must be answered to a case, and what is.
 fn compared<R: Threads + Wait + Sync + AllocGlobal>(
     rt: &R,
+    system: &HostRuntime,
     heading: &Heading,
     line: &str,
 ) -> Result<(String, String), AllocError> {
@@ -88,8 +107,11 @@ fn compared<R: Threads + Wait + Sync + AllocGlobal>(
     let (owed, text) = line.split_once(": ").unwrap_or((line, ""));
     let whole = framed(alloc, heading.frame.as_str(), text)?;
     let written = repeated(alloc, whole.as_str())?;
+    if let Some(root) = heading.call.strip_prefix("model ") {
+        return models::compared(alloc, root, owed, written.as_str());
+    }
     let wanted = String::from_str(alloc, owed)?;
-    let found = answer(rt, heading, written.as_str())?;
+    let found = answer(rt, system, heading, written.as_str())?;
     Ok((wanted, found))
 }
 
@@ -100,7 +122,7 @@ fn main(rt: HostRuntime) -> io::Result<()> {
     let mut score = Score::new();
     for line in &joined_lines(alloc, table.as_str())? {
         if !heading.take(line.as_str())? {
-            let (wanted, found) = compared(&rt, &heading, line.as_str())?;
+            let (wanted, found) = compared(&rt, &rt, &heading, line.as_str())?;
             score.count(&rt, line.as_str(), wanted.as_str(), found.as_str())?;
         }
     }

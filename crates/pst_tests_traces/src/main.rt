@@ -1,13 +1,16 @@
-//! The table of texts of traces: what is written of small scenarios and their events is compared
-//! with texts that were worked out by hand.
+//! The table of texts of traces: what is written of small scenarios and their events, and what is read
+//! of texts, or the number of the first bad line, is compared with what was worked out by hand.
 //!
 //! `stdin` is the table, in the form that `pst_cases` describes.
 #![tactic(auto)]
 
 mod models;
+mod reading;
 mod scenarios;
+mod spelled;
 
 use crate::models::model_of;
+use crate::reading::read_of;
 use crate::scenarios::{events_of, last_of, scenario_of};
 use pst_base::{Names, NoMemory};
 use pst_cases::{Heading, Score, joined_lines};
@@ -57,12 +60,21 @@ fn written(alloc: Global, call: &str, format: u32, text: &str) -> Result<String,
     write_trace(alloc, &names, &model, &scenario, events.as_slice(), last)
 }
 
-// What must be written in a case, and what is.
+// What is answered to a call on a text.
+fn answer(alloc: Global, heading: &Heading, text: &str) -> Result<String, NoMemory> {
+    if heading.call.as_str() == "read" {
+        return read_of(alloc, text);
+    }
+    let trace = written(alloc, heading.call.as_str(), heading.number, text)?;
+    Ok(on_one_line(alloc, trace.as_str())?)
+}
+
+// What must be answered to a case, and what is.
 fn compared(alloc: Global, heading: &Heading, line: &str) -> Result<(String, String), AllocError> {
     let (owed, text) = line.split_once(": ").unwrap_or((line, ""));
     let wanted = String::from_str(alloc, owed)?;
-    let found = match written(alloc, heading.call.as_str(), heading.number, text) {
-        Ok(text) => on_one_line(alloc, text.as_str())?,
+    let found = match answer(alloc, heading, text) {
+        Ok(text) => text,
         Err(_) => String::from_str(alloc, "no memory")?,
     };
     Ok((wanted, found))

@@ -6,7 +6,6 @@ use Rattle.std.specs.List.{filter_map}
 use Rattle.pst_ast.specs.declared.activity.CoreNode.{CoreNode}
 use Rattle.pst_ast.specs.ActivityView.{view_arm as view_arm_node, view_arm_label, view_branch as view_branch_node, view_core, view_guard, view_join, view_statement}
 use Rattle.pst_ast.specs.ExpressionView.{view_expr}
-use Rattle.pst_step_parts.specs.PassedOn.{without_turn}
 use Rattle.pst_elab_rules.specs.Steps.{branch_step, core_step, guard_of, one_step, row_steps, statement_step, together_step, weight_of}
 use Rattle.pst_model.specs.ActivityTree as model
 use Rattle.pst_model.specs.ConstraintTree.{view_constraint}
@@ -15,8 +14,8 @@ use Rattle.pst_path_readings.specs.Set.{view_setting}
 use Rattle.pst_sources.specs.Shown.{Shown, sources_of}
 use Rattle.pst_terms.specs.Readings.{Setting, expression_of}
 use Rattle.pst_walk_parts.specs.Shown.{view_statements}
-use Rattle.pst_activity_steps.specs.Listed.{branch_row, step_row, with_arm, with_arms, with_label}
-use Rattle.pst_activity_steps.specs.Shown.{view_arms}
+use Rattle.pst_step_forms.specs.Listed.{branch_row, step_row, with_arm, with_arms, with_label}
+use Rattle.pst_step_forms.specs.Shown.{view_arms}
 use Rattle.pst_activity_steps.proofs.Blocks.{rows_are, sequence_step_is, together_step_is, select_found, match_found, steps_more, branches_more, arms_more}
 use Rattle.pst_activity_steps.proofs.statements.+steps.Goals as goal
 
@@ -25,8 +24,11 @@ core_step-returns-in_ok-steps-in-Sequence-clause-step t c =
     let s = sources_of c.args.numbered.now in
     let setting = view_setting c.args.setting.now in
     let e = ap (λ (k : CoreNode). core_step s setting c.args.level (view_core k)) c.in-Sequence.is ∙ sequence_step_is s setting c.args.level c.in-Sequence.sequence c.in-Sequence.left_brace c.in-Sequence.statements c.in-Sequence.right_brace in
-    let steps : view_step c.sequence.result ≡ model.Sequence (row_steps s setting c.args.level (view_statements c.in-Sequence.statements.items)) = grind (arith, common_steps) in
-    ap (λ (x : model.StepTree). Some x) steps ∙ sym e
+    let statements = map view_statement c.in-Sequence.statements.items in
+    let found : map view_step c.in_ok-steps-in-Sequence.steps.items ≡ filter_map (statement_step s setting c.args.level) statements = grind (arith, common_steps) in
+    let made : view_step c.sequence.result ≡ model.Sequence (step_row (map view_step c.in_ok-steps-in-Sequence.steps.items)) = grind (arith, common_steps) in
+    let rows : step_row (map view_step c.in_ok-steps-in-Sequence.steps.items) ≡ row_steps s setting c.args.level (view_statements c.in-Sequence.statements.items) = ap step_row found ∙ sym (rows_are s setting c.args.level statements) in
+    ap (λ (x : model.StepTree). Some x) (made ∙ ap model.Sequence rows) ∙ sym e
 
 pub core_step-returns-in_ok-step-in-Together-clause-step : goal.core_step-returns-in_ok-step-in-Together-clause-step
 core_step-returns-in_ok-step-in-Together-clause-step t c =
@@ -37,7 +39,8 @@ core_step-returns-in_ok-step-in-Together-clause-step t c =
     let statements = view_statements c.in-Together.statements.items in
     let e = ap (λ (k : CoreNode). core_step s setting c.args.level (view_core k)) c.in-Together.is
     ∙ together_step_is s setting c.args.level word c.in-Together.place c.in-Together.join c.in-Together.left_brace c.in-Together.statements c.in-Together.right_brace in
-    let steps : step_row (map view_step c.in_ok-steps-in-Together.steps.items) ≡ row_steps s setting c.args.level statements = grind (arith, common_steps) in
+    let found : map view_step c.in_ok-steps-in-Together.steps.items ≡ filter_map (statement_step s setting c.args.level) (map view_statement c.in-Together.statements.items) = grind (arith, common_steps) in
+    let steps : step_row (map view_step c.in_ok-steps-in-Together.steps.items) ≡ row_steps s setting c.args.level statements = ap step_row found ∙ sym (rows_are s setting c.args.level (map view_statement c.in-Together.statements.items)) in
     let step : view_step c.in_ok-step-in-Together.step ≡ together_step s word join statements (step_row (map view_step c.in_ok-steps-in-Together.steps.items)) = grind (arith, common_steps) in
     ap (λ (x : model.StepTree). Some x) (step ∙ ap (together_step s word join statements) steps) ∙ sym e
 
@@ -76,14 +79,6 @@ core_step-returns-in_ok-add_arms-in-Match-clause-step t c =
     c.no_arms-arms.ensures ones alls
     ∙ sym (ap (λ (k : CoreNode). core_step s setting level (view_core k)) c.in-Match.is)
 
-pub block-returns-clause-steps : goal.block-returns-clause-steps
-block-returns-clause-steps t c =
-    let s = sources_of c.args.numbered.now in
-    let setting = view_setting c.args.setting.now in
-    let statements = map view_statement c.args.statements.now in
-    let found : map view_step c.add_steps.new.found.items ≡ filter_map (statement_step s setting c.args.level) statements = grind (arith, common_steps) in
-    ap step_row found ∙ sym (rows_are s setting c.args.level statements)
-
 pub if_step-returns-clause-step : goal.if_step-returns-clause-step
 if_step-returns-clause-step t c =
     let holds : view_constraint c.in_ok-holds.holds ≡ expression_of (sources_of c.args.numbered.now) (view_setting c.args.setting.now) (view_expr c.args.condition.now) = grind (arith, common_steps) in
@@ -101,19 +96,12 @@ repeat_step-returns-clause-step t c =
     let times : view_constraint c.in_ok-times.times ≡ expression_of (sources_of c.args.numbered.now) (view_setting c.args.setting.now) (view_expr c.args.count.now) = grind (arith, common_steps) in
     c.repeat_of.ensures ∙ (λ i. model.Repeat (times i) (c.in_ok-step.ensures.step i))
 
-pub indexed_turn-returns-clause-step : goal.indexed_turn-returns-clause-step
-indexed_turn-returns-clause-step t c =
-    c.in_ok-step.ensures.step ∙ ap (λ (st : Setting). one_step (statement_step (sources_of c.args.numbered.now) st c.args.inner (view_statement c.args.statement.now))) c.in_ok-push_turn.ensures
-
-pub indexed_turn-returns-clause-kept : goal.indexed_turn-returns-clause-kept
-indexed_turn-returns-clause-kept t c = c.pop_turn.ensures ∙ ap without_turn (c.in_ok-step.ensures.kept ∙ c.in_ok-push_turn.ensures)
-
-pub add_steps-loop-statement-preserved : goal.add_steps-loop-statement-preserved
-add_steps-loop-statement-preserved t c =
+pub block-loop-statement-preserved : goal.block-loop-statement-preserved
+block-loop-statement-preserved t c =
     let setting = view_setting c.args.setting.now in
     record {
       kept = c.in_ok-step.ensures.kept ∙ c.loop-statement.invariant.kept;
-      found = steps_more (sources_of c.args.numbered.now) setting c.args.level (view_setting c.loop-statement.setting) (map view_step c.loop-statement.found.items) (map view_step c.push_step.new.found.items) _
+      found = steps_more (sources_of c.args.numbered.now) setting c.args.level (view_setting c.loop-statement.setting) (map view_step c.loop-statement.steps.items) (map view_step c.push_step.new.found.items) _
           (option_map view_step c.in_ok-step.step) c.args.statements.now c.loop-statement.statement-index c.statement-item.result c.loop-statement-test.true c.statement-item.is c.loop-statement.invariant.kept
           c.in_ok-step.ensures.step c.in_ok-push_step.ensures c.loop-statement.invariant.found;
     }

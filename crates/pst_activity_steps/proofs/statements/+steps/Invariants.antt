@@ -10,15 +10,15 @@ use Rattle.pst_elab_rules.specs.Steps.{branch_step, statement_step}
 use Rattle.pst_model.specs.ModelView.{view_branch, view_step}
 use Rattle.pst_path_readings.specs.Set.{view_setting}
 use Rattle.pst_sources.specs.Shown.{sources_of}
-use Rattle.pst_activity_steps.specs.Listed.{with_arms}
-use Rattle.pst_activity_steps.specs.Shown.{view_arms}
+use Rattle.pst_step_forms.specs.Listed.{with_arms}
+use Rattle.pst_step_forms.specs.Shown.{view_arms}
 use Rattle.pst_activity_steps.proofs.statements.+steps.Given as goal
 
-abbrev pub invariant-add_steps-loop-statement : goal.invariant-add_steps-loop-statement
-invariant-add_steps-loop-statement l = record {
+abbrev pub invariant-block-loop-statement : goal.invariant-block-loop-statement
+invariant-block-loop-statement l = record {
   kept : view_setting l.setting ≡ view_setting l.initial.setting;
-  found : map view_step l.found.items ++ filter_map (statement_step (sources_of l.numbered) (view_setting l.initial.setting) l.level) (map view_statement (drop l.statement-index l.statements))
-      ≡ map view_step l.initial.found.items ++ filter_map (statement_step (sources_of l.numbered) (view_setting l.initial.setting) l.level) (map view_statement l.statements);
+  found : map view_step l.steps.items ++ filter_map (statement_step (sources_of l.numbered) (view_setting l.initial.setting) l.level) (map view_statement (drop l.statement-index l.statements))
+      ≡ filter_map (statement_step (sources_of l.numbered) (view_setting l.initial.setting) l.level) (map view_statement l.statements);
 }
 
 abbrev pub invariant-add_branches-loop-branch : goal.invariant-add_branches-loop-branch
@@ -41,11 +41,8 @@ decreases-statement_step l = 8 * size-StatementNode l.statement.now
 abbrev pub decreases-one_step : goal.decreases-one_step
 decreases-one_step l = 8 * size-StatementNode l.statement.now + 1
 
-abbrev pub decreases-add_steps : goal.decreases-add_steps
-decreases-add_steps l = 8 * goal.size-add_steps l + 1
-
 abbrev pub decreases-block : goal.decreases-block
-decreases-block l = 8 * goal.size-block l + 2
+decreases-block l = 8 * goal.size-block l + 1
 
 abbrev pub decreases-core_step : goal.decreases-core_step
 decreases-core_step l = 8 * size-CoreNode l.core.now
@@ -61,9 +58,6 @@ decreases-repeat_step l = 8 * size-StatementNode l.statement.now + 4
 
 abbrev pub decreases-turn : goal.decreases-turn
 decreases-turn l = 8 * size-StatementNode l.statement.now + 3
-
-abbrev pub decreases-indexed_turn : goal.decreases-indexed_turn
-decreases-indexed_turn l = 8 * size-StatementNode l.statement.now + 2
 
 abbrev pub decreases-add_branch : goal.decreases-add_branch
 decreases-add_branch l = 8 * size-BranchNode l.branch.now

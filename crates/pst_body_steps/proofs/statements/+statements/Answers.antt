@@ -11,8 +11,8 @@ use Rattle.pst_model.specs.ModelView.{view_body_step}
 use Rattle.pst_path_readings.specs.Set.{view_setting}
 use Rattle.pst_sources.specs.Shown.{sources_of}
 use Rattle.pst_terms.specs.Readings.{Setting, expression_of}
-use Rattle.pst_body_steps.specs.Listed.{row_of, without_inner}
-use Rattle.pst_body_steps.proofs.Rows.{block_is, row_again, steps_more, without_more}
+use Rattle.pst_body_parts.specs.Listed.{row_of, without_inner}
+use Rattle.pst_body_parts.proofs.Rows.{block_is, row_again, steps_more, without_more}
 use Rattle.pst_body_steps.proofs.statements.+statements.Goals as goal
 
 pub add_statement-returns-in-Block-clause-found : goal.add_statement-returns-in-Block-clause-found

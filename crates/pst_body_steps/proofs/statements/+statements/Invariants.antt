@@ -5,7 +5,7 @@ use Rattle.pst_ast.specs.BodyView.{view_body_statement}
 use Rattle.pst_model.specs.ModelView.{view_body_step}
 use Rattle.pst_path_readings.specs.Set.{view_setting}
 use Rattle.pst_sources.specs.Shown.{sources_of}
-use Rattle.pst_body_steps.specs.Listed.{list_steps, without_inner}
+use Rattle.pst_body_parts.specs.Listed.{list_steps, without_inner}
 use Rattle.pst_body_steps.proofs.statements.+statements.Given as goal
 
 abbrev pub invariant-add_statements-loop-statement : goal.invariant-add_statements-loop-statement

@@ -8,8 +8,8 @@ use Rattle.pst_path_readings.specs.Set.{view_setting}
 use Rattle.pst_ast.specs.declared.referent.Owner.TheVariants.{OfAction}
 use Rattle.pst_sources.specs.Shown.{sources_of}
 use Rattle.pst_terms.specs.Readings.{Setting}
-use Rattle.pst_body_steps.specs.Listed.{list_steps, with_locals}
-use Rattle.pst_body_steps.proofs.Rows.{list_is}
+use Rattle.pst_body_parts.specs.Listed.{list_steps, with_locals}
+use Rattle.pst_body_parts.proofs.Rows.{list_is}
 use Rattle.pst_body_steps.proofs.steps.body_steps.Goals as goal
 
 pub returns : goal.returns

@@ -2,7 +2,7 @@ use Rattle.std.proofs.Common.{◌≡◌, ◌∙◌, ◌∷◌, [], ℕ, List, ma
 use Rattle.pst_words.specs.declared.command.Command.{Command}
 use Rattle.pst_outcome.specs.Tasks.{AreSources}
 use Rattle.pst_front.proofs.Said.{sources_come}
-use Rattle.pst_front.proofs.Rooted.{are_sources}
+use Rattle.pst_line_parts.proofs.Rooted.{are_sources}
 use Rattle.pst_front.proofs.files.stage_of_sources.Goals as goal
 
 pub returns-then-is_gen : goal.returns-then-is_gen

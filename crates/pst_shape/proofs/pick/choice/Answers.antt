@@ -5,8 +5,8 @@ use Rattle.pst_rng.specs.Words.{start_of}
 use Rattle.pst_model.specs.ModelView.{view_model}
 use Rattle.pst_legal.specs.Reading.{then_read, option_at, read_pieces, read_piece}
 use Rattle.pst_shape_parts.specs.Trees.{tree_of, scenario_of, values_at}
-use Rattle.pst_shape.specs.Pending.{IsDigit, way_at, options_at, options_of, spot_menu, first_size, below_fields, read_stack, read_on}
-use Rattle.pst_shape.proofs.Levels.{digit_read, value_read}
+use Rattle.pst_shape_steps.specs.Pending.{IsDigit, way_at, options_at, options_of, spot_menu, first_size, below_fields, read_stack, read_on}
+use Rattle.pst_shape_steps.proofs.Levels.{digit_read, value_read}
 use Rattle.pst_shape.proofs.pick.choice.Goals as goal
 
 pub returns-in-Place-clause-reads : goal.returns-in-Place-clause-reads

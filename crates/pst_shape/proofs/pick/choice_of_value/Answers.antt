@@ -1,6 +1,6 @@
 use Rattle.std.proofs.Common.{◌∙◌, ap, sym, subst}
 use Rattle.pst_shape_parts.specs.Trees.{tree_of, taken_back, IsGrown, Extends}
-use Rattle.pst_shape.specs.Pending.{first_value}
+use Rattle.pst_shape_steps.specs.Pending.{first_value}
 use Rattle.pst_shape.proofs.Placed.{put_back}
 use Rattle.pst_shape.proofs.pick.choice_of_value.Goals as goal
 

@@ -2,8 +2,8 @@ use Rattle.std.proofs.Common.{◌∙◌, []}
 use Rattle.pst_model.specs.ModelView.{view_model}
 use Rattle.pst_legal.specs.Growing.{nothing_yet}
 use Rattle.pst_shape_parts.specs.Trees.{Tree}
-use Rattle.pst_shape.proofs.Levels.{first_read}
-use Rattle.pst_shape.proofs.Closed.{open_placed, closed_stops}
+use Rattle.pst_shape_steps.proofs.Levels.{first_read}
+use Rattle.pst_shape_steps.proofs.Closed.{open_placed, closed_stops}
 use Rattle.pst_shape.proofs.pick.first.Goals as goal
 
 abbrev no_tree : Tree

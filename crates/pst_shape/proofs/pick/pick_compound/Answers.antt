@@ -3,9 +3,9 @@ use Rattle.std.proofs.lemmas.Result.{IfOk-weaker}
 use Rattle.pst_scen.specs.declared.tree.Fill.TheVariants as fill
 use Rattle.pst_model.specs.ModelView.{view_action, view_activity, view_step}
 use Rattle.pst_legal.specs.Growing.{Inner}
-use Rattle.pst_shape.specs.declared.pending.Fields.{Fields}
+use Rattle.pst_shape_steps.specs.declared.pending.Fields.{Fields}
 use Rattle.pst_shape_parts.specs.Trees.{tree_of, grown_by}
-use Rattle.pst_shape.proofs.Levels.{added_true, compound_open, compound_read}
+use Rattle.pst_shape_steps.proofs.Levels.{added_true, compound_open, compound_read}
 use Rattle.pst_shape.proofs.pick.pick_compound.Goals as goal
 
 pub returns-clause-reads : goal.returns-clause-reads

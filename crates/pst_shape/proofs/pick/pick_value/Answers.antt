@@ -5,7 +5,7 @@ use Rattle.std.proofs.lemmas.Int.{to_z-of_z}
 use Rattle.pst_expr.specs.Spans.{values}
 use Rattle.pst_legal.specs.Reading.{then_read, read_fields, read_pieces, read_piece}
 use Rattle.pst_shape_parts.specs.Trees.{tree_of, scenario_of, fields_in, put}
-use Rattle.pst_shape.specs.Pending.{first_value, below_fields, read_stack, IsCompound}
+use Rattle.pst_shape_steps.specs.Pending.{first_value, below_fields, read_stack, IsCompound}
 use Rattle.pst_shape.proofs.Placed.{put_values, put_compound}
 use Rattle.pst_shape.proofs.pick.pick_value.Goals as goal
 

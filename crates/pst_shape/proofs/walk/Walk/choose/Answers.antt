@@ -5,7 +5,7 @@ use Rattle.pst_model.specs.ModelView.{view_model}
 use Rattle.pst_shape.specs.declared.walk.Made.{Made}
 use Rattle.pst_shape_parts.specs.Trees.{tree_of, scenario_of}
 use Rattle.pst_shape.specs.Walks.{HasDigit, answer}
-use Rattle.pst_shape.specs.Pending.{IsDigit, Grows, valued, read_on}
+use Rattle.pst_shape_steps.specs.Pending.{IsDigit, Grows, valued, read_on}
 use Rattle.pst_shape.specs.Choices.{at_after, digits_of}
 use Rattle.pst_shape.specs.Made.{AllStand}
 use Rattle.pst_shape.proofs.Stands.{made_digit, one_more, length-digits_of}

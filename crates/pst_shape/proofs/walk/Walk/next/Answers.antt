@@ -2,7 +2,7 @@ use Rattle.std.proofs.Common.{◌∙◌, ap, sym}
 use Rattle.std.specs.Prelude.{reverse}
 use Rattle.pst_model.specs.ModelView.{view_model}
 use Rattle.pst_shape_parts.specs.Trees.{tree_of, scenario_of}
-use Rattle.pst_shape.specs.Pending.{shown_at}
+use Rattle.pst_shape_steps.specs.Pending.{shown_at}
 use Rattle.pst_shape.specs.Choices.{at_after}
 use Rattle.pst_shape.specs.Walks.{next_of, answer}
 use Rattle.pst_shape.proofs.Stands.{made_answer}

@@ -1,5 +1,0 @@
-use Rattle.pst_activity_steps.proofs.Rows.{if_is}
-use Rattle.pst_activity_steps.proofs.made.if_of.Goals as goal
-
-pub returns : goal.returns
-returns c = if_is c.args.condition c.args.step c.args.other

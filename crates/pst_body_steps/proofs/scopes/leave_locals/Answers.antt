@@ -1,8 +1,0 @@
-use Rattle.std.proofs.Common.{ap, ◌∙◌}
-use Rattle.pst_path_readings.specs.Set.{view_setting}
-use Rattle.pst_body_steps.specs.Listed.{without_inner}
-use Rattle.pst_body_steps.proofs.Rows.{without_next}
-use Rattle.pst_body_steps.proofs.scopes.leave_locals.Goals as goal
-
-pub loop-preserved : goal.loop-preserved
-loop-preserved c = c.leave.ensures ∙ ap (without_inner 1) c.loop.invariant ∙ without_next c.loop.counter (view_setting c.args.setting.now)

@@ -1,5 +1,0 @@
-use Rattle.pst_body_steps.proofs.Rows.{if_is}
-use Rattle.pst_body_steps.proofs.single.if_of.Goals as goal
-
-pub returns : goal.returns
-returns c = if_is c.args.condition c.args.steps c.args.others

@@ -1,5 +1,0 @@
-use Rattle.pst_body_steps.proofs.Rows.{repeat_is}
-use Rattle.pst_body_steps.proofs.single.repeat_of.Goals as goal
-
-pub returns : goal.returns
-returns c = repeat_is c.args.count c.args.steps

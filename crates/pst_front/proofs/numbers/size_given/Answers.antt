@@ -1,6 +1,0 @@
-use Rattle.std.proofs.Common.{map, string_bytes}
-use Rattle.pst_front.proofs.Given.{small_size}
-use Rattle.pst_front.proofs.numbers.size_given.Goals as goal
-
-pub small_number-requires : goal.small_number-requires
-small_number-requires c = small_size c.args.line.now.command (map string_bytes c.args.line.now.arguments.now) c.requires

@@ -1,0 +1,5 @@
+mod SourceNames
+mod Texts
+mod Given
+pub mod Rooted
+mod Long

@@ -1,0 +1,40 @@
+//! The numbers that a line gives.
+ghost use Rattle.std.specs.Prelude.{◌≡◌, ◌<◌, ◌≤◌, ◌^◌, ℕ, List, map, string_bytes, decimal, Some};
+ghost use Rattle.pst_words.specs.Lines.{given};
+ghost use Rattle.pst_line_parts.specs.Lines.{AreBehind};
+ghost use Rattle.pst_outcome.specs.Tasks.{IsNumberGiven};
+
+use pst_words::{Key, Line};
+
+// The number that is given for the key, or else another one, where it is below 2^32.
+fn small_number(line: &Line<'_>, key: Key, otherwise: u32) -> u32
+    requires { (text : List ℕ) → given key (map string_bytes line.now.arguments.now) ≡ Some text → (n : ℕ) × (text ≡ decimal n) × (n < 2 ^ 32) }
+    ensures { IsNumberGiven key (map string_bytes line.now.arguments.now) otherwise result }
+{
+    let number = line.number(key, u64::from(otherwise));
+    number as u32
+}
+
+/// The size of a generated model; 0 where none is given.
+pub fn size_given(line: &Line<'_>) -> u32
+    requires { AreBehind line.now.command (map string_bytes line.now.arguments.now) }
+    ensures { IsNumberGiven Key.Size (map string_bytes line.now.arguments.now) 0 result }
+{
+    small_number(line, Key::Size, 0)
+}
+
+/// How many lanes a line asks for.
+pub fn lanes_given(line: &Line<'_>) -> u32
+    requires { AreBehind line.now.command (map string_bytes line.now.arguments.now) }
+    ensures { IsNumberGiven Key.Lanes (map string_bytes line.now.arguments.now) 1 result }
+{
+    small_number(line, Key::Lanes, 1)
+}
+
+/// The most inferred actions that a line allows.
+pub fn infer_given(line: &Line<'_>) -> u32
+    requires { AreBehind line.now.command (map string_bytes line.now.arguments.now) }
+    ensures { IsNumberGiven Key.Infer (map string_bytes line.now.arguments.now) 2 result }
+{
+    small_number(line, Key::Infer, 2)
+}

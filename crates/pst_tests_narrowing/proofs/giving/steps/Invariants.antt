@@ -1,5 +1,0 @@
-use Rattle.pst_reasons.specs.Giving.{IsKept}
-use Rattle.pst_tests_narrowing.proofs.giving.steps.Given as goal
-
-abbrev pub invariant-loop-word : goal.invariant-loop-word
-invariant-loop-word l = IsKept l.narrowed
