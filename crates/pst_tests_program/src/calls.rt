@@ -1,6 +1,6 @@
 //! Words on one lane.
 use pst_portable::portable_alone;
-use pst_target::{ScriptTarget, SureTarget};
+use pst_target::{Call, ScriptTarget, SureTarget};
 use pst_tests_settings::{Setting, add_calls, ends_of, judging_of, setting_of, shown};
 use std::alloc::{AllocError, Global};
 
@@ -38,6 +38,19 @@ pub fn judged(alloc: Global, text: &str) -> Result<String, AllocError> {
     Ok(found)
 }
 
+// A status, the text that was written, and calls.
+fn with_calls(
+    alloc: Global,
+    status: u8,
+    bytes: &[u8],
+    calls: &[Call],
+) -> Result<String, AllocError> {
+    let mut found = shown(alloc, status, bytes)?;
+    found.push_str(" |")?;
+    add_calls(&mut found, calls)?;
+    Ok(found)
+}
+
 /// What is answered on a lane whose call of that number fails, and the lane's calls.
 pub fn on_failing(alloc: Global, failing: u32, text: &str) -> Result<String, AllocError> {
     let Setting {
@@ -47,8 +60,5 @@ pub fn on_failing(alloc: Global, failing: u32, text: &str) -> Result<String, All
     } = setting_of(alloc, text)?;
     let mut lane = ScriptTarget::new(alloc, Vec::new(alloc), u64::from(failing));
     let answer = portable_alone(alloc, words.as_slice(), &mut shelf, &mut sink, &mut lane);
-    let mut found = shown(alloc, answer.status(), sink.bytes())?;
-    found.push_str(" |")?;
-    add_calls(&mut found, lane.calls())?;
-    Ok(found)
+    with_calls(alloc, answer.status(), sink.bytes(), lane.calls())
 }

@@ -115,36 +115,39 @@ fn consumer(alloc: Global) -> Result<ActionType, AllocError> {
     })
 }
 
-// The producer and then the consumer, each once, and the producer again in a repetition.
-fn steps(alloc: Global) -> Result<Vec<Step>, AllocError> {
-    let again = Step::Traverse {
+// The producer, once.
+fn first(alloc: Global) -> Result<Step, AllocError> {
+    let outer = Slot::Outer {
+        slot: Box::new(alloc, Slot::Own { field: 0 })?,
+    };
+    Ok(Step::Traverse {
+        action: 0,
+        handle: Some(0),
+        inline: vec![in alloc; value_of(alloc, outer)?]?,
+    })
+}
+
+// The producer again, in a repetition.
+fn again(alloc: Global) -> Result<Step, AllocError> {
+    let traversal = Step::Traverse {
         action: 0,
         handle: None,
         inline: vec![in alloc; value_of(alloc, Slot::Index { level: 0 })?]?,
     };
-    Ok(vec![in alloc;
-        Step::Traverse {
-            action: 0,
-            handle: Some(0),
-            inline: vec![in alloc;
-                value_of(
-                    alloc,
-                    Slot::Outer {
-                        slot: Box::new(alloc, Slot::Own { field: 0 })?
-                    }
-                )?,
-            ]?,
-        },
-        Step::Traverse {
-            action: 1,
-            handle: Some(1),
-            inline: Vec::new(alloc),
-        },
-        Step::Repeat {
-            count: value_of(alloc, Slot::Own { field: 0 })?,
-            body: Box::new(alloc, again)?,
-        },
-    ]?)
+    let body = Box::new(alloc, traversal)?;
+    Ok(Step::Repeat {
+        count: value_of(alloc, Slot::Own { field: 0 })?,
+        body,
+    })
+}
+
+// The producer and then the consumer, each once, and the producer again in a repetition.
+fn steps(alloc: Global) -> Result<Vec<Step>, AllocError> {
+    let mut steps = Vec::new(alloc);
+    steps.push(first(alloc)?)?;
+    steps.push(traversal(alloc, 1, 1))?;
+    steps.push(again(alloc)?)?;
+    Ok(steps)
 }
 
 fn compound(alloc: Global) -> Result<ActionType, AllocError> {

@@ -84,16 +84,16 @@ fn by_value(alloc: Global) -> Result<Step, AllocError> {
 
 /// Every statement of an activity, the blocks with this form of join.
 fn steps(alloc: Global, join: Join) -> Result<Vec<Step>, AllocError> {
-    Ok(vec![in alloc;
-        Step::Sequence(two(alloc)?),
-        Step::Parallel(two(alloc)?),
-        Step::Schedule(two(alloc)?),
-        joined(alloc, true, join)?,
-        joined(alloc, false, join)?,
-        choice(alloc)?,
-        conditions(alloc)?,
-        by_value(alloc)?,
-    ]?)
+    let mut steps = Vec::new(alloc);
+    steps.push(Step::Sequence(two(alloc)?))?;
+    steps.push(Step::Parallel(two(alloc)?))?;
+    steps.push(Step::Schedule(two(alloc)?))?;
+    steps.push(joined(alloc, true, join)?)?;
+    steps.push(joined(alloc, false, join)?)?;
+    steps.push(choice(alloc)?)?;
+    steps.push(conditions(alloc)?)?;
+    steps.push(by_value(alloc)?)?;
+    Ok(steps)
 }
 
 fn with_steps(alloc: Global, steps: Vec<Step>) -> Result<bool, AllocError> {

@@ -14,6 +14,8 @@ use crate::reading::read_of;
 use crate::scenarios::{events_of, last_of, scenario_of};
 use pst_base::{Names, NoMemory};
 use pst_cases::{Heading, Score, joined_lines};
+use pst_model::Model;
+use pst_scen::Scenario;
 use pst_trace_writer::{header, write_trace};
 use std::alloc::{AllocError, Global};
 use std::io;
@@ -36,28 +38,50 @@ fn on_one_line(alloc: Global, text: &str) -> Result<String, AllocError> {
     Ok(line)
 }
 
-// What is written of a description. `trace` asks for a whole trace, and `header` for the header in a
-// format.
-fn written(alloc: Global, call: &str, format: u32, text: &str) -> Result<String, NoMemory> {
-    let mut names = Names::new(alloc);
-    let (described, rest) = text.split_once('=').unwrap_or((text, ""));
-    let model = model_of(alloc, &mut names, described)?;
-    let mut parts = rest.split('|');
+// The header of a scenario in a format, or `none`.
+fn header_of(
+    alloc: Global,
+    names: &Names,
+    model: &Model,
+    scenario: &Scenario,
+    format: u32,
+) -> Result<String, NoMemory> {
+    let wanted = u8::try_from(format).unwrap_or(0);
+    match header(alloc, names, model, scenario, wanted)? {
+        Some(text) => Ok(text),
+        None => Ok(String::from_str(alloc, "none")?),
+    }
+}
+
+// What is written of a description's nodes, actions, first leaves, events and last line, in a model.
+// `header` asks for the header in a format, and every other call for a whole trace.
+fn written_in(
+    alloc: Global,
+    names: &Names,
+    model: &Model,
+    call: &str,
+    format: u32,
+    text: &str,
+) -> Result<String, NoMemory> {
+    let mut parts = text.split('|');
     let nodes = parts.next().unwrap_or("");
     let actions = parts.next().unwrap_or("");
     let firsts = parts.next().unwrap_or("");
     let scenario = scenario_of(alloc, nodes, actions, firsts)?;
     if call == "header" {
-        let wanted = u8::try_from(format).unwrap_or(0);
-        let found = header(alloc, &names, &model, &scenario, wanted)?;
-        return match found {
-            Some(text) => Ok(text),
-            None => Ok(String::from_str(alloc, "none")?),
-        };
+        return header_of(alloc, names, model, &scenario, format);
     }
     let events = events_of(alloc, parts.next().unwrap_or(""))?;
     let last = last_of(parts.next().unwrap_or(""));
-    write_trace(alloc, &names, &model, &scenario, events.as_slice(), last)
+    write_trace(alloc, names, model, &scenario, events.as_slice(), last)
+}
+
+// What is written of a description: of a model, and of what runs in it.
+fn written(alloc: Global, call: &str, format: u32, text: &str) -> Result<String, NoMemory> {
+    let mut names = Names::new(alloc);
+    let (described, rest) = text.split_once('=').unwrap_or((text, ""));
+    let model = model_of(alloc, &mut names, described)?;
+    written_in(alloc, &names, &model, call, format, rest)
 }
 
 // What is answered to a call on a text.
