@@ -48,6 +48,7 @@ pub mod Inner
 pub mod InnerKept
 pub mod Lookups
 pub mod Paths
+pub mod PathAnswers
 pub mod Uses
 pub mod Breaches
 pub mod NameRules
@@ -55,3 +56,4 @@ pub mod Scopes
 pub mod ScopeLaws
 pub mod Tried
 pub mod TriedMembers
+pub mod TriedPaths

@@ -1,7 +1,7 @@
--- What a path of names with dots between them stands for, and the first name of it that is wrong.
+-- What a path of names with dots between them stands for, or the first name of it that is wrong, computed; `PathAnswers` has a row for each answer.
 use Rattle.std.specs.Prelude.{ℕ, Bool, true, false, not, ◌&&◌, ◌||◌, List, [], ◌∷◌, ◌++◌, codes, Option, Some, None, is_some, if◌then◌else◌}
 use Rattle.std.specs.List.{find}
-use Rattle.std.specs.Option.{option_or, option_and_then}
+use Rattle.std.specs.Option.{option_map_or, option_or}
 use Rattle.pst_base.specs.declared.position.Place.{Place}
 use Rattle.pst_base.specs.declared.table.NameId.{NameId}
 use Rattle.pst_ast.specs.declared.scope_declaration.Declaration.{Declaration}
@@ -12,7 +12,7 @@ pub use Rattle.pst_ast.specs.declared.referent.PathPart.{PathPart}
 pub use Rattle.pst_ast.specs.declared.referent.PathReferent.{PathReferent}
 pub use Rattle.pst_ast.specs.declared.referent.Checked.{Checked}
 pub use Rattle.pst_ast.specs.declared.referent.Checked.TheVariants.{Is, Breaks}
-use Rattle.pst_ast.specs.Sorts.{is_handle, is_need, is_state, same_name, same_scope}
+use Rattle.pst_ast.specs.Sorts.{is_handle, is_claim, is_need, is_state, same_name, same_scope}
 use Rattle.pst_ast.specs.Lookups.{Environment, Referent, Declared, Initial, Previous, Number, referent, is_text, is_item_at, field_of, member_of, type_of, stands_for}
 
 abbrev pub and_then : {X Y : Type 0} → Checked X → (X → Checked Y) → Checked Y
@@ -64,6 +64,15 @@ is_last (Initial object) = true
 is_last (Number object) = true
 is_last (Previous object) = false
 
+-- What its index is judged as, whatever else it is: a field, which is an array or none.
+abbrev pub as_field : Referent → Referent
+as_field (Declared d) = Declared (record d { sort = sort.Field (is_array_sort d.sort) })
+as_field r = r
+
+-- an array without an index, something else with one, or something else than an array in a `foreach`
+abbrev pub is_misindexed : (Referent → Bool → Bool) → Referent → Bool → Bool
+is_misindexed fits r index = not (fits (as_field r) index)
+
 -- ---- names behind a dot
 
 -- `initial` behind a reference to a state, `instance_id` behind a claim
@@ -77,8 +86,12 @@ abbrev pub member_behind : List Declaration → List (List ℕ) → Sort → Dec
 member_behind ds names head type name =
     if is_handle head then referent (member_of ds type name) else option_or (referent (field_of ds type name)) (word_behind names head type name)
 
+-- Behind a claim `instance_id` is there whatever the claim's type name stands for; where it stands for no object type, the claim's own.
+abbrev pub untyped_behind : List (List ℕ) → Declaration → NameId → Option Referent
+untyped_behind names head name = if is_claim head.sort && is_text names (codes "instance_id") name then Some (Number head) else None
+
 abbrev pub named_behind : List Declaration → List (List ℕ) → Referent → NameId → Option Referent
-named_behind ds names (Declared d) name = option_and_then (λ type. member_behind ds names d.sort type name) (type_of ds d)
+named_behind ds names (Declared d) name = option_map_or (λ type. member_behind ds names d.sort type name) (type_of ds d) (untyped_behind names d name)
 named_behind ds names (Previous object) name = referent (field_of ds object name)
 named_behind ds names _ name = None
 
@@ -91,20 +104,20 @@ abbrev pub is_need_referent : Referent → Bool
 is_need_referent (Declared d) = is_need d.sort
 is_need_referent _ = false
 
--- the name behind the last dot: what may stand there, and fits
+-- The name behind the last dot. Its index is looked at first, then what may stand there.
 abbrev pub last_behind : (Referent → Bool → Bool) → List Referent → PathPart → Option Referent → Checked PathReferent
 last_behind fits before p None = Breaks p.name.place 6
 last_behind fits before p (Some r) =
-    if not (is_last r) then Breaks p.name.place 6
-    else (if fits r p.index then Is (record { before = before; last = r }) else Breaks p.name.place 3)
+    if is_misindexed fits r p.index then Breaks p.name.place 3
+    else (if is_last r then Is (record { before = before; last = r }) else Breaks p.name.place 6)
 
--- A name between two dots. Behind a value no dot may stand, so there the name after it is wrong.
+-- A name between two dots. Its index is looked at first; behind a value no dot may stand, so there the name after it is wrong.
 abbrev pub between : Referent → PathPart → Place → Option Referent → Checked Referent
 between head p next None = Breaks p.name.place 6
 between head p next (Some r) =
-    if is_last r then (if is_value r p.index then Breaks next 6 else Breaks p.name.place 3)
-    else (if not (is_handle_referent head && is_need_referent r) then Breaks p.name.place 6
-    else (if p.index then Breaks p.name.place 3 else Is r))
+    if is_misindexed is_value r p.index then Breaks p.name.place 3
+    else (if is_last r then Breaks next 6
+    else (if is_handle_referent head && is_need_referent r then Is r else Breaks p.name.place 6))
 
 -- the names behind a head, of which no name is wrong so far
 abbrev pub behind : List Declaration → List (List ℕ) → (Referent → Bool → Bool) → List Referent → Referent → PathPart → List PathPart → Checked PathReferent

@@ -115,6 +115,8 @@ pub use scope_declaration::Sort;
 pub use scope_laws::members_are_tried;
 pub use scope_laws::name_breaches_have_one_least;
 pub use scope_laws::names_are_tried;
+pub use scope_laws::paths_are_tried;
+pub use scope_laws::paths_have_one_answer;
 pub use scope_laws::scopes_are_one;
 pub use shared::DomainNode;
 pub use shared::DotName;

@@ -36,7 +36,8 @@ pub enum Referent {
     Initial(Declaration),
     /// The object that an object of a state type replaces.
     Previous(Declaration),
-    /// The number of a resource in its pool.
+    /// The number of a resource in its pool, of that type; of that claim, where the name of the
+    /// claim's type stands for no type of objects.
     Number(Declaration),
 }
 
