@@ -4,7 +4,7 @@ ghost use Rattle.pst_ast.specs.Paths;
 ghost use Rattle.pst_ast.specs.Sorts;
 ghost use Rattle.pst_index.specs.Fitting.{fits_of};
 
-use pst_ast::{Referent, Sort};
+use pst_ast::{Declaration, Referent, Sort};
 
 /// What a path is read for.
 #[derive(Clone, Copy, PartialEq, Eq)]
@@ -26,8 +26,8 @@ fn is_value_sort(sort: Sort, index: bool) -> bool
     }
 }
 
-/// Whether it is a value.
-pub fn is_value(referent: &Referent, index: bool) -> bool
+// Whether it is a value.
+fn is_value(referent: &Referent, index: bool) -> bool
     ensures { result ≡ Paths.is_value referent.now index }
 {
     match referent {
@@ -37,14 +37,19 @@ pub fn is_value(referent: &Referent, index: bool) -> bool
     }
 }
 
+// Whether a sort is that of an array.
+fn is_array_sort(sort: Sort) -> bool
+    ensures { result ≡ Paths.is_array_sort sort }
+{
+    matches!(sort, Sort::Field { array: true })
+}
+
 // Whether it is an array.
 fn is_array(referent: &Referent, index: bool) -> bool
     ensures { result ≡ Paths.is_array referent.now index }
 {
     match referent {
-        Referent::Declared(declaration) => {
-            matches!(declaration.sort, Sort::Field { array: true })
-        }
+        Referent::Declared(declaration) => is_array_sort(declaration.sort),
         _ => false,
     }
 }
@@ -57,6 +62,29 @@ pub fn fits(what: PathFor, referent: &Referent, index: bool) -> bool
         PathFor::Value => is_value(referent, index),
         PathFor::Array => is_array(referent, index),
     }
+}
+
+// A field, which is an array or none, in the place of what is declared.
+fn as_field(referent: &Referent) -> Referent
+    ensures { result ≡ Paths.as_field referent.now }
+{
+    match referent {
+        Referent::Declared(declaration) => Referent::Declared(Declaration {
+            sort: Sort::Field {
+                array: is_array_sort(declaration.sort),
+            },
+            ..*declaration
+        }),
+        other => *other,
+    }
+}
+
+/// Whether it is an array without an index, something else with one, or something else than an
+/// array in a `foreach`; whether it may stand there isn't asked.
+pub fn is_misindexed(what: PathFor, referent: &Referent, index: bool) -> bool
+    ensures { result ≡ Paths.is_misindexed (fits_of what) referent.now index }
+{
+    !fits(what, &as_field(referent), index)
 }
 
 /// Whether a sort is that of a handle.

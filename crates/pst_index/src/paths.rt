@@ -5,7 +5,8 @@ ghost use Rattle.pst_index.specs.Fitting.{fits_of};
 
 use crate::Index;
 use crate::ends::{
-    PathFor, fits, is_handle, is_handle_referent, is_head, is_last, is_need_referent, is_value,
+    PathFor, fits, is_handle, is_handle_referent, is_head, is_last, is_misindexed,
+    is_need_referent,
 };
 use crate::values::stands_for;
 use crate::words::{is_state, is_text};
@@ -48,21 +49,31 @@ fn member_behind(
     }
 }
 
+// `instance_id` behind a claim whose type name stands for no type of objects.
+fn untyped_behind(names: &Names, head: &Declaration, name: NameId) -> Option<Referent>
+    ensures { result ≡ Paths.untyped_behind names.now head.now name }
+{
+    match head.sort {
+        Sort::Claim { .. } if is_text(names, "instance_id", name) => Some(Referent::Number(*head)),
+        _ => None,
+    }
+}
+
 // What stands behind a name and a dot.
 fn named_behind(index: &Index, names: &Names, head: &Referent, name: NameId) -> Option<Referent>
     ensures { result ≡ Paths.named_behind index.now names.now head.now name }
 {
     match head {
-        Referent::Declared(declaration) => {
-            let type_ = index.type_of(declaration)?;
-            member_behind(index, names, declaration.sort, &type_, name)
-        }
+        Referent::Declared(declaration) => match index.type_of(declaration) {
+            Some(type_) => member_behind(index, names, declaration.sort, &type_, name),
+            None => untyped_behind(names, declaration, name),
+        },
         Referent::Previous(object) => index.field_of(object, name).map(Referent::Declared),
         _ => None,
     }
 }
 
-// The name behind the last dot.
+// The name behind the last dot: its index first, then what may stand there.
 fn last_behind(
     what: PathFor,
     before: Items<Referent>,
@@ -71,25 +82,21 @@ fn last_behind(
 ) -> Checked<PathReferent>
     ensures { result ≡ Paths.last_behind (fits_of what) before part found }
 {
-    match found {
-        Some(last) if is_last(&last) => {
-            if fits(what, &last, part.index) {
-                Checked::Is(PathReferent { before, last })
-            } else {
-                Checked::Breaks {
-                    place: part.name.place,
-                    rule: 3,
-                }
-            }
-        }
-        _ => Checked::Breaks {
-            place: part.name.place,
-            rule: 6,
-        },
+    let place = part.name.place;
+    let Some(last) = found else {
+        return Checked::Breaks { place, rule: 6 };
+    };
+    if is_misindexed(what, &last, part.index) {
+        return Checked::Breaks { place, rule: 3 };
+    }
+    if is_last(&last) {
+        Checked::Is(PathReferent { before, last })
+    } else {
+        Checked::Breaks { place, rule: 6 }
     }
 }
 
-// A name between two dots.
+// A name between two dots: its index first, then what may stand there.
 fn between(
     head: &Referent,
     part: PathPart,
@@ -102,22 +109,20 @@ fn between(
     let Some(referent) = found else {
         return Checked::Breaks { place, rule: 6 };
     };
+    if is_misindexed(PathFor::Value, &referent, part.index) {
+        return Checked::Breaks { place, rule: 3 };
+    }
     if is_last(&referent) {
-        if is_value(&referent, part.index) {
-            return Checked::Breaks {
-                place: next,
-                rule: 6,
-            };
-        }
-        return Checked::Breaks { place, rule: 3 };
+        return Checked::Breaks {
+            place: next,
+            rule: 6,
+        };
     }
-    if !(is_handle_referent(head) && is_need_referent(&referent)) {
-        return Checked::Breaks { place, rule: 6 };
+    if is_handle_referent(head) && is_need_referent(&referent) {
+        Checked::Is(referent)
+    } else {
+        Checked::Breaks { place, rule: 6 }
     }
-    if part.index {
-        return Checked::Breaks { place, rule: 3 };
-    }
-    Checked::Is(referent)
 }
 
 // A name without dots.

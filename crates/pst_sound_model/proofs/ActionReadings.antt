@@ -17,7 +17,7 @@ use Rattle.pst_ast.specs.declared.referent.Referent.TheVariants.{Declared, Initi
 use Rattle.pst_ast.specs.declared.referent.PathPart.{PathPart}
 use Rattle.pst_ast.specs.Sorts.{is_action, is_field, is_state, is_reference, is_claim, is_handle}
 use Rattle.pst_ast.specs.Lookups.{type_named, base_in, action_beside, base_of, member_of, field_of, owned, referent, is_text, type_of, stands_for}
-use Rattle.pst_ast.specs.Paths.{is_head, is_last, is_last_sort, is_head_sort, word_behind, member_behind, named_behind, is_handle_referent}
+use Rattle.pst_ast.specs.Paths.{is_head, is_last, is_last_sort, is_head_sort, word_behind, member_behind, untyped_behind, named_behind, is_handle_referent}
 use Rattle.pst_tree.specs.Bases.{bases_within, fields_of, references_of, claims_of, handles_of, reference_number, claim_number, handle_number}
 use Rattle.pst_tree.proofs.InheritedDeclared.{base_there}
 use Rattle.pst_terms.specs.Sources.{Sources, declared_in}
@@ -97,6 +97,24 @@ last_is_field sort.Parameter e = absurd (false≢true e)
 last_is_field sort.Local e = absurd (false≢true e)
 last_is_field sort.Index e = absurd (false≢true e)
 
+handle_no_claim : (so : Sort) → is_handle so ≡ true → is_claim so ≡ true → ⊥
+handle_no_claim sort.Component handle claim = absurd (false≢true claim)
+handle_no_claim (sort.Action base) handle claim = absurd (false≢true claim)
+handle_no_claim (sort.Object word) handle claim = absurd (false≢true claim)
+handle_no_claim sort.Enumeration handle claim = absurd (false≢true claim)
+handle_no_claim sort.Function handle claim = absurd (false≢true claim)
+handle_no_claim (sort.Instance of) handle claim = absurd (false≢true claim)
+handle_no_claim (sort.Pool of) handle claim = absurd (false≢true claim)
+handle_no_claim (sort.Item level) handle claim = absurd (false≢true claim)
+handle_no_claim (sort.Field array) handle claim = absurd (false≢true claim)
+handle_no_claim (sort.Reference of output) handle claim = absurd (false≢true claim)
+handle_no_claim (sort.Claim of) handle claim = absurd (false≢true handle)
+handle_no_claim (sort.Handle of) handle claim = absurd (false≢true claim)
+handle_no_claim sort.Constraint handle claim = absurd (false≢true claim)
+handle_no_claim sort.Parameter handle claim = absurd (false≢true claim)
+handle_no_claim sort.Local handle claim = absurd (false≢true claim)
+handle_no_claim sort.Index handle claim = absurd (false≢true claim)
+
 module _ (s : Sources) where
   -- fields, and parts of references and claims, of an action
   pub data IsOwnRow (owner : Declaration) (slot : SlotTree) (first count : ℕ) : Type 0 where
@@ -167,6 +185,25 @@ module _ (s : Sources) where
     need_good sort.Parameter a b name last e = tt
     need_good sort.Local a b name last e = tt
     need_good sort.Index a b name last e = tt
+
+  -- the number of a claim, whatever its type
+  number_good : (owner c object : Declaration) (so : Sort) → is_claim so ≡ true → In c (claims_of (declared_in s) owner) → IsGood (IsOwnRow owner) (need_reading s owner c so (Number object))
+  number_good owner c object sort.Component e there = absurd (false≢true e)
+  number_good owner c object (sort.Action base) e there = absurd (false≢true e)
+  number_good owner c object (sort.Object word) e there = absurd (false≢true e)
+  number_good owner c object sort.Enumeration e there = absurd (false≢true e)
+  number_good owner c object sort.Function e there = absurd (false≢true e)
+  number_good owner c object (sort.Instance of) e there = absurd (false≢true e)
+  number_good owner c object (sort.Pool of) e there = absurd (false≢true e)
+  number_good owner c object (sort.Item level) e there = absurd (false≢true e)
+  number_good owner c object (sort.Field array) e there = absurd (false≢true e)
+  number_good owner c object (sort.Reference of output) e there = absurd (false≢true e)
+  number_good owner c object (sort.Claim of) e there = good_thing s (IsOwnRow owner) (ClaimId (claim_number (declared_in s) owner c)) refl (OfClaim c there refl refl refl)
+  number_good owner c object (sort.Handle of) e there = absurd (false≢true e)
+  number_good owner c object sort.Constraint e there = absurd (false≢true e)
+  number_good owner c object sort.Parameter e there = absurd (false≢true e)
+  number_good owner c object sort.Local e there = absurd (false≢true e)
+  number_good owner c object sort.Index e there = absurd (false≢true e)
 
   -- ---- through a handle
 
@@ -246,13 +283,29 @@ module _ (s : Sources) where
 
       -- ---- behind a member
 
-      -- what a name behind a handle, reference or claim stands for
-      typed_behind : (h : Declaration) (name : NameId) (r : Referent) → named_behind (declared_in s) s.names (Declared h) name ≡ Some r → (t : Declaration) × (type_of (declared_in s) h ≡ Some t) × (member_behind (declared_in s) s.names h.sort t name ≡ Some r)
-      typed_behind h name r e = by (type_of (declared_in s) h) refl e
+      -- what a name behind a handle, reference or claim stands for: a member of its type, or the number of a claim without one
+      abbrev IsTyped : Declaration → NameId → Referent → Type 0
+      IsTyped h name r = (t : Declaration) × (type_of (declared_in s) h ≡ Some t) × (member_behind (declared_in s) s.names h.sort t name ≡ Some r)
+
+      untyped_is : (h : Declaration) (r : Referent) (claim text : Bool) → (if claim && text then Some (Number h) else None) ≡ Some r → (claim ≡ true) × (Number h ≡ r)
+      untyped_is h r true true e = (refl, same_Some (Number h) r e)
+      untyped_is h r true false e = absurd (none-some r e)
+      untyped_is h r false text e = absurd (none-some r e)
+
+      typed_or_number : (h : Declaration) (name : NameId) (r : Referent) → named_behind (declared_in s) s.names (Declared h) name ≡ Some r → IsTyped h name r ⊎ ((is_claim h.sort ≡ true) × (Number h ≡ r))
+      typed_or_number h name r e = by (type_of (declared_in s) h) refl e
         where
-          by : (o : Option Declaration) → type_of (declared_in s) h ≡ o → option_and_then (λ type. member_behind (declared_in s) s.names h.sort type name) o ≡ Some r → (t : Declaration) × (type_of (declared_in s) h ≡ Some t) × (member_behind (declared_in s) s.names h.sort t name ≡ Some r)
-          by None had e = absurd (none-some r e)
-          by (Some t) had e = (t, had, e)
+          by : (o : Option Declaration) → type_of (declared_in s) h ≡ o → option_map_or (λ type. member_behind (declared_in s) s.names h.sort type name) o (untyped_behind s.names h name) ≡ Some r
+              → IsTyped h name r ⊎ ((is_claim h.sort ≡ true) × (Number h ≡ r))
+          by None had e = inr (untyped_is h r (is_claim h.sort) (is_text s.names (codes "instance_id") name) e)
+          by (Some t) had e = inl (t, had, e)
+
+      typed_behind : (h : Declaration) (name : NameId) (r : Referent) → is_handle h.sort ≡ true → named_behind (declared_in s) s.names (Declared h) name ≡ Some r → IsTyped h name r
+      typed_behind h name r handle e = by (typed_or_number h name r e)
+        where
+          by : IsTyped h name r ⊎ ((is_claim h.sort ≡ true) × (Number h ≡ r)) → IsTyped h name r
+          by (inl typed) = typed
+          by (inr number) = absurd (handle_no_claim h.sort handle number.0)
 
       of_handle : (h t : Declaration) (name : NameId) (r : Referent) → is_handle h.sort ≡ true → member_behind (declared_in s) s.names h.sort t name ≡ Some r → (d : Declaration) × (member_of (declared_in s) t name ≡ Some d) × (r ≡ Declared d)
       of_handle h t name r handle e = by (is_handle h.sort) handle (member_of (declared_in s) t name) refl e
@@ -265,9 +318,12 @@ module _ (s : Sources) where
 
       need_of_member : (of from : Declaration) (name : NameId) → member_of (declared_in s) from name ≡ Some of → (next : NameId) (r : Referent) → named_behind (declared_in s) s.names (Declared of) next ≡ Some r
           → IsGood (IsOwnRow from) (need_reading s from of of.sort r)
-      need_of_member of from name e next r named =
-          let t = typed_behind of next r named in
-          need_good from of t.0 t.1 of.sort (λ h. of_sort (declared_in s) from name of is_reference e h) (λ h. of_sort (declared_in s) from name of is_claim e h) next r t.2
+      need_of_member of from name e next r named = by (typed_or_number of next r named)
+        where
+          by : IsTyped of next r ⊎ ((is_claim of.sort ≡ true) × (Number of ≡ r)) → IsGood (IsOwnRow from) (need_reading s from of of.sort r)
+          by (inl t) = need_good from of t.0 t.1 of.sort (λ h. of_sort (declared_in s) from name of is_reference e h) (λ h. of_sort (declared_in s) from name of is_claim e h) next r t.2
+          by (inr number) =
+              subst (λ (x : Referent). IsGood (IsOwnRow from) (need_reading s from of of.sort x)) number.1 (number_good from of of of.sort number.0 (of_sort (declared_in s) from name of is_claim e number.0))
 
       through : (h a : Declaration) (name : NameId) → member_of (declared_in s) owner name ≡ Some h → is_handle h.sort ≡ true → type_of (declared_in s) h ≡ Some a → Steady h → (before : List Referent) (r : Referent) → IsGood (IsOwnRow a) (handle_reading s (Some a) before r)
           → IsGood Row (map_reading (Through (handle_number (declared_in s) owner h)) (handle_reading s (type_of (declared_in s) h) before r))
@@ -285,7 +341,7 @@ module _ (s : Sources) where
         where
           by : (b : Bool) → is_handle h.sort ≡ b → IsGood Row (if b then map_reading (Through (handle_number (declared_in s) owner h)) (handle_reading s (type_of (declared_in s) h) [] r) else need_reading s owner h h.sort r)
           by true handle =
-              let t = typed_behind h next r named in
+              let t = typed_behind h next r handle named in
               let d = of_handle h t.0 next r handle t.2 in
               through h t.0 name e handle t.1 (steady handle) [] r
               (subst (λ (x : Referent). IsGood (IsOwnRow t.0) (handle_reading s (Some t.0) [] x)) (sym d.2) (field_behind t.0 d.0 next d.1 (subst (λ (x : Referent). is_last x ≡ true) d.2 last)))
@@ -294,7 +350,7 @@ module _ (s : Sources) where
       twice_member : (h : Declaration) (n : Referent) (name next after : NameId) (r : Referent) → member_of (declared_in s) owner name ≡ Some h → is_handle h.sort ≡ true → Steady h → named_behind (declared_in s) s.names (Declared h) next ≡ Some n
           → named_behind (declared_in s) s.names n after ≡ Some r → IsGood Row (behind_reading s owner (Declared h) (n ∷ []) r)
       twice_member h n name next after r e handle steady named also =
-          let t = typed_behind h next n named in
+          let t = typed_behind h next n handle named in
           let d = of_handle h t.0 next n handle t.2 in
           subst (λ (b : Bool). IsGood Row (if b then map_reading (Through (handle_number (declared_in s) owner h)) (handle_reading s (type_of (declared_in s) h) (n ∷ []) r) else need_reading s owner h h.sort r)) (sym handle)
           (through h t.0 name e handle t.1 steady (n ∷ []) r

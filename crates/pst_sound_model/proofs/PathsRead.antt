@@ -15,7 +15,7 @@ use Rattle.pst_ast.specs.declared.referent.PathReferent.{PathReferent}
 use Rattle.pst_ast.specs.declared.referent.Checked.{Checked}
 use Rattle.pst_ast.specs.declared.referent.Checked.TheVariants.{Is, Breaks}
 use Rattle.pst_ast.specs.Lookups.{stands_for}
-use Rattle.pst_ast.specs.Paths.{is_value, is_head, is_last, named_behind, is_handle_referent, is_need_referent, last_behind, between, behind, is_ambiguous, alone, first_of, and_then, read_path}
+use Rattle.pst_ast.specs.Paths.{is_value, is_head, is_last, is_misindexed, named_behind, is_handle_referent, is_need_referent, last_behind, between, behind, is_ambiguous, alone, first_of, and_then, read_path}
 use Rattle.pst_ast.specs.Sorts.{is_handle, is_need}
 
 module _ (ds : List Declaration) (names : List (List ℕ)) (at : Environment) (p : PathPart) where
@@ -55,27 +55,26 @@ module _ (ds : List Declaration) (names : List (List ℕ)) (at : Environment) (p
 
   last_by : (before : List Referent) (q : PathPart) (o : Option Referent) (path : PathReferent) → last_behind is_value before q o ≡ Is path → (r : Referent) × (o ≡ Some r) × (is_last r ≡ true) × (path ≡ record { before = before; last = r })
   last_by before q None path e = absurd (no_break path q.name.place 6 e)
-  last_by before q (Some r) path e = by (is_last r) refl (is_value r q.index) e
+  last_by before q (Some r) path e = by (is_misindexed is_value r q.index) (is_last r) refl e
     where
-      by : (b : Bool) → is_last r ≡ b → (a : Bool) → (if not b then Breaks q.name.place 6 else (if a then Is (record { before = before; last = r }) else Breaks q.name.place 3)) ≡ Is path
+      by : (m l : Bool) → is_last r ≡ l → (if m then Breaks q.name.place 3 else (if l then Is (record { before = before; last = r }) else Breaks q.name.place 6)) ≡ Is path
           → (x : Referent) × (Some r ≡ Some x) × (is_last x ≡ true) × (path ≡ record { before = before; last = x })
-      by false last a e = absurd (no_break path q.name.place 6 e)
-      by true last true e = (r, refl, last, sym (is_same (record { before = before; last = r }) path e))
-      by true last false e = absurd (no_break path q.name.place 3 e)
+      by true l last e = absurd (no_break path q.name.place 3 e)
+      by false true last e = (r, refl, last, sym (is_same (record { before = before; last = r }) path e))
+      by false false last e = absurd (no_break path q.name.place 6 e)
 
   between_by : (head : Referent) (q : PathPart) (next : Place) (o : Option Referent) (n : Referent) → between head q next o ≡ Is n → (o ≡ Some n) × (is_handle_referent head ≡ true) × (is_need_referent n ≡ true)
   between_by head q next None n e = absurd (no_break n q.name.place 6 e)
-  between_by head q next (Some r) n e = by (is_last r) (is_value r q.index) (is_handle_referent head) (is_need_referent r) refl refl q.index e
+  between_by head q next (Some r) n e = by (is_misindexed is_value r q.index) (is_last r) (is_handle_referent head) (is_need_referent r) refl refl e
     where
-      by : (l v h w : Bool) → is_handle_referent head ≡ h → is_need_referent r ≡ w → (i : Bool)
-          → (if l then (if v then Breaks next 6 else Breaks q.name.place 3) else (if not (h && w) then Breaks q.name.place 6 else (if i then Breaks q.name.place 3 else Is r))) ≡ Is n
+      by : (m l h w : Bool) → is_handle_referent head ≡ h → is_need_referent r ≡ w
+          → (if m then Breaks q.name.place 3 else (if l then Breaks next 6 else (if h && w then Is r else Breaks q.name.place 6))) ≡ Is n
           → (Some r ≡ Some n) × (is_handle_referent head ≡ true) × (is_need_referent n ≡ true)
-      by true true h w a b i e = absurd (no_break n next 6 e)
-      by true false h w a b i e = absurd (no_break n q.name.place 3 e)
-      by false v false w a b i e = absurd (no_break n q.name.place 6 e)
-      by false v true false a b i e = absurd (no_break n q.name.place 6 e)
-      by false v true true a b true e = absurd (no_break n q.name.place 3 e)
-      by false v true true a b false e = let same : r ≡ n = is_same r n e in (ap (λ (x : Referent). Some x) same, a, subst (λ (x : Referent). is_need_referent x ≡ true) same b)
+      by true l h w a b e = absurd (no_break n q.name.place 3 e)
+      by false true h w a b e = absurd (no_break n next 6 e)
+      by false false false w a b e = absurd (no_break n q.name.place 6 e)
+      by false false true false a b e = absurd (no_break n q.name.place 6 e)
+      by false false true true a b e = let same : r ≡ n = is_same r n e in (ap (λ (x : Referent). Some x) same, a, subst (λ (x : Referent). is_need_referent x ≡ true) same b)
 
   sort_not_handle : (s : Sort) → is_need s ≡ true → is_handle s ≡ true → ⊥
   sort_not_handle sort.Component n h = false≢true n
