@@ -18,7 +18,7 @@ use pst_bind::PoolMap;
 use pst_elab_rules::ElabEnd;
 use pst_index::Index;
 use pst_names::{RuleEnd, resolve_by};
-use pst_tree::{Tree, TreeEnd, instances};
+use pst_tree::{Tree, TreeEnd, instances_by};
 use pst_type_rules::Typed;
 use pst_types::check_by;
 use std::alloc::Global;
@@ -85,7 +85,7 @@ fn judged_typed(
     ensures judged { IfOk result (IsJudged (map view_unit units.now) names.now words.now.component.now words.now.action.now) }
     ensures end { IfErr result (IsEnd (map view_unit units.now) names.now words.now.component.now words.now.action.now) }
 {
-    match instances(alloc, units, names, scopes) {
+    match instances_by(alloc, units, index, names, scopes) {
         Ok(tree) => judged_last(alloc, units, index, names, words, typed, tree),
         Err(TreeEnd::Many { count }) => Err(ElabEnd::Many { count }),
         Err(TreeEnd::NoMemory) => Err(ElabEnd::NoMemory),

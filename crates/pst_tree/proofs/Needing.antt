@@ -5,7 +5,6 @@ use Rattle.std.specs.List.{filter, flat_map}
 use Rattle.std.specs.Option.{option_map_or}
 use Rattle.std.specs.HashMap.{get}
 use Rattle.std.proofs.lemmas.List.{drop_more, reverse-append}
-use Rattle.std.proofs.lemmas.List.Elements.{filter-append}
 use Rattle.pst_base.specs.declared.position.Place.{Place}
 use Rattle.pst_ast.specs.declared.scope_declaration.Declaration.{Declaration}
 use Rattle.pst_ast.specs.declared.scope_declaration.Sort.{Sort}
@@ -15,10 +14,10 @@ use Rattle.pst_ast.specs.Lookups.{base_of}
 use Rattle.pst_ast.specs.Sorts.{is_need, is_reference, is_claim, same_scope}
 use Rattle.pst_tree.specs.declared.rows.Member.TheVariants as member
 use Rattle.pst_tree.specs.declared.rows.Rows.{Rows}
-use Rattle.pst_tree.specs.Members.{members_at, place_key, row_in, same_key}
+use Rattle.pst_tree.specs.Members.{place_key, row_in, same_key}
 use Rattle.pst_tree.specs.Kept.{AreRows}
-use Rattle.pst_type_rules.specs.Members.{those_that, own_members}
-use Rattle.pst_tree.specs.Bases.{bases_within, with_bases, members, needs_of}
+use Rattle.pst_type_rules.specs.Members.{those_that}
+use Rattle.pst_tree.specs.Bases.{bases_within}
 use Rattle.pst_tree.specs.Needed.{needs_within}
 
 -- a declaration where one has to stand
@@ -104,13 +103,3 @@ module _ (ds : List Declaration) (rows : Rows) (are : AreRows member.Need ds row
 
   pub claims_in : those_that is_claim (row_in (get same_key rows.rows (place_key type.name.place))) ≡ needs_within is_claim ds type
   claims_in = ap (those_that is_claim) (are (place_key type.name.place)) ∙ narrowed is_claim is_need claim_needed type.name.place ds
-
--- ---- all that a type has
-
-those_of_each : (test : Sort → Bool) (ds bases : List Declaration) → those_that test (flat_map (own_members ds) bases) ≡ flat_map (needs_within test ds) bases
-those_of_each test ds [] = refl
-those_of_each test ds (d ∷ more) =
-    filter-append (λ x. test x.sort) (own_members ds d) (flat_map (own_members ds) more) ∙ ap (λ (xs : List Declaration). needs_within test ds d ++ xs) (those_of_each test ds more)
-
-pub needs_are : (ds : List Declaration) (d : Declaration) → flat_map (needs_within is_reference ds) (with_bases ds d) ++ flat_map (needs_within is_claim ds) (with_bases ds d) ≡ needs_of ds d
-needs_are ds d = λ i. sym (those_of_each is_reference ds (with_bases ds d)) i ++ sym (those_of_each is_claim ds (with_bases ds d)) i

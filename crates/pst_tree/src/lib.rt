@@ -13,7 +13,7 @@ mod sources;
 mod tree;
 mod walk;
 
-pub use bases::{needs_of, with_bases};
+pub use bases::with_bases;
 pub use inherited_laws::{bases_are_tried, members_are_found};
 pub use key::{PlaceKey, place_key};
 pub use laws::{
@@ -21,5 +21,5 @@ pub use laws::{
 };
 pub use rows::{Member, Rows};
 pub use sites::{ActionSite, ContentSort, Sites};
-pub use sources::instances;
+pub use sources::{instances, instances_by};
 pub use tree::{Tree, TreeEnd};

@@ -83,18 +83,36 @@ fn instances_in(
     }
 }
 
-// The instances of sources; none where there are more than the limit.
-fn instances_of(
-    alloc: Global,
-    units: &[Unit],
-    names: &Names,
-) -> Result<Option<Vec<Instance>>, NoMemory>
-    requires { IsNone (NameBreach (map view_unit units.now) names.now) }
-    ensures { IfOk result (AreFound (map view_unit units.now) names.now) }
+// The index of what sources declare.
+fn index_of(alloc: Global, units: &[Unit]) -> Result<Index, NoMemory>
+    ensures { IfOk result (λ index. index ≡ the_declarations (map view_unit units.now)) }
 {
     let declared = declarations(alloc, units)?;
-    let index = Index::new(alloc, declared)?;
-    instances_in(alloc, units, &index, names)
+    Index::new(alloc, declared)
+}
+
+/// What `instances` answers, given the index of what the sources declare.
+pub fn instances_by(
+    alloc: Global,
+    units: &[Unit],
+    index: &Index,
+    names: &Names,
+    scopes: &Scopes,
+) -> Result<Tree, TreeEnd>
+    requires declared { index.now ≡ the_declarations (map view_unit units.now) }
+    requires kept { IsNone (NameBreach (map view_unit units.now) names.now) }
+    requires scopes { AreScopes (map view_unit units.now) names.now scopes.now.types scopes.now.meanings }
+    ensures are { IfOk result (λ tree. AreInstances (map view_unit units.now) names.now tree.instances) }
+    ensures few { IfOk result (λ tree. length tree.instances ≤ 256) }
+    ensures end { IfErr result (λ end. IsTreeEnd (map view_unit units.now) names.now end) }
+{
+    match instances_in(alloc, units, index, names) {
+        Ok(Some(instances)) => Ok(Tree {
+            instances: Items::from_vec(instances),
+        }),
+        Ok(None) => Err(TreeEnd::Many { count: 257 }),
+        Err(NoMemory) => Err(TreeEnd::NoMemory),
+    }
 }
 
 /// The component instances of sources that keep the rules of names, in preorder.
@@ -114,11 +132,8 @@ pub fn instances(
     ensures few { IfOk result (λ tree. length tree.instances ≤ 256) }
     ensures end { IfErr result (λ end. IsTreeEnd (map view_unit units.now) names.now end) }
 {
-    match instances_of(alloc, units, names) {
-        Ok(Some(instances)) => Ok(Tree {
-            instances: Items::from_vec(instances),
-        }),
-        Ok(None) => Err(TreeEnd::Many { count: 257 }),
+    match index_of(alloc, units) {
+        Ok(index) => instances_by(alloc, units, &index, names, scopes),
         Err(NoMemory) => Err(TreeEnd::NoMemory),
     }
 }
