@@ -10,7 +10,7 @@ use Rattle.pst_scen.specs.declared.event.Event.{Event}
 use Rattle.pst_scen.specs.declared.event.Event.TheVariants.{Start, End}
 use Rattle.pst_scen.specs.declared.scenario.Scenario.{Scenario}
 use Rattle.pst_scen.specs.Plan.{Entries}
-use Rattle.pst_scen.specs.Trace.{Runs, IsWhole}
+use Rattle.pst_scen.specs.Trace.{Runs, IsWhole, Prefix}
 use Rattle.pst_scen.specs.Core.{Core, Command, Open, commands_of}
 use Rattle.pst_legal.specs.Body.{BodyRun, Ended as BodyEnded, Trap, Wants, body_run}
 use Rattle.pst_legal.specs.Runs.{AreRuns}
@@ -93,8 +93,8 @@ going_serial m old middle before between fewer faults going lanes = record {
 
 pub book_of : (s : Scenario) (plan : Entries) (old new : View) (trace : List Event) (commands : List Command)
     → old ≡ record { scenario = s; plan = plan; lanes = 1; trace = [] } → new ≡ with_trace old trace → commands_of trace ≡ commands
-    → Core new.scenario new.lanes (commands_of new.trace) new.trace → IsBookOf s plan commands new
-book_of s plan old new trace commands first new_is are core =
+    → Core new.scenario new.lanes (commands_of new.trace) new.trace → Prefix new.scenario new.lanes new.trace → IsBookOf s plan commands new
+book_of s plan old new trace commands first new_is are core begins =
     let is : new ≡ record { scenario = s; plan = plan; lanes = 1; trace = trace } = new_is ∙ ap (λ (v : View). with_trace v trace) first in
     record {
       scenario = ap (λ (v : View). v.scenario) is;
@@ -102,16 +102,17 @@ book_of s plan old new trace commands first new_is are core =
       lanes = ap (λ (v : View). v.lanes) is;
       core = subst (λ (v : View). Core s 1 commands v.trace) (sym is)
           (subst (λ (cs : List Command). Core s 1 cs trace) are (subst (λ (v : View). Core v.scenario v.lanes (commands_of v.trace) v.trace) is core));
+      prefix = subst (λ (v : View). Prefix s 1 v.trace) (sym is) (subst (λ (v : View). Prefix v.scenario v.lanes v.trace) is begins);
     }
 
 pub ran_whole : (m : ModelTree) (s : Scenario) (plan : Entries) (old new : View) (before after : Option (List Answered)) (fewer more : ℕ)
-    → old ≡ record { scenario = s; plan = plan; lanes = 1; trace = [] } → Core new.scenario new.lanes (commands_of new.trace) new.trace
+    → old ≡ record { scenario = s; plan = plan; lanes = 1; trace = [] } → Core new.scenario new.lanes (commands_of new.trace) new.trace → Prefix new.scenario new.lanes new.trace
     → Going m old new before after fewer more → IsWhole old.scenario new.trace → RanWhole m s plan before after new × (more ≡ fewer)
-ran_whole m s plan old new before after fewer more first core going whole =
+ran_whole m s plan old new before after fewer more first core begins going whole =
     let scenario : old.scenario ≡ s = ap (λ (v : View). v.scenario) first in (
       record {
         actions = going.actions;
-        is_of = book_of s plan old new (events_of going.actions) (turns_of going.actions) first going.new_is (turns_are going.actions) core;
+        is_of = book_of s plan old new (events_of going.actions) (turns_of going.actions) first going.new_is (turns_are going.actions) core begins;
         trace = ap (λ (v : View). v.trace) going.new_is;
         whole = subst (λ (t : Scenario). IsWhole t new.trace) scenario whole;
         made = going.made;
@@ -122,16 +123,16 @@ ran_whole m s plan old new before after fewer more first core going whole =
     )
 
 pub ran_up_to : (m : ModelTree) (s : Scenario) (plan : Entries) (old middle new : View) (before between after : Option (List Answered)) (fewer faults a : ℕ) (to : BodyRun) (part : List Answered)
-    → old ≡ record { scenario = s; plan = plan; lanes = 1; trace = [] } → Core new.scenario new.lanes (commands_of new.trace) new.trace
+    → old ≡ record { scenario = s; plan = plan; lanes = 1; trace = [] } → Core new.scenario new.lanes (commands_of new.trace) new.trace → Prefix new.scenario new.lanes new.trace
     → Going m old middle before between fewer faults → StartsNext middle new a → after ≡ with_calls between part → body_run m old.scenario a part ≡ Some to
     → (ran : RanUpTo m s plan before after a to new) × (ran.runs.part ≡ part)
-ran_up_to m s plan old middle new before between after fewer faults a to part first core going starts calls comes =
+ran_up_to m s plan old middle new before between after fewer faults a to part first core begins going starts calls comes =
     let scenario : old.scenario ≡ s = ap (λ (v : View). v.scenario) first in
     let started : with_trace middle (middle.trace ++ Start a 0 false ∷ []) ≡ with_trace old (events_of going.actions ++ Start a 0 false ∷ []) = ap (λ (v : View). with_trace v (v.trace ++ Start a 0 false ∷ [])) going.new_is in
     let new_is : new ≡ with_trace old (events_of going.actions ++ Start a 0 false ∷ []) = starts.new_is ∙ started in (
       record {
         actions = going.actions;
-        is_of = book_of s plan old new (events_of going.actions ++ Start a 0 false ∷ []) (turns_of going.actions ++ Open ∷ []) first new_is (turns_and_start going.actions a) core;
+        is_of = book_of s plan old new (events_of going.actions ++ Start a 0 false ∷ []) (turns_of going.actions ++ Open ∷ []) first new_is (turns_and_start going.actions a) core begins;
         trace = ap (λ (v : View). v.trace) new_is;
         made = going.made ++ part;
         calls = calls_more before between after going.made part going.calls calls;
@@ -147,15 +148,15 @@ ran_up_to m s plan old middle new before between after fewer faults a to part fi
     )
 
 pub ran_broken : (m : ModelTree) (s : Scenario) (plan : Entries) (old new : View) (before after : Option (List Answered)) (fewer more : ℕ) (action : ℕ) (end : BodyEnd)
-    → old ≡ record { scenario = s; plan = plan; lanes = 1; trace = [] } → Core new.scenario new.lanes (commands_of new.trace) new.trace
+    → old ≡ record { scenario = s; plan = plan; lanes = 1; trace = [] } → Core new.scenario new.lanes (commands_of new.trace) new.trace → Prefix new.scenario new.lanes new.trace
     → RanRest m old new before after fewer more (Err (record { action = action; end = end })) → RunsAlone m s plan before after fewer more (Err (end_of new 0 action end))
-ran_broken m s plan old new before after fewer more a (body.Fault call) first core (middle, between, faults, going, starts, ran) =
+ran_broken m s plan old new before after fewer more a (body.Fault call) first core begins (middle, between, faults, going, starts, ran) =
     let wants = ran.are.0 in
-    let up = ran_up_to m s plan old middle new before between after fewer faults a (Wants wants.0 wants.1) ran.made first core going starts ran.calls wants.2 in
+    let up = ran_up_to m s plan old middle new before between after fewer faults a (Wants wants.0 wants.1) ran.made first core begins going starts ran.calls wants.2 in
     let number : call ≡ length ran.made + 1 = ran.are.1 in
     (refl, record { function = wants.0; arguments = wants.1; ran = up.0; number = number ∙ ap (λ (l : List Answered). length l + 1) (sym up.1) }, subst (λ (n : ℕ). HasRisen n more) going.faults ran.faults)
-ran_broken m s plan old new before after fewer more a (body.Trap kind) first core (middle, between, faults, going, starts, ran) =
-    let up = ran_up_to m s plan old middle new before between after fewer faults a (Trap kind) ran.made first core going starts ran.calls ran.are in
+ran_broken m s plan old new before after fewer more a (body.Trap kind) first core begins (middle, between, faults, going, starts, ran) =
+    let up = ran_up_to m s plan old middle new before between after fewer faults a (Trap kind) ran.made first core begins going starts ran.calls ran.are in
     (refl, up.0, ran.faults ∙ going.faults)
-ran_broken m s plan old new before after fewer more a body.NoMemory first core (middle, between, faults, going, starts, ran) =
+ran_broken m s plan old new before after fewer more a body.NoMemory first core begins (middle, between, faults, going, starts, ran) =
     (going.made ++ ran.made, calls_more before between after going.made ran.made going.calls ran.calls, ran.faults ∙ going.faults)

@@ -2,3 +2,4 @@ mod Serial
 mod Opening
 mod Runs
 mod Going
+mod Blocks

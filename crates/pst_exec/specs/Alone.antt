@@ -8,7 +8,7 @@ use Rattle.pst_scen.specs.declared.event.Event.TheVariants.{Start, End}
 use Rattle.pst_scen.specs.declared.scenario.Scenario.{Scenario}
 use Rattle.pst_scen.specs.Plan.{Entries, widest}
 use Rattle.pst_scen.specs.Core.{Command, Open, Close, Core}
-use Rattle.pst_scen.specs.Trace.{IsWhole}
+use Rattle.pst_scen.specs.Trace.{IsWhole, Prefix}
 use Rattle.pst_legal.specs.Body.{BodyRun, Trap, Wants}
 use Rattle.pst_legal.specs.Runs.{AreRuns, AreRunsUpTo}
 use Rattle.pst_book.specs.Books.{View}
@@ -28,12 +28,13 @@ abbrev pub events_of : List ℕ → List Event
 events_of [] = []
 events_of (a ∷ more) = Start a 0 false ∷ End a ∷ events_of more
 
--- a book of the scenario and its plan on one lane, whose trace the core makes of these commands
+-- a book of the scenario and its plan on one lane; the core makes its trace of these commands, and it begins a whole legal trace
 pub record IsBookOf (s : Scenario) (plan : Entries) (commands : List Command) (book : View) : Type 0 where
   pub scenario : book.scenario ≡ s
   pub planned : book.plan ≡ plan
   pub lanes : book.lanes ≡ 1
   pub core : Core s 1 commands book.trace
+  pub prefix : Prefix s 1 book.trace
 
 -- All actions ran, one after another, and the lane's new calls are the runs of their bodies in that order.
 pub record RanWhole (m : ModelTree) (s : Scenario) (plan : Entries) (before after : Option (List Answered)) (book : View) : Type 0 where

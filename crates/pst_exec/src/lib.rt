@@ -6,6 +6,8 @@
 
 mod alone;
 mod ending;
+mod laws;
 
 pub use alone::run_one;
 pub use ending::RunEnd;
+pub use laws::core_makes_blocks;
