@@ -1,5 +1,5 @@
 -- Answers are complete.
-use Rattle.std.proofs.Common.{◌≡◌, ◌∙◌, ℕ, ◌⊎◌, inl, inr, List, length, refl, ap, sym, subst}
+use Rattle.std.proofs.Common.{◌≡◌, ℕ, ◌⊎◌, inl, inr, List, length, refl, sym, subst}
 use Rattle.std.specs.Prelude.{Some}
 use Rattle.pst_base.specs.Fault.{HasRisen}
 use Rattle.pst_io.specs.Shelf.{Files}
@@ -10,8 +10,6 @@ use Rattle.pst_ast.specs.Laws.{AtMostOneTree, AnswersAgree}
 use Rattle.pst_ast.specs.Rule.{TheUnit}
 use Rattle.pst_elab_rules.specs.Laws.{FirstBreachesAreOne, AnswersAreApart}
 use Rattle.pst_scen.specs.declared.scenario.Scenario.{Scenario}
-use Rattle.pst_scen.specs.Plan.{Entries}
-use Rattle.pst_scen.specs.Plans.{IsPlanOf}
 use Rattle.pst_legal.specs.First.{IsFirst}
 use Rattle.pst_legal.specs.Laws.{FirstIsOne}
 use Rattle.pst_live_lists.specs.Laws.{FoundWithinBudget, DoneWithinBudget}
@@ -21,12 +19,12 @@ use Rattle.pst_outcome.specs.declared.answer.Answer.{Answer}
 use Rattle.pst_outcome.specs.declared.answer.Answer.TheVariants.{NoScenario, WriteFault, NoMemory}
 use Rattle.pst_outcome.specs.declared.task.Work.{Work}
 use Rattle.pst_outcome.specs.declared.task.Work.TheVariants as work
-use Rattle.pst_outcome.specs.Models.{OfScenario, IsSought, OfModel, HasNone, IsSpent, IsFound, IsUnbuilt}
+use Rattle.pst_outcome.specs.Models.{IsSought, OfModel, HasNone, IsSpent, IsFound, IsUnbuilt}
 use Rattle.pst_outcome.specs.Outcome.{bytes_of}
 use Rattle.pst_outcome.specs.Delivered.{Writing, HasAnswered, Answers}
 use Rattle.pst_outcome.proofs.OneFront.{SourceLaws}
-use Rattle.pst_complete_answers.specs.Complete.{Asked, AreAsking, CallsSucceed, IsFoundInTime, IsMissedInTime, CanBeDone, IsGood}
-use Rattle.pst_complete_answers.specs.Laws.{FoundLinesAreComplete, OtherLinesAreComplete}
+use Rattle.pst_complete_answers.specs.Complete.{Asked, AreAsking, IsLegalInTime, IsMissedInTime, CanBeDone, IsGood, IsGoodForFirst}
+use Rattle.pst_complete_answers.specs.Laws.{LegalLinesAreComplete, FoundLinesAreComplete, OtherLinesAreComplete}
 use Rattle.pst_complete_answers.proofs.Good.{good_answer}
 use Rattle.pst_complete_answers.proofs.Served.{of_asked}
 
@@ -53,21 +51,18 @@ module _ (laws : LineLaws) (lines : Lines) (have : ℕ) (words : List (List ℕ)
 
   -- ---- a legal scenario
 
-  module _ (s : Scenario) (in_time : IsFoundInTime asked s) (free : CanBeDone asked.model s told asked.task.work) where
-    first_good : (r : Scenario) (plan : Entries) (a : Answer) (x : List ℕ) → r ≡ s → IsPlanOf r plan → OfScenario asked.names asked.model r plan (bytes_of asked.trace) told asked.task.work a x
-        → IsGood (length s.actions) asked.command a
-    first_good r plan a x same planned h =
-        good_answer asked.names asked.model s plan (bytes_of asked.trace) told asked.command asked.arguments asked.task.work a x asking.asks.work_is asking.sought
-        (subst (λ (z : Scenario). IsPlanOf z plan) same planned) free
-        (subst (λ (z : Scenario). OfScenario asked.names asked.model z plan (bytes_of asked.trace) told asked.task.work a x) same h)
-
-    found_good : (a : Answer) (x : List ℕ) → OfAsked a x → IsGood (length s.actions) asked.command a
-    found_good _ _ (HasNone _ _ none) = absurd (none s in_time.first.few in_time.first.reads.legal)
-    found_good _ _ (IsSpent level _ _ few spent) =
-        absurd (laws.found asked.model asked.root asked.task.seed asked.task.budget level s in_time.first.choices in_time.first.reads in_time.few spent)
-    found_good _ _ (IsFound r plan a x first planned h) =
-        first_good r plan a x (laws.firsts asked.model asked.root asked.task.seed asked.task.infer r s first in_time.first) planned h
-    found_good _ _ (IsUnbuilt unbuilt _) = absurd (not_sought asked.task.work unbuilt asking.sought)
+  legal_good : (a : Answer) (x : List ℕ) → IsLegalInTime asked → ((s : Scenario) → IsFirst asked.model asked.root asked.task.seed asked.task.infer s → CanBeDone asked.model s told asked.task.work)
+      → OfAsked a x → IsGoodForFirst asked a
+  legal_good _ _ within free (HasNone _ _ none) = absurd (none within.scenario within.few_inferred within.reads.legal)
+  legal_good _ _ within free (IsSpent level _ _ few spent) =
+      absurd (laws.found asked.model asked.root asked.task.seed asked.task.budget level within.scenario within.choices within.reads within.few spent)
+  legal_good _ _ within free (IsFound s plan a x first planned h) =
+      record {
+        scenario = s;
+        first = first;
+        good = good_answer asked.names asked.model s plan (bytes_of asked.trace) told asked.command asked.arguments asked.task.work a x asking.asks.work_is asking.sought planned (free s first) h;
+      }
+  legal_good _ _ within free (IsUnbuilt unbuilt _) = absurd (not_sought asked.task.work unbuilt asking.sought)
 
   -- ---- no legal scenario
 
@@ -77,13 +72,26 @@ module _ (laws : LineLaws) (lines : Lines) (have : ℕ) (words : List (List ℕ)
   missed _ _ none (IsFound r plan a x first planned h) = absurd (none.none r first.few first.reads.legal)
   missed _ _ none (IsUnbuilt unbuilt _) = absurd (not_sought asked.task.work unbuilt asking.sought)
 
-pub found_lines : LineLaws → FoundLinesAreComplete
-found_lines laws lines have words f old new told w answer asked s asking calm in_time free h = by (delivered lines have words f old new told w answer calm.sink h)
+pub legal_lines : LineLaws → LegalLinesAreComplete
+legal_lines laws lines have words f old new told w answer asked asking calm within free h = by (delivered lines have words f old new told w answer calm.sink h)
   where
-    by : HasAnswered lines have words (Some f) old new told w answer ⊎ (answer ≡ NoMemory) → IsGood (length s.actions) asked.command answer ⊎ (answer ≡ NoMemory)
+    by : HasAnswered lines have words (Some f) old new told w answer ⊎ (answer ≡ NoMemory) → IsGoodForFirst asked answer ⊎ (answer ≡ NoMemory)
     by (inl k) =
-        inl (found_good laws lines have words f old new told asked asking s in_time free answer k.text (of_asked laws.sources lines have words f old new told asked asking answer k.text calm.shelf k.owed))
-    by (inr none) = inr none
+        inl (legal_good laws lines have words f old new told asked asking answer k.text within free (of_asked laws.sources lines have words f old new told asked asking answer k.text calm.shelf k.owed))
+    by (inr gone) = inr gone
+
+pub found_lines : LineLaws → FoundLinesAreComplete
+found_lines laws lines have words f old new told w answer asked s asking calm in_time free h =
+    by (legal_lines laws lines have words f old new told w answer asked asking calm
+    (record { scenario = s; few_inferred = in_time.first.few; choices = in_time.first.choices; reads = in_time.first.reads; few = in_time.few })
+    (λ r first. subst (λ (z : Scenario). CanBeDone asked.model z told asked.task.work) (sym (same r first)) free) h)
+  where
+    same : (r : Scenario) → IsFirst asked.model asked.root asked.task.seed asked.task.infer r → r ≡ s
+    same r first = laws.firsts asked.model asked.root asked.task.seed asked.task.infer r s first in_time.first
+
+    by : IsGoodForFirst asked answer ⊎ (answer ≡ NoMemory) → IsGood (length s.actions) asked.command answer ⊎ (answer ≡ NoMemory)
+    by (inl k) = inl (subst (λ (z : Scenario). IsGood (length z.actions) asked.command answer) (same k.scenario k.first) k.good)
+    by (inr gone) = inr gone
 
 pub other_lines : LineLaws → OtherLinesAreComplete
 other_lines laws lines have words f old new told w answer asked asking calm none h = by (delivered lines have words f old new told w answer calm.sink h)

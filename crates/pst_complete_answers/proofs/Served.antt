@@ -1,6 +1,6 @@
 -- What is owed to a line whose sources have a model is what is answered of that model.
-use Rattle.std.proofs.Common.{◌≡◌, ◌∙◌, ℕ, List, refl, ap, sym, subst, inl, inr}
-use Rattle.std.specs.Prelude.{All, Option, Some}
+use Rattle.std.proofs.Common.{◌≡◌, ℕ, List, refl, subst, inl, inr}
+use Rattle.std.specs.Prelude.{Option, Some}
 use Rattle.pst_base.specs.Fault.{HasRisen}
 use Rattle.pst_io.specs.Shelf.{Files}
 use Rattle.pst_model.specs.ModelTree.{ModelTree}

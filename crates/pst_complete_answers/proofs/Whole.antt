@@ -1,6 +1,6 @@
 -- A run that nothing stands in the way of is whole.
-use Rattle.std.proofs.Common.{◌≡◌, ◌∙◌, ℕ, zero, suc, ◌<◌, ◌≤◌, List, [], ◌∷◌, length, get_or, refl, ap, sym, subst, inl, inr, arith}
-use Rattle.std.specs.Prelude.{All, Option, Some, None}
+use Rattle.std.proofs.Common.{◌≡◌, ◌∙◌, ℕ, zero, suc, ◌<◌, List, [], ◌∷◌, length, get_or, refl, ap, sym, subst, inl, inr, arith}
+use Rattle.std.specs.Prelude.{All, Some, None}
 use Rattle.std.proofs.lemmas.List.Elements.{All-head, All-tail}
 use Rattle.pst_base.specs.Fault.{HasRisen}
 use Rattle.pst_target.specs.declared.call.Call.{Call as Answered}
@@ -16,7 +16,7 @@ use Rattle.pst_run_alone.specs.declared.answer.RunAnswer.TheVariants as ran
 use Rattle.pst_run_alone.specs.Lanes.{Lane, lane}
 use Rattle.pst_run_alone.specs.Shown.{ShowsRun}
 use Rattle.pst_run_alone.specs.Shown as shown
-use Rattle.pst_outcome.specs.SharedRuns.{Break, HasBroken, AtCall, InTrap, HaveStopped, ShowsSharedRun, IsTooWide, EndsWhole, EndsEarly}
+use Rattle.pst_outcome.specs.SharedRuns.{Break, HasBroken, AtCall, InTrap, ShowsSharedRun, IsTooWide, EndsWhole, EndsEarly}
 use Rattle.pst_outcome.specs.Models.{ShowsCounts, HasEnded, EndsElse, ShowsSharedCounts, HaveEnded, EndElse}
 use Rattle.pst_complete_answers.specs.Complete.{NoBodyTraps, RunsFreely}
 

@@ -1,5 +1,5 @@
 -- What stands in the way of a line, point by point, and which answers are good.
-use Rattle.std.specs.Prelude.{◌≡◌, ℕ, ◌≤◌, List, ◌++◌, All, Option, Some}
+use Rattle.std.specs.Prelude.{◌≡◌, ℕ, ◌≤◌, List, ◌++◌, length, All, Option, Some}
 use Rattle.pst_base.specs.Fault.{HasRisen}
 use Rattle.pst_io.specs.Shelf.{Files}
 use Rattle.pst_target.specs.declared.call.Call.{Call as Answered}
@@ -8,7 +8,7 @@ use Rattle.pst_scen.specs.declared.scenario.Scenario.{Scenario}
 use Rattle.pst_scen.specs.Plan.{Entries, widest}
 use Rattle.pst_scen.specs.Plans.{IsPlanOf}
 use Rattle.pst_legal.specs.Legal.{Legal}
-use Rattle.pst_legal.specs.First.{IsFirst}
+use Rattle.pst_legal.specs.First.{ReadsLegal, IsFirst}
 use Rattle.pst_legal.specs.Body.{Trap, body_run}
 use Rattle.pst_live_lists.specs.Few.{FewLive, IsUpTo, IsSearched}
 use Rattle.pst_body.specs.Doing.{with_calls}
@@ -41,8 +41,8 @@ pub record Asked : Type 0 where
   pub root : ℕ
   pub task : Task
 
--- The words are a line that asks this: its files are there and within the limits, its sources are in the grammar and keep all rules, so they have the
--- model, and something is done with the first legal scenario.
+-- The words are a line that asks this: its files are there and within the limits, its sources (of `gen` the generated one) are in the grammar and keep
+-- all rules and limits, so they have the model, and something is done with the first legal scenario.
 pub record AreAsking (lines : Lines) (have : ℕ) (words : List (List ℕ)) (files : Files) (old new : ℕ) (asked : Asked) : Type 0 where
   pub line : IsLine lines have words asked.command asked.arguments
   pub front : HasFront (Some files) old new asked.command asked.arguments asked.trace (HasModel asked.names asked.model asked.root)
@@ -56,19 +56,27 @@ pub record CallsSucceed (old new : ℕ) (w : Writing) : Type 0 where
 
 -- ---- the search
 
+-- A list of choices reads a legal scenario of a level that is searched, and fewer live lists than the budget stand up to that list, and including it.
+pub record IsLegalInTime (asked : Asked) : Type 0 where
+  pub scenario : Scenario
+  pub few_inferred : scenario.level ≤ asked.task.infer
+  pub choices : List ℕ
+  pub reads : ReadsLegal asked.model asked.root asked.task.seed scenario.level choices scenario
+  pub few : FewLive asked.model asked.root asked.task.seed asked.task.budget (IsUpTo scenario.level choices)
+
 -- The scenario is the first legal one, and fewer live lists than the budget stand up to its list of choices, and including it.
 pub record IsFoundInTime (asked : Asked) (s : Scenario) : Type 0 where
   pub first : IsFirst asked.model asked.root asked.task.seed asked.task.infer s
   pub few : FewLive asked.model asked.root asked.task.seed asked.task.budget (IsUpTo s.level first.choices)
 
--- No scenario with so few inferred actions is legal, and fewer live lists than the budget are in the levels that are searched.
+-- No scenario of a level that is searched is legal, and fewer live lists than the budget stand in these levels.
 pub record IsMissedInTime (asked : Asked) : Type 0 where
   pub none : (s : Scenario) → s.level ≤ asked.task.infer → Legal asked.model asked.root s → ⊥
   pub few : FewLive asked.model asked.root asked.task.seed asked.task.budget (IsSearched asked.task.infer)
 
 -- ---- the run
 
--- No body of an action traps at the last calls that the lane tells, however many these are.
+-- No body of an action traps at the last calls that the lane tells of, however many these are; where it doesn't tell, at any calls.
 abbrev pub NoBodyTraps : ModelTree → Scenario → Lane → Type 0
 NoBodyTraps m s l =
     (action kind : ℕ) (earlier calls : List Answered) → l.after ≡ with_calls l.before (earlier ++ calls) → body_run m s action calls ≡ Some (Trap kind) → ⊥
@@ -97,3 +105,9 @@ pub data IsGood (actions : ℕ) : Command → Answer → Type 0 where
   IsPrefix : IsGood actions Check Prefix
   IsNoTrace : (line : ℕ) → IsGood actions Check (BadTrace line)
   IsIllegal : (line rule : ℕ) → IsGood actions Check (Illegal line rule)
+
+-- there is a first legal scenario, and the answer is good for it
+pub record IsGoodForFirst (asked : Asked) (answer : Answer) : Type 0 where
+  pub scenario : Scenario
+  pub first : IsFirst asked.model asked.root asked.task.seed asked.task.infer scenario
+  pub good : IsGood (length scenario.actions) asked.command answer

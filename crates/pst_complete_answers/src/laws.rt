@@ -1,5 +1,5 @@
 //! The law of complete answers, the contract of a function that does nothing.
-ghost use Rattle.pst_complete_answers.specs.Laws.{FoundLinesAreComplete, OtherLinesAreComplete};
+ghost use Rattle.pst_complete_answers.specs.Laws.{FoundLinesAreComplete, LegalLinesAreComplete, OtherLinesAreComplete};
 
 use pst_ast::laws::answers_agree;
 use pst_elab_rules::{answers_are_apart, first_breaches_are_one};
@@ -15,6 +15,7 @@ use pst_token::laws::each_text_has_one_reading;
 /// and NoScenario where there is none. But memory may run out.
 pub fn lines_are_complete()
     ensures found { FoundLinesAreComplete }
+    ensures legal { LegalLinesAreComplete }
     ensures none { OtherLinesAreComplete }
 {
     each_text_has_one_reading();
