@@ -1,9 +1,9 @@
-mod OneReading
-mod OneLine
+pub mod OneReading
+pub mod OneLine
 mod OneLexing
 mod OneParse
 pub mod OneTask
-mod OneFront
+pub mod OneFront
 mod OneStop
 mod OneModel
 mod OneAnswer

@@ -1,0 +1,4 @@
+mod Whole
+mod Good
+mod Served
+mod Complete
