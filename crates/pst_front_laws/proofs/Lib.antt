@@ -1,0 +1,11 @@
+mod Elements
+mod Bases
+mod Others
+mod Actions
+mod Contents
+mod Growing
+mod Settled
+mod Valued
+mod Spans
+mod Enums
+mod Items

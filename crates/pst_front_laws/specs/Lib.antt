@@ -1,0 +1,4 @@
+pub mod ContentLaws
+pub mod ContentTried
+pub mod ValueLaws
+pub mod ValueTried
