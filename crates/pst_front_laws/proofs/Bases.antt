@@ -1,5 +1,5 @@
 -- The base of an action is among the declarations.
-use Rattle.std.proofs.Common.{◌≡◌, refl, subst, ap}
+use Rattle.std.proofs.Common.{◌≡◌, refl, subst}
 use Rattle.std.specs.Prelude.{Bool, true, false, ◌&&◌, List, Option, Some, None, if◌then◌else◌}
 use Rattle.std.specs.Option.{option_or, option_and_then}
 use Rattle.std.proofs.lemmas.Option.{none-some, same_Some}

@@ -1,8 +1,7 @@
 -- Where the items of enums stand in the sources: each at a place of its own, and with its expression among the uses.
-use Rattle.std.proofs.Common.{◌≡◌, ◌⊎◌, ℕ, zero, suc, inl, inr, refl, sym, ap, subst, ◌∙◌, arith, cond, append_assoc}
+use Rattle.std.proofs.Common.{◌≡◌, ℕ, zero, suc, inl, inr, refl, sym, ap, subst, ◌∙◌, arith, cond, append_assoc}
 use Rattle.std.specs.Prelude.{Bool, true, false, List, [], ◌∷◌, ◌++◌, map, slice_get, Option, Some, None}
 use Rattle.std.specs.List.{find, flat_map}
-use Rattle.std.proofs.lemmas.Bool.{false≢true}
 use Rattle.std.proofs.lemmas.List.{append-nil}
 use Rattle.pst_base.specs.declared.position.Place.{Place}
 use Rattle.pst_ast.specs.declared.leaf.Name.{Name}
@@ -15,7 +14,7 @@ use Rattle.pst_ast.specs.Uses.{Use, enum_value_uses, enum_uses, component_part_u
 use Rattle.pst_type_rules.specs.Enums.{DeclaredItem, DeclaredEnum, items_behind, enum_of, enums_in_part, enums_in_item, enums_in_unit, enums}
 use Rattle.pst_front_laws.specs.ValueLaws.{StandApart}
 use Rattle.pst_front_laws.proofs.Elements.{In, in_flat_map, to_flat_map}
-use Rattle.pst_front_laws.proofs.Others.{AreOthers, no_item, others_none, others_more}
+use Rattle.pst_front_laws.proofs.Others.{AreOthers, no_item}
 use Rattle.pst_front_laws.proofs.Actions.{flat_others, part_others, object_others, function_others, members_others, same_itself}
 use Rattle.pst_front_laws.proofs.Settled.{same_places}
 

@@ -28,7 +28,7 @@ to_grow (Some x) b h = h x refl
 pub from_grow : (a b : Option ℤ) (x : ℤ) → Grows a b → a ≡ Some x → b ≡ Some x
 from_grow a b x h p = subst (λ c. Grows c b) p h
 
-pub same_grows : (a : Option ℤ) → Grows a a
+same_grows : (a : Option ℤ) → Grows a a
 same_grows None = tt
 same_grows (Some x) = refl
 

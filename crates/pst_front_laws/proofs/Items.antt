@@ -1,7 +1,7 @@
 -- The value that is found for an enum item is the one that it has by the rules.
 use Rattle.std.proofs.Common.{◌≡◌, ◌↔◌, ℕ, inl, inr, refl, sym, subst, ap, ◌∙◌}
 use Rattle.std.specs.Prelude.{ℤ, pos, List, [], ◌∷◌, ◌++◌, map, Option, Some, None, option_and_then}
-use Rattle.std.specs.List.{find, flat_map, Contains}
+use Rattle.std.specs.List.{find, flat_map}
 use Rattle.std.specs.Option.{option_map, option_map_or}
 use Rattle.std.proofs.lemmas.Option.{none-some, same_Some}
 use Rattle.pst_base.specs.declared.position.Place.{Place}
@@ -13,7 +13,7 @@ use Rattle.pst_ast.specs.declared.referent.Owner.TheVariants.{Nobody}
 use Rattle.pst_ast.specs.Declarations.{declarations}
 use Rattle.pst_ast.specs.Sorts.{same_place}
 use Rattle.pst_ast.specs.Uses.{Use, Judges, EnumValue, enum_value_uses, uses, environment}
-use Rattle.pst_type_rules.specs.Constants.{IsItemValue, First, Next, Given, IsConstant}
+use Rattle.pst_type_rules.specs.Constants.{IsItemValue, First, Next, Given}
 use Rattle.pst_type_rules.specs.ConstantsLaws.{ExpressionsHaveOneValue}
 use Rattle.pst_type_rules.specs.Enums.{DeclaredItem, DeclaredEnum, expr_in, items_behind, enums, item_at}
 use Rattle.pst_evaluate.specs.Known as settled
@@ -24,7 +24,7 @@ use Rattle.pst_front_laws.proofs.Elements.{In, in_get, in_map, to_map, in_flat_m
 use Rattle.pst_front_laws.proofs.Growing.{to_grow, from_grow, by_grows}
 use Rattle.pst_front_laws.proofs.Settled.{same_places, item_there, gives, and_then_gave}
 use Rattle.pst_front_laws.proofs.Valued.{valued, found_value}
-use Rattle.pst_front_laws.proofs.Enums.{item_place, places, map_both, AreApart, items_apart, find_apart, StandsEnum, enum_stands}
+use Rattle.pst_front_laws.proofs.Enums.{item_place, places, map_both, AreApart, items_apart, find_apart, enum_stands}
 
 module _ (s : Sources) (are : AreValued s) (apart : StandApart (declarations s.units)) where
   abbrev all : List DeclaredItem

@@ -7,5 +7,7 @@ mod Growing
 mod Settled
 mod Valued
 mod Spans
+mod Ranges
 mod Enums
 mod Items
+mod Elaborated

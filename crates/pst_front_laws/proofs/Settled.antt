@@ -1,7 +1,7 @@
 -- Each enum item has a value that is found in finitely many rounds, or has none; so for each expression.
-use Rattle.std.proofs.Common.{◌≡◌, ◌⊎◌, ◌<◌, ◌≤◌, ◌+◌, ℕ, zero, suc, refl, sym, subst, ap, ◌∙◌, arith, inl, inr, ⊎_elim, cond}
-use Rattle.std.specs.Prelude.{ℤ, pos, List, [], ◌∷◌, length, Bool, true, false, ◌&&◌, nat_eq, Option, Some, None, is_some, option_and_then, if◌then◌else◌}
-use Rattle.std.specs.List.{find, flat_map}
+use Rattle.std.proofs.Common.{◌≡◌, ◌⊎◌, ◌<◌, ◌≤◌, ◌+◌, ℕ, zero, suc, refl, sym, subst, ap, ◌∙◌, arith, inl, inr, ⊎_elim}
+use Rattle.std.specs.Prelude.{ℤ, pos, List, [], ◌∷◌, length, Bool, true, false, ◌&&◌, nat_eq, Option, Some, None, is_some, option_and_then}
+use Rattle.std.specs.List.{flat_map}
 use Rattle.std.proofs.lemmas.Option.{none-some, same_Some}
 use Rattle.std.proofs.lemmas.Bool.{eqb-true, false≢true, and_parts, cases_lt}
 use Rattle.pst_base.specs.declared.position.Place.{Place}
@@ -15,12 +15,12 @@ use Rattle.pst_ast.specs.declared.referent.Owner.TheVariants.{Nobody}
 use Rattle.pst_ast.specs.Declarations.{declarations}
 use Rattle.pst_ast.specs.Sorts.{same_place}
 use Rattle.pst_ast.specs.Uses.{Use, expr_uses, environment}
-use Rattle.pst_type_rules.specs.Constants.{item_of_use, value_by, IsItemValue, First, Next, Given, HasValue, IsConstant}
+use Rattle.pst_type_rules.specs.Constants.{item_of_use, value_by, IsItemValue, First, Next, Given, IsConstant}
 use Rattle.pst_type_rules.specs.Enums.{DeclaredItem, enums, item_at}
 use Rattle.pst_evaluate.specs.Known.{item_value, item_value_by}
 use Rattle.pst_evaluate.specs.Settled.{AreItemValues}
 use Rattle.pst_front_laws.proofs.Elements.{In, in_get, found_there, from_contains, to_contains}
-use Rattle.pst_front_laws.proofs.Growing.{Grows, to_grow, from_grow, same_grows, then_grows, by_grows}
+use Rattle.pst_front_laws.proofs.Growing.{Grows, to_grow, from_grow, then_grows, by_grows}
 
 -- two places that are the same
 pub same_places : (p q : Place) → same_place p q ≡ true → p ≡ q

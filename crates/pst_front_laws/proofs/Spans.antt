@@ -1,6 +1,6 @@
 -- The span that is found for a plain type is the one that it has by the rules.
 use Rattle.std.proofs.Common.{◌≡◌, ◌↔◌, ◌+◌, ℕ, zero, suc, refl, sym, subst, ap, ◌∙◌, arith, inl, inr}
-use Rattle.std.specs.Prelude.{Bool, true, false, ℤ, pos, negsuc, ◌+ℤ◌, ◌≤ℤ◌, unsigned_abs, List, [], ◌∷◌, ◌++◌, Option, Some, None}
+use Rattle.std.specs.Prelude.{Bool, true, false, ℤ, pos, negsuc, ◌+ℤ◌, unsigned_abs, Option, Some, None}
 use Rattle.std.specs.List.{Contains}
 use Rattle.std.specs.Option.{option_map_or, option_and_then}
 use Rattle.std.proofs.lemmas.Int.{ints}
@@ -10,13 +10,13 @@ use Rattle.pst_ast.specs.SharedTree.{MakeLow, WidthTree, MakeWidth, PlainTree, P
 use Rattle.pst_expr.specs.declared.ranges.Span.{Span}
 use Rattle.pst_expr.specs.Spans.{IsInSpan}
 use Rattle.pst_ast.specs.declared.environment.Environment.{Environment}
-use Rattle.pst_ast.specs.Uses.{Use, Judges, HasPlain, Role, Width, LowestBit, whole_uses, expr_uses, option_uses, low_uses, width_uses, plain_uses, uses}
+use Rattle.pst_ast.specs.Uses.{Use, Judges, HasPlain, Width, LowestBit, whole_uses, width_uses, plain_uses, uses}
 use Rattle.pst_type_rules.specs.Constants.{IsConstant}
-use Rattle.pst_type_rules.specs.Domains.{span, HasWidth, ByCount, ByHighest, HasSpan, Int, IntOfWidth, Bit, BitOfWidth, Boolean, signed_span, unsigned_span}
+use Rattle.pst_type_rules.specs.Domains.{HasWidth, ByCount, ByHighest, HasSpan, Int, IntOfWidth, Bit, BitOfWidth, Boolean, signed_span, unsigned_span}
 use Rattle.pst_type_rules.specs.Limits.{widths_of}
 use Rattle.pst_type_rules.specs.Places.{plain_place}
 use Rattle.pst_type_rules.specs.TypeRules.{UseBreaks, OfUse, WidthOutside, LowestNotZero, width_in, lowest_in}
-use Rattle.pst_terms.specs.Sources.{Sources, value_of, amount_of}
+use Rattle.pst_terms.specs.Sources.{Sources, amount_of}
 use Rattle.pst_elab_rules.specs.Spans.{width_or, plain_span}
 use Rattle.pst_front_laws.specs.ValueLaws.{AreValued}
 use Rattle.pst_front_laws.proofs.Elements.{In, to_right, to_contains}
@@ -121,13 +121,13 @@ span_has s at (PlainBit place None) are stands = Bit place
 span_has s at (PlainBit place (Some width)) are stands = BitOfWidth place width (width_or s 1 (Some width)) (bit_has s are at place width stands)
 span_has s at (PlainBool place) are stands = Boolean place
 
-span_is : (s : Sources) (at : Environment) (plain : PlainTree) (range : Span) → HasSpan s.units s.names at plain range → AreValued s → Stands s at plain → plain_span s plain ≡ range
+span_is : (s : Sources) (at : Environment) (plain : PlainTree) (found : Span) → HasSpan s.units s.names at plain found → AreValued s → Stands s at plain → plain_span s plain ≡ found
 span_is s at _ _ (Int place) are stands = refl
 span_is s at _ _ (IntOfWidth place width w has) are stands = ap signed_span (sym (int_is s are at place width stands w has))
 span_is s at _ _ (Bit place) are stands = refl
 span_is s at _ _ (BitOfWidth place width w has) are stands = ap unsigned_span (sym (bit_is s are at place width stands w has))
 span_is s at _ _ (Boolean place) are stands = refl
 
-pub spans_are_found : (s : Sources) (at : Environment) (plain : PlainTree) (range : Span) → AreValued s → ((u : Use) → Contains (plain_uses at plain) u → Contains (uses s.units) u)
-    → (plain_span s plain ≡ range) ↔ HasSpan s.units s.names at plain range
-spans_are_found s at plain range are stands = (λ e. subst (HasSpan s.units s.names at plain) e (span_has s at plain are stands), λ has. span_is s at plain range has are stands)
+pub spans_are_found : (s : Sources) (at : Environment) (plain : PlainTree) (found : Span) → AreValued s → ((u : Use) → Contains (plain_uses at plain) u → Contains (uses s.units) u)
+    → (plain_span s plain ≡ found) ↔ HasSpan s.units s.names at plain found
+spans_are_found s at plain found are stands = (λ e. subst (HasSpan s.units s.names at plain) e (span_has s at plain are stands), λ has. span_is s at plain found has are stands)

@@ -1,6 +1,6 @@
 -- The value that is found for a constant part of the sources is the one that it has by the rules.
 use Rattle.std.proofs.Common.{◌≡◌, ◌⊎◌, ◌↔◌, refl, sym, subst, ap, ◌∙◌, arith, inl, inr}
-use Rattle.std.specs.Prelude.{ℤ, nat_eq, List, [], ◌∷◌, Bool, true, ◌&&◌, IsTrue, Option, Some, None}
+use Rattle.std.specs.Prelude.{ℤ, List, [], ◌∷◌, IsTrue, Some}
 use Rattle.std.specs.List.{find, Contains}
 use Rattle.std.specs.Option.{option_map}
 use Rattle.std.proofs.lemmas.Option.{same_Some}

@@ -2,3 +2,4 @@ pub mod ContentLaws
 pub mod ContentTried
 pub mod ValueLaws
 pub mod ValueTried
+pub mod ElaboratedLaws

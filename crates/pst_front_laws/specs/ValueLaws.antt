@@ -2,7 +2,7 @@
 use Rattle.std.specs.Prelude.{◌≡◌, ◌↔◌, ℕ, ℤ, List, Option, Some, IsTrue, slice_get}
 use Rattle.std.specs.List.{Contains}
 use Rattle.pst_base.specs.declared.position.Place.{Place}
-use Rattle.pst_ast.specs.ExpressionTree.{ExprTree}
+use Rattle.pst_ast.specs.ExpressionTree.{ExprTree, RangeTree}
 use Rattle.pst_ast.specs.SharedTree.{PlainTree}
 use Rattle.pst_ast.specs.DeclarationTree.{UnitTree}
 use Rattle.pst_expr.specs.declared.ranges.Span.{Span}
@@ -10,16 +10,16 @@ use Rattle.pst_ast.specs.Breaches.{IsNone}
 use Rattle.pst_ast.specs.declared.scope_declaration.Declaration.{Declaration}
 use Rattle.pst_ast.specs.declared.environment.Environment.{Environment}
 use Rattle.pst_ast.specs.Declarations.{declarations}
-use Rattle.pst_ast.specs.Uses.{Use, Judges, Role, plain_uses, uses}
+use Rattle.pst_ast.specs.Uses.{Use, Judges, Role, plain_uses, end_uses, uses}
 use Rattle.pst_type_rules.specs.Enums.{DeclaredItem, item_at}
 use Rattle.pst_type_rules.specs.Constants.{IsItemValue, IsConstant}
-use Rattle.pst_type_rules.specs.Domains.{HasSpan}
+use Rattle.pst_type_rules.specs.Domains.{HasSpan, IsSpanOf}
 use Rattle.pst_type_rules.specs.TypeRules.{TypeBreach, is_constant}
 use Rattle.pst_type_rules.specs.Typed.{AreConstants}
 use Rattle.pst_evaluate.specs.Known as settled
 use Rattle.pst_evaluate.specs.Settled.{AreItemValues}
 use Rattle.pst_terms.specs.Sources.{Sources, value_of, item_value}
-use Rattle.pst_elab_rules.specs.Spans.{plain_span}
+use Rattle.pst_elab_rules.specs.Spans.{plain_span, range_span}
 
 -- The sources keep the rules of types, and the constants are theirs: so it is where sources are elaborated.
 pub record AreValued (s : Sources) : Type 0 where
@@ -39,8 +39,14 @@ ConstantsAreValued =
 -- the span that is found for a plain type that stands in the sources is the one that it has by the rules
 abbrev pub SpansAreFound : Type 0
 SpansAreFound =
-    (s : Sources) (at : Environment) (plain : PlainTree) (range : Span) → AreValued s → ((u : Use) → Contains (plain_uses at plain) u → Contains (uses s.units) u)
-    → (plain_span s plain ≡ range) ↔ HasSpan s.units s.names at plain range
+    (s : Sources) (at : Environment) (plain : PlainTree) (found : Span) → AreValued s → ((u : Use) → Contains (plain_uses at plain) u → Contains (uses s.units) u)
+    → (plain_span s plain ≡ found) ↔ HasSpan s.units s.names at plain found
+
+-- the span that is found for a range of constants that stands in the sources is the one that it has by the rules
+abbrev pub RangesAreFound : Type 0
+RangesAreFound =
+    (s : Sources) (at : Environment) (range : RangeTree) (found : Span) → AreValued s → ((u : Use) → Contains (end_uses at range) u → Contains (uses s.units) u)
+    → (range_span s range ≡ found) ↔ IsSpanOf s.units s.names at range found
 
 -- the value that is found for an enum item is the one that it has by the rules
 abbrev pub ItemValuesAreFound : Type 0

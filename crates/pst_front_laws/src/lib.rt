@@ -7,6 +7,6 @@ mod value_laws;
 
 pub use content_laws::{activities_are_found, compounds_are_found, contents_are_tried};
 pub use value_laws::{
-    constants_are_valued, item_values_are_found, item_values_are_settled, spans_are_found,
-    values_are_tried,
+    constants_are_valued, elaborated_are_valued, item_values_are_found, item_values_are_settled,
+    ranges_are_found, spans_are_found, values_are_tried,
 };

@@ -1,5 +1,5 @@
 use Rattle.std.proofs.Common.{refl}
-use Rattle.std.specs.Prelude.{true, []}
+use Rattle.std.specs.Prelude.{[]}
 use Rattle.pst_ast.specs.Lookups.{look_up, base_of}
 use Rattle.pst_type_rules.specs.Members.{Own, Inherited}
 use Rattle.pst_type_rules.specs.Sites.{action_at}
