@@ -11,3 +11,5 @@ mod Ranges
 mod Enums
 mod Items
 mod Elaborated
+mod Chains
+mod Listed

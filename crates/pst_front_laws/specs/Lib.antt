@@ -1,3 +1,4 @@
+pub mod BaseLaws
 pub mod ContentLaws
 pub mod ContentTried
 pub mod ValueLaws
