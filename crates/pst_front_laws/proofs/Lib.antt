@@ -1,0 +1,15 @@
+mod Elements
+mod Bases
+mod Others
+mod Actions
+mod Contents
+mod Growing
+mod Settled
+mod Valued
+mod Spans
+mod Ranges
+mod Enums
+mod Items
+mod Elaborated
+mod Chains
+mod Listed
