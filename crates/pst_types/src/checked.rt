@@ -18,7 +18,7 @@ use pst_declaration_rules::declarations_finding;
 use pst_enum_rules::enums_finding;
 use pst_enum_values::EnumTable;
 use pst_evaluate::{ItemValues, item_values};
-use pst_handle_rules::{bound_twice_finding, unsteady_finding};
+use pst_handle_rules::handle_findings;
 use pst_index::Index;
 use pst_name_rules::earlier;
 use pst_names::RuleEnd;
@@ -45,8 +45,7 @@ fn others_least(
     pst_base::places_are_ordered();
     let by_enum = enums_finding(alloc, sites, names, values)?;
     let by_declaration = declarations_finding(alloc, sites, index, names, values)?;
-    let unsteady = unsteady_finding(alloc, sites, index, names)?;
-    let twice = bound_twice_finding(alloc, sites, index, names)?;
+    let (unsteady, twice) = handle_findings(alloc, sites, index, names)?;
     Ok(earlier(earlier(by_enum, by_declaration), earlier(unsteady, twice)))
 }
 
