@@ -13,12 +13,34 @@ use pst_collect::declarations;
 use pst_elab_rules::ElabEnd;
 use pst_index::Index;
 use pst_model::Model;
+use pst_sites::Sites;
 use pst_source_rules::judge;
 use std::alloc::Global;
 
-// The same, given the index of what the sources declare, with the names of the root as bytes.
+// The same, given the places at which things are declared and the index of what the sources declare,
+// with the names of the root as bytes.
 #[tactic(auto, using(crate::proofs::Elaborating::elaborated))]
 fn elaborated_by(
+    alloc: Global,
+    sites: &Sites<'_>,
+    index: &Index,
+    names: &Names,
+    component: &[u8],
+    action: &[u8],
+) -> Result<(Model, u32), ElabEnd>
+    requires { index.now ≡ the_declarations (map view_unit sites.now) }
+    ensures model { IfOk result (λ found. IsElaborated (map view_unit sites.now) names.now component.now action.now (view_model found.0) found.1) }
+    ensures end { IfErr result (IsEnd (map view_unit sites.now) names.now component.now action.now) }
+{
+    let judged = judge(alloc, sites, index, names, component, action)?;
+    match model_of(alloc, sites, index, names, &judged) {
+        Ok(model) => Ok((model, judged.root)),
+        Err(NoMemory) => Err(ElabEnd::NoMemory),
+    }
+}
+
+// The same, given the index of what the sources declare.
+fn elaborated_in(
     alloc: Global,
     units: &[Unit],
     index: &Index,
@@ -30,9 +52,8 @@ fn elaborated_by(
     ensures model { IfOk result (λ found. IsElaborated (map view_unit units.now) names.now component.now action.now (view_model found.0) found.1) }
     ensures end { IfErr result (IsEnd (map view_unit units.now) names.now component.now action.now) }
 {
-    let judged = judge(alloc, units, index, names, component, action)?;
-    match model_of(alloc, units, index, names, &judged) {
-        Ok(model) => Ok((model, judged.root)),
+    match Sites::new(alloc, units) {
+        Ok(sites) => elaborated_by(alloc, &sites, index, names, component, action),
         Err(NoMemory) => Err(ElabEnd::NoMemory),
     }
 }
@@ -57,7 +78,7 @@ fn elaborated(
     ensures end { IfErr result (IsEnd (map view_unit units.now) names.now component.now action.now) }
 {
     match index_of(alloc, units) {
-        Ok(index) => elaborated_by(alloc, units, &index, names, component, action),
+        Ok(index) => elaborated_in(alloc, units, &index, names, component, action),
         Err(NoMemory) => Err(ElabEnd::NoMemory),
     }
 }

@@ -3,6 +3,8 @@ ghost use Rattle.std.specs.Prelude.{◌≡◌, IfOk, map};
 ghost use Rattle.pst_ast.specs.DeclarationView.{view_unit};
 ghost use Rattle.pst_bind.specs.Needs.{served as served_in};
 ghost use Rattle.pst_elab_rules.specs.Model as tree;
+ghost use Rattle.pst_evaluate.specs.Kept.{known_in};
+ghost use Rattle.pst_evaluate.specs.Settled.{AreItemValues};
 ghost use Rattle.pst_model.specs.ModelView.{view_model};
 ghost use Rattle.pst_ast.specs.Declarations.{declarations as the_declarations};
 ghost use Rattle.pst_bind.specs.PoolRules.{IsPoolMap};
@@ -12,7 +14,7 @@ ghost use Rattle.pst_field_domains.specs.Kept.{HasDomains};
 ghost use Rattle.pst_sources.specs.Shown.{sources_of, with_constants};
 ghost use Rattle.pst_type_rules.specs.Sites.{fields};
 
-use pst_ast::{Instance, Unit};
+use pst_ast::Instance;
 use pst_base::{Names, NoMemory};
 use pst_bind::Served;
 use pst_field_domains::FieldDomains;
@@ -112,8 +114,9 @@ fn model_over(
     Ok(model)
 }
 
-// The model, given where things are declared.
-fn model_in(
+/// The model of sources that keep all rules, given the places at which things are declared and the
+/// index of what they declare.
+pub(crate) fn model_of(
     alloc: Global,
     sites: &Sites<'_>,
     index: &Index,
@@ -122,29 +125,12 @@ fn model_in(
 ) -> Result<Model, NoMemory>
     requires declared { index.now ≡ the_declarations (map view_unit sites.now) }
     requires constants { AreConstants (map view_unit sites.now) names.now judged.now.typed.constants }
+    requires values { AreItemValues (map view_unit sites.now) names.now (known_in judged.now.values) }
     requires instances { AreInstances (map view_unit sites.now) names.now judged.now.tree.instances }
     requires pooled { IsPoolMap (map view_unit sites.now) judged.now.tree.instances judged.now.pools.pools judged.now.pools.served }
     ensures { IfOk result (λ m. tree.IsModel (map view_unit sites.now) names.now (view_model m)) }
 {
-    let domains = FieldDomains::new(alloc, sites, index, names)?;
+    let domains = FieldDomains::by_values(alloc, sites, index, names, &judged.values)?;
     let bases = MemberBases::new(alloc, index)?;
     model_over(alloc, sites, &bases, names, judged, &domains)
-}
-
-/// The model of sources that keep all rules, given the index of what they declare.
-pub(crate) fn model_of(
-    alloc: Global,
-    units: &[Unit],
-    index: &Index,
-    names: &Names,
-    judged: &Judged,
-) -> Result<Model, NoMemory>
-    requires declared { index.now ≡ the_declarations (map view_unit units.now) }
-    requires constants { AreConstants (map view_unit units.now) names.now judged.now.typed.constants }
-    requires instances { AreInstances (map view_unit units.now) names.now judged.now.tree.instances }
-    requires pooled { IsPoolMap (map view_unit units.now) judged.now.tree.instances judged.now.pools.pools judged.now.pools.served }
-    ensures { IfOk result (λ m. tree.IsModel (map view_unit units.now) names.now (view_model m)) }
-{
-    let sites = Sites::new(alloc, units)?;
-    model_in(alloc, &sites, index, names, judged)
 }

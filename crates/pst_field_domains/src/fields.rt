@@ -15,7 +15,7 @@ use crate::table::EnumSpans;
 use crate::types::type_spans;
 use pst_base::{Names, NoMemory, Place};
 use pst_enum_values::EnumTable;
-use pst_evaluate::{ItemValues, item_values};
+use pst_evaluate::ItemValues;
 use pst_expr::Domain;
 use pst_index::Index;
 use pst_joined_spans::domain_of;
@@ -92,8 +92,11 @@ fn domain_by<'a>(domains: &'a [Domain], places: &PlaceList, place: Place) -> Opt
 }
 
 impl FieldDomains {
-    // The domains of fields, given the values of enum items.
-    fn by_values(
+    /// The domains of the fields of sources, given the values of their enum items.
+    ///
+    /// `NoMemory` also comes where a type has no value or too many, which no sources have that keep the
+    /// rules of types.
+    pub fn by_values(
         alloc: Global,
         sites: &Sites<'_>,
         index: &Index,
@@ -119,23 +122,6 @@ impl FieldDomains {
         let places = places_of(alloc, fields)?;
         let domains = domains_of(&facts, &table, fields)?;
         Ok(FieldDomains { places, domains })
-    }
-
-    /// The domains of the fields of sources.
-    ///
-    /// `NoMemory` also comes where a type has no value or too many, which no sources have that keep the
-    /// rules of types.
-    pub fn new(
-        alloc: Global,
-        sites: &Sites<'_>,
-        index: &Index,
-        names: &Names,
-    ) -> Result<FieldDomains, NoMemory>
-        requires { index.now ≡ declarations (map view_unit sites.now) }
-        ensures { IfOk result (HasDomains (map view_unit sites.now) names.now) }
-    {
-        let values = item_values(alloc, sites.sources(), index, names)?;
-        FieldDomains::by_values(alloc, sites, index, names, &values)
     }
 
     /// The domain of the field whose name stands at a place; none where there is no field.

@@ -13,7 +13,7 @@ ghost use Rattle.pst_handle_rules.specs.Broken.{IsBoundTwice, IsUnsteady};
 ghost use Rattle.pst_handle_rules.specs.Judged.{IsBrokenBefore};
 
 use crate::based::base_places;
-use crate::bound_twice::bound_twice_in;
+use crate::twice::twice_in;
 use crate::unsteady::unsteady_among;
 use pst_ast::{ActionNode, Declaration, Finding};
 use pst_base::{Names, NoMemory};
@@ -27,19 +27,6 @@ use pst_steady::{
 };
 use pst_traversals::{TallyKey, tallies};
 use std::alloc::Global;
-
-/// The least place at which an activity binds an input twice, or the output of a stream, as rule 20.
-pub fn bound_twice_finding(
-    alloc: Global,
-    sites: &Sites,
-    index: &Index,
-    names: &Names,
-) -> Result<Option<Finding>, NoMemory>
-    requires declared { index.now ≡ declarations (map view_unit sites.now) }
-    ensures { IfOk result (IsLeastOf (IsBoundTwice (map view_unit sites.now) names.now)) }
-{
-    bound_twice_in(alloc, sites.sources(), index, names)
-}
 
 // The places of the names that are declared.
 fn places_of(alloc: Global, declarations: &[Declaration]) -> Result<PlaceList, NoMemory> {
@@ -175,19 +162,23 @@ fn unsteady_by_judgings(
     unsteady_by_bases(sites, &declared, judgings)
 }
 
-/// The least name of a handle in a constraint, an inline constraint, a body or a bind that an
-/// activity which must traverse it exactly once doesn't, or does so within a `select`, `repeat`, `if`
-/// or `match`, as rule 18.
-pub fn unsteady_finding(
+/// The least findings of the two rules of handles. The first is the least name of a handle in a
+/// constraint, an inline constraint, a body or a bind that an activity which must traverse it exactly
+/// once doesn't, or does so within a `select`, `repeat`, `if` or `match`, as rule 18. The second is the
+/// least place at which an activity binds an input twice, or the output of a stream, as rule 20.
+pub fn handle_findings(
     alloc: Global,
     sites: &Sites,
     index: &Index,
     names: &Names,
-) -> Result<Option<Finding>, NoMemory>
+) -> Result<(Option<Finding>, Option<Finding>), NoMemory>
     requires declared { index.now ≡ declarations (map view_unit sites.now) }
-    ensures { IfOk result (IsLeastOf (IsUnsteady (map view_unit sites.now) names.now)) }
+    ensures unsteady { IfOk result (λ found. IsLeastOf (IsUnsteady (map view_unit sites.now) names.now) found.0) }
+    ensures twice { IfOk result (λ found. IsLeastOf (IsBoundTwice (map view_unit sites.now) names.now) found.1) }
 {
     pst_base::places_are_ordered();
     let found = handle_uses(alloc, sites.sources(), index, names)?;
-    unsteady_by_judgings(alloc, sites, index, found.judgings())
+    let unsteady = unsteady_by_judgings(alloc, sites, index, found.judgings())?;
+    let twice = twice_in(alloc, found.ties())?;
+    Ok((unsteady, twice))
 }

@@ -3,11 +3,10 @@
 #![tactic(auto)]
 
 mod based;
-mod bound_twice;
 mod end_key;
 mod findings;
 mod same;
 mod twice;
 mod unsteady;
 
-pub use findings::{bound_twice_finding, unsteady_finding};
+pub use findings::handle_findings;

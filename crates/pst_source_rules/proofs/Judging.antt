@@ -6,6 +6,8 @@ use Rattle.pst_ast.specs.declared.instance.Instance.{Instance}
 use Rattle.pst_ast.specs.DeclarationTree.{UnitTree}
 use Rattle.pst_elab_rules.specs.declared.end.ElabEnd.TheVariants as the_end
 use Rattle.pst_elab_rules.specs.Ends.{AreTyped, InNames, InTypes, AtLast}
+use Rattle.pst_evaluate.specs.Kept.{known_in}
+use Rattle.pst_evaluate.specs.Settled.{AreItemValues}
 use Rattle.pst_names.specs.declared.end.RuleEnd.TheVariants as rule_end
 use Rattle.pst_names.specs.Resolved.{IsUnresolved}
 use Rattle.pst_ast.specs.Breaches.{IsNone}
@@ -22,9 +24,9 @@ module _ (units : List UnitTree) (names : List (List ℕ)) (component action : L
   pub typed_is : IsNone (NameBreach units names) → IsNone (TypeBreach units names) → AreTyped units names
   typed_is named typed = record { names_right = named; types_right = typed }
 
-  pub judged_is : (j : Judged) → AreTyped units names → AreConstants units names j.typed.constants → AreInstances units names j.tree.instances → length j.tree.instances ≤ 256
+  pub judged_is : (j : Judged) → AreTyped units names → AreConstants units names j.typed.constants → AreItemValues units names (known_in j.values) → AreInstances units names j.tree.instances → length j.tree.instances ≤ 256
       → IsLast units names j.tree.instances component action (Ok (j.pools, j.root)) → IsJudged units names component action j
-  judged_is j typed constants are few last = record { typed = typed; constants = constants; instances = are; few = few; pooled = last.0; last = last.1; is_root = last.2 }
+  judged_is j typed constants values are few last = record { typed = typed; constants = constants; values = values; instances = are; few = few; pooled = last.0; last = last.1; is_root = last.2 }
 
   pub broken_at_last : (instances : List Instance) (place : Place) (rule : ℕ) → AreTyped units names → AreInstances units names instances → length instances ≤ 256
       → IsLast units names instances component action (Err (record { place = place; rule = rule })) → IsEnd units names component action (the_end.Broken place rule)

@@ -4,6 +4,8 @@ use Rattle.pst_ast.specs.declared.instance.Instance.{Instance}
 use Rattle.pst_ast.specs.DeclarationTree.{UnitTree}
 use Rattle.pst_bind.specs.declared.pool_map.PoolMap.{PoolMap}
 use Rattle.pst_bind.specs.PoolRules.{IsPoolMap}
+use Rattle.pst_evaluate.specs.Kept.{known_in}
+use Rattle.pst_evaluate.specs.Settled.{AreItemValues}
 use Rattle.pst_model.specs.Limits.{most_instances}
 use Rattle.pst_name_rules.specs.Earlier.{earlier}
 use Rattle.pst_ast.specs.Breaches.{IsLeast, IsNone}
@@ -21,10 +23,11 @@ IsLast units names instances component action (Ok found) =
     IsPoolMap units instances found.0.pools found.0.served × IsNone (LastBreach units names instances component action) × (root_number units names instances component action ≡ Some found.1)
 IsLast units names instances component action (Err f) = IsLeast (LastBreach units names instances component action) f.place f.rule
 
--- sources that keep all rules, with their constants, instances, pools and root
+-- sources that keep all rules, with their constants, the values of their enum items, instances, pools and root
 pub record IsJudged (units : List UnitTree) (names : List (List ℕ)) (component action : List ℕ) (j : Judged) : Type 0 where
   pub typed : AreTyped units names
   pub constants : AreConstants units names j.typed.constants
+  pub values : AreItemValues units names (known_in j.values)
   pub instances : AreInstances units names j.tree.instances
   pub few : length j.tree.instances ≤ most_instances
   pub pooled : IsPoolMap units j.tree.instances j.pools.pools j.pools.served

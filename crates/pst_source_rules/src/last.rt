@@ -7,10 +7,11 @@ ghost use Rattle.pst_name_rules.specs.Earlier;
 ghost use Rattle.pst_ast.specs.Declarations.{declarations as the_declarations};
 ghost use Rattle.pst_source_rules.specs.Judged.{IsLast, both_of, or_first};
 
+use crate::by_sites::pools_of;
 use crate::root::{RootWords, root_number};
-use pst_ast::{Finding, Instance, Unit};
+use pst_ast::{Finding, Instance};
 use pst_base::{Names, NoMemory, Place};
-use pst_bind::{PoolMap, pools_by};
+use pst_bind::PoolMap;
 use pst_index::Index;
 use pst_name_rules::earlier;
 use pst_names::RuleEnd;
@@ -20,34 +21,18 @@ use std::alloc::Global;
 // The pools and what they serve, or the least breach of the rules of pools.
 fn pooled(
     alloc: Global,
-    units: &[Unit],
+    sites: &Sites<'_>,
     index: &Index,
     instances: &[Instance],
 ) -> Result<Result<PoolMap, Finding>, NoMemory>
-    requires { index.now ≡ the_declarations (map view_unit units.now) }
-    ensures { IfOk result (ArePooled (map view_unit units.now) instances.now) }
+    requires { index.now ≡ the_declarations (map view_unit sites.now) }
+    ensures { IfOk result (ArePooled (map view_unit sites.now) instances.now) }
 {
-    match pools_by(alloc, units, index, instances) {
+    match pools_of(alloc, sites, index, instances) {
         Ok(found) => Ok(Ok(found)),
         Err(RuleEnd::Broken { place, rule }) => Ok(Err(Finding { place, rule })),
         Err(RuleEnd::NoMemory) => Err(NoMemory),
     }
-}
-
-// The number of the root's action type, where the words name one.
-fn root_of(
-    alloc: Global,
-    units: &[Unit],
-    index: &Index,
-    names: &Names,
-    instances: &[Instance],
-    words: &RootWords<'_>,
-) -> Result<Option<u32>, NoMemory>
-    requires { index.now ≡ the_declarations (map view_unit units.now) }
-    ensures { IfOk result (λ n. n ≡ ends.root_number (map view_unit units.now) names.now instances.now words.now.component.now words.now.action.now) }
-{
-    let sites = Sites::new(alloc, units)?;
-    root_number(alloc, &sites, index, names, instances, words)
 }
 
 // That the words name no root.
@@ -95,17 +80,17 @@ fn both(pooled: Result<PoolMap, Finding>, root: Option<u32>) -> Result<(PoolMap,
 #[tactic(auto, using(crate::proofs::Lasting::last_is))]
 pub fn last(
     alloc: Global,
-    units: &[Unit],
+    sites: &Sites<'_>,
     index: &Index,
     names: &Names,
     instances: &[Instance],
     words: &RootWords<'_>,
 ) -> Result<Result<(PoolMap, u32), Finding>, NoMemory>
-    requires { index.now ≡ the_declarations (map view_unit units.now) }
-    ensures { IfOk result (IsLast (map view_unit units.now) names.now instances.now words.now.component.now words.now.action.now) }
+    requires { index.now ≡ the_declarations (map view_unit sites.now) }
+    ensures { IfOk result (IsLast (map view_unit sites.now) names.now instances.now words.now.component.now words.now.action.now) }
 {
     pst_base::places_are_ordered();
-    let pooled = pooled(alloc, units, index, instances)?;
-    let root = root_of(alloc, units, index, names, instances, words)?;
+    let pooled = pooled(alloc, sites, index, instances)?;
+    let root = root_number(alloc, sites, index, names, instances, words)?;
     Ok(both(pooled, root))
 }

@@ -2,6 +2,7 @@
 //! the root.
 #![tactic(auto)]
 
+mod by_sites;
 mod judged;
 mod last;
 mod root;

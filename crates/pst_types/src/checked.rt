@@ -18,7 +18,7 @@ use pst_declaration_rules::declarations_finding;
 use pst_enum_rules::enums_finding;
 use pst_enum_values::EnumTable;
 use pst_evaluate::{ItemValues, item_values};
-use pst_handle_rules::{bound_twice_finding, unsteady_finding};
+use pst_handle_rules::handle_findings;
 use pst_index::Index;
 use pst_name_rules::earlier;
 use pst_names::RuleEnd;
@@ -45,8 +45,7 @@ fn others_least(
     pst_base::places_are_ordered();
     let by_enum = enums_finding(alloc, sites, names, values)?;
     let by_declaration = declarations_finding(alloc, sites, index, names, values)?;
-    let unsteady = unsteady_finding(alloc, sites, index, names)?;
-    let twice = bound_twice_finding(alloc, sites, index, names)?;
+    let (unsteady, twice) = handle_findings(alloc, sites, index, names)?;
     Ok(earlier(earlier(by_enum, by_declaration), earlier(unsteady, twice)))
 }
 
@@ -78,20 +77,22 @@ fn judged_sites(
     Ok((earlier(used, others), constants))
 }
 
-// What judging the types of sources says of them, given what they declare and where.
+// What judging the types of sources says of them, given what they declare and where, and the values
+// of their enum items.
 #[tactic(auto, using(crate::proofs::Checking::is_least, crate::proofs::Checking::is_none))]
-fn judged_by_sites(
+fn judged_by_values(
     alloc: Global,
     sites: &Sites,
     index: &Index,
     names: &Names,
+    values: &ItemValues,
 ) -> Result<Checked<Typed>, NoMemory>
     requires declared { index.now ≡ the_declarations (map view_unit sites.now) }
+    requires values { AreItemValues (map view_unit sites.now) names.now (known_in values.now) }
     requires named { IsNone (NameBreach (map view_unit sites.now) names.now) }
     ensures { IfOk result (λ found. IsChecked (map view_unit sites.now) names.now found) }
 {
-    let values = item_values(alloc, sites.sources(), index, names)?;
-    let (least, constants) = judged_sites(alloc, sites, index, names, &values)?;
+    let (least, constants) = judged_sites(alloc, sites, index, names, values)?;
     match least {
         Some(Finding { place, rule }) => Ok(Checked::Breaks { place, rule }),
         None => Ok(Checked::Is(Typed {
@@ -100,19 +101,61 @@ fn judged_by_sites(
     }
 }
 
-// The same, given what they declare.
-fn judged_by_index(
+// The constants, given the values of enum items.
+fn typed_by_values(
     alloc: Global,
-    units: &[Unit],
+    sites: &Sites,
     index: &Index,
     names: &Names,
-) -> Result<Checked<Typed>, NoMemory>
-    requires declared { index.now ≡ the_declarations (map view_unit units.now) }
-    requires named { IsNone (NameBreach (map view_unit units.now) names.now) }
-    ensures { IfOk result (λ found. IsChecked (map view_unit units.now) names.now found) }
+    values: &ItemValues,
+) -> Result<Typed, RuleEnd>
+    requires declared { index.now ≡ the_declarations (map view_unit sites.now) }
+    requires values { AreItemValues (map view_unit sites.now) names.now (known_in values.now) }
+    requires named { IsNone (NameBreach (map view_unit sites.now) names.now) }
+    ensures typed { IfOk result (λ typed. AreTyped (map view_unit sites.now) names.now typed.constants) }
+    ensures broken { IfErr result (λ end. IsUntyped (map view_unit sites.now) names.now end) }
 {
-    let sites = Sites::new(alloc, units)?;
-    judged_by_sites(alloc, &sites, index, names)
+    match judged_by_values(alloc, sites, index, names, values) {
+        Ok(Checked::Is(typed)) => Ok(typed),
+        Ok(Checked::Breaks { place, rule }) => Err(RuleEnd::Broken { place, rule }),
+        Err(NoMemory) => Err(RuleEnd::NoMemory),
+    }
+}
+
+// The values of the enum items of the sources.
+fn values_of(
+    alloc: Global,
+    sites: &Sites,
+    index: &Index,
+    names: &Names,
+) -> Result<ItemValues, NoMemory>
+    requires { index.now ≡ the_declarations (map view_unit sites.now) }
+    ensures { IfOk result (λ v. AreItemValues (map view_unit sites.now) names.now (known_in v)) }
+{
+    item_values(alloc, sites.sources(), index, names)
+}
+
+/// What `check` answers, and the values of the enum items of the sources, given the index of what they
+/// declare and the places at which they do.
+pub fn check_sites(
+    alloc: Global,
+    sites: &Sites,
+    index: &Index,
+    names: &Names,
+) -> Result<(Typed, ItemValues), RuleEnd>
+    requires declared { index.now ≡ the_declarations (map view_unit sites.now) }
+    requires named { IsNone (NameBreach (map view_unit sites.now) names.now) }
+    ensures typed { IfOk result (λ found. AreTyped (map view_unit sites.now) names.now found.0.constants) }
+    ensures values { IfOk result (λ found. AreItemValues (map view_unit sites.now) names.now (known_in found.1)) }
+    ensures broken { IfErr result (λ end. IsUntyped (map view_unit sites.now) names.now end) }
+{
+    match values_of(alloc, sites, index, names) {
+        Ok(values) => {
+            let typed = typed_by_values(alloc, sites, index, names, &values)?;
+            Ok((typed, values))
+        }
+        Err(NoMemory) => Err(RuleEnd::NoMemory),
+    }
 }
 
 // The index of what sources declare.
@@ -123,21 +166,20 @@ fn index_of(alloc: Global, units: &[Unit]) -> Result<Index, NoMemory>
     Index::new(alloc, declared)
 }
 
-/// What `check` answers, given the index of what the sources declare.
-pub fn check_by(
+// What `check` answers, and the values of the enum items, given the index of what the sources declare.
+fn check_units(
     alloc: Global,
     units: &[Unit],
     index: &Index,
     names: &Names,
-) -> Result<Typed, RuleEnd>
+) -> Result<(Typed, ItemValues), RuleEnd>
     requires declared { index.now ≡ the_declarations (map view_unit units.now) }
     requires named { IsNone (NameBreach (map view_unit units.now) names.now) }
-    ensures typed { IfOk result (λ typed. AreTyped (map view_unit units.now) names.now typed.constants) }
+    ensures typed { IfOk result (λ found. AreTyped (map view_unit units.now) names.now found.0.constants) }
     ensures broken { IfErr result (λ end. IsUntyped (map view_unit units.now) names.now end) }
 {
-    match judged_by_index(alloc, units, index, names) {
-        Ok(Checked::Is(typed)) => Ok(typed),
-        Ok(Checked::Breaks { place, rule }) => Err(RuleEnd::Broken { place, rule }),
+    match Sites::new(alloc, units) {
+        Ok(sites) => check_sites(alloc, &sites, index, names),
         Err(NoMemory) => Err(RuleEnd::NoMemory),
     }
 }
@@ -161,7 +203,10 @@ pub fn check(
     ensures broken { IfErr result (λ end. IsUntyped (map view_unit units.now) names.now end) }
 {
     match index_of(alloc, units) {
-        Ok(index) => check_by(alloc, units, &index, names),
+        Ok(index) => {
+            let (typed, _) = check_units(alloc, units, &index, names)?;
+            Ok(typed)
+        }
         Err(NoMemory) => Err(RuleEnd::NoMemory),
     }
 }

@@ -3,5 +3,5 @@
 
 mod checked;
 
-pub use checked::{check, check_by};
+pub use checked::{check, check_sites};
 pub use pst_type_rules::{ConstantValue, Typed};
