@@ -5,8 +5,7 @@ ghost use Rattle.pst_index.specs.Fitting.{fits_of};
 
 use crate::Index;
 use crate::ends::{
-    PathFor, fits, is_handle, is_handle_referent, is_head, is_last, is_misindexed,
-    is_need_referent,
+    PathFor, fits, is_handle, is_handle_referent, is_head, is_last, is_misindexed, is_need_referent,
 };
 use crate::values::stands_for;
 use crate::words::{is_state, is_text};
