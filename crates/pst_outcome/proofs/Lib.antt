@@ -5,5 +5,7 @@ mod OneParse
 pub mod OneTask
 mod OneFront
 mod OneStop
+mod OneCounts
+mod OneRuns
 mod OneModel
 mod OneAnswer
