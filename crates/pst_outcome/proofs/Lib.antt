@@ -5,5 +5,7 @@ mod OneParse
 pub mod OneTask
 pub mod OneFront
 mod OneStop
+mod OneCounts
+mod OneRuns
 mod OneModel
 mod OneAnswer

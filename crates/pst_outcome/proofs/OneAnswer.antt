@@ -1,5 +1,5 @@
 -- Words have one answer and one text, but for the budget, and but for runs on several lanes.
-use Rattle.std.proofs.Common.{◌≡◌, ℕ, ◌<◌, ◌⊎◌, inl, inr, List, ap, subst}
+use Rattle.std.proofs.Common.{◌≡◌, ℕ, ◌<◌, inl, inr, List, ap, subst}
 use Rattle.std.specs.Prelude.{Option, Some, All}
 use Rattle.pst_base.specs.Fault.{last_count}
 use Rattle.pst_io.specs.Shelf.{Files}
@@ -10,7 +10,8 @@ use Rattle.pst_ast.specs.Laws.{AtMostOneTree, AnswersAgree}
 use Rattle.pst_ast.specs.Rule.{TheUnit}
 use Rattle.pst_model.specs.ModelTree.{ModelTree}
 use Rattle.pst_elab_rules.specs.Laws.{FirstBreachesAreOne, AnswersAreApart}
-use Rattle.pst_legal.specs.Laws.{FirstIsOne}
+use Rattle.pst_order.specs.Laws.{CoreIsOne}
+use Rattle.pst_legal.specs.Laws.{FirstIsOne, BodiesEndOnce}
 use Rattle.pst_scenario_answers.specs.Checked.{ChecksAreOne}
 use Rattle.pst_run_alone.specs.Lanes.{Lane}
 use Rattle.pst_run_alone.specs.Shown.{RunsAreOne, TracesAreOne}
@@ -25,10 +26,10 @@ use Rattle.pst_outcome.specs.Tasks.{IsTask}
 use Rattle.pst_outcome.specs.Sources.{Front, Ends, HasModel}
 use Rattle.pst_outcome.specs.Models.{OfModel}
 use Rattle.pst_outcome.specs.Outcome.{HasFront, bytes_of, IsOwed, IsUsage, EndsAtFiles, EndsAtSources, IsServed}
-use Rattle.pst_outcome.specs.Laws.{IsSpentBudget, TellsRun, Agree, IsTold, AnswersAreOne}
+use Rattle.pst_outcome.specs.Laws.{Agree, IsTold, AnswersAreOne}
 use Rattle.pst_outcome.proofs.OneReading.{one_trace_read}
 use Rattle.pst_outcome.proofs.OneLine.{one_line, not_wrong, one_wrong}
-use Rattle.pst_outcome.proofs.OneTask.{one_task, several_given}
+use Rattle.pst_outcome.proofs.OneTask.{one_task, lanes_given}
 use Rattle.pst_outcome.proofs.OneFront.{SourceLaws, one_front}
 use Rattle.pst_outcome.proofs.OneModel.{ModelLaws, AgreeOnModel, of_model}
 use Rattle.pst_outcome.proofs.OneStop.{Stop, one_stop_answer, not_read, stop_of}
@@ -79,30 +80,28 @@ module _ (sources : SourceLaws) (models : ModelLaws) (lines : Lines) (have : ℕ
 
   -- what a task comes to, on a line that asks for it
   agree : (command : Command) (arguments names : List (List ℕ)) (m : ModelTree) (task : Task) (a b : Answer) (s t : List ℕ) → IsLine lines have words command arguments → IsTask command arguments task
-      → AgreeOnModel names m task.work a b s t → Agree lines have words a b s t
+      → AgreeOnModel names m lanes task.work a b s t → Agree lines have words lanes a b s t
   agree command arguments names m task a b s t line asks (inl same) = inl same
   agree command arguments names m task a b s t line asks (inr (inl spent)) = inr (inl spent)
-  agree command arguments names m task a b s t line asks (inr (inr (scenario, several, x, y))) =
-      let given = several_given command arguments task.work asks.work_is several in
+  agree command arguments names m task a b s t line asks (inr (inr (scenario, count, on, several, runs))) =
       inr (inr (record {
         command = command;
         arguments = arguments;
         line = line;
-        count = given.0;
-        given = given.1;
-        several = given.2;
+        count = count;
+        given = lanes_given command arguments task.work count asks.work_is on;
+        several = several;
         names = names;
         model = m;
         scenario = scenario;
-        first = x;
-        second = y;
+        runs = runs;
       }))
 
   of_served : (command : Command) (arguments : List (List ℕ)) (a b : Answer) (s t : List ℕ) (trace other : Option (List ℕ)) (names others : List (List ℕ)) (m n : ModelTree) (root number : ℕ) (task ask : Task)
       → IsLine lines have words command arguments
       → HasFront (Some f) faults faults command arguments trace (HasModel names m root) → HasFront (Some f) faults faults command arguments other (HasModel others n number)
       → IsTask command arguments task → IsTask command arguments ask
-      → OfModel names m root task (bytes_of trace) lanes a s → OfModel others n number ask (bytes_of other) lanes b t → Agree lines have words a b s t
+      → OfModel names m root task (bytes_of trace) lanes a s → OfModel others n number ask (bytes_of other) lanes b t → Agree lines have words lanes a b s t
   of_served command arguments a b s t trace other names others m n root number task ask line h k asks asks_too x y =
       let each = line.whole.right.each in
       let fronts : HasModel others n number ≡ HasModel names m root = one_front sources f faults command have arguments other trace (HasModel others n number) (HasModel names m root) each k h in
@@ -115,7 +114,7 @@ module _ (sources : SourceLaws) (models : ModelLaws) (lines : Lines) (have : ℕ
       agree command arguments names m task a b s t line asks (of_model models names m lanes told root task (bytes_of trace) a b s t x moved)
 
   of_line : (command : Command) (arguments : List (List ℕ)) (a b : Answer) (s t : List ℕ) → IsLine lines have words command arguments
-      → OfLine f faults command arguments lanes a s → OfLine f faults command arguments lanes b t → Agree lines have words a b s t
+      → OfLine f faults command arguments lanes a s → OfLine f faults command arguments lanes b t → Agree lines have words lanes a b s t
   of_line command arguments a b s t line (Stopped h) (Stopped k) = inl (one_stop_answer f arguments a b s t h k)
   of_line command arguments a b s t line (Stopped h) (Ended trace k) = absurd (no_front command arguments a s trace (Ends b t) h k)
   of_line command arguments a b s t line (Stopped h) (Served trace names m root task k _ _) = absurd (no_front command arguments a s trace (HasModel names m root) h k)
@@ -134,7 +133,7 @@ module _ (sources : SourceLaws) (models : ModelLaws) (lines : Lines) (have : ℕ
   -- ---- words
 
   two_lines : (c d : Command) (xs ys : List (List ℕ)) (a b : Answer) (s t : List ℕ) → IsLine lines have words c xs → IsLine lines have words d ys
-      → OfLine f faults c xs lanes a s → OfLine f faults d ys lanes b t → Agree lines have words a b s t
+      → OfLine f faults c xs lanes a s → OfLine f faults d ys lanes b t → Agree lines have words lanes a b s t
   two_lines c d xs ys a b s t line other h k =
       let same = one_line lines have words d c ys xs other line in
       of_line c xs a b s t line h
@@ -142,17 +141,17 @@ module _ (sources : SourceLaws) (models : ModelLaws) (lines : Lines) (have : ℕ
       (subst (λ (z : List (List ℕ)). OfLine f faults d z lanes b t) same.1 k))
 
   two_answers : (a b : Answer) (s t : List ℕ)
-      → OfWords lines have words f faults lanes a s → OfWords lines have words f faults lanes b t → Agree lines have words a b s t
+      → OfWords lines have words f faults lanes a s → OfWords lines have words f faults lanes b t → Agree lines have words lanes a b s t
   two_answers _ _ _ _ (Wrong v h) (Wrong w k) = let same = one_wrong lines have words v w h k in inl (ap Usage same, ap usage_text same)
   two_answers _ _ _ _ (Wrong v h) (Right d ys b t line _) = absurd (not_wrong lines have words d ys v line h)
   two_answers _ _ _ _ (Right c xs a s line _) (Wrong w k) = absurd (not_wrong lines have words c xs w line k)
   two_answers _ _ _ _ (Right c xs a s line h) (Right d ys b t other k) = two_lines c d xs ys a b s t line other h k
 
 -- words have one answer and one text, but for the budget
-pub one_answer : EachTextHasOneReading → EachTextHasOneOutcome → TokensOfTextsAreOne → AtMostOneTree TheUnit → AnswersAgree → FirstBreachesAreOne → AnswersAreApart → FirstIsOne → RunsAreOne → TracesAreOne → ChecksAreOne
+pub one_answer : EachTextHasOneReading → EachTextHasOneOutcome → TokensOfTextsAreOne → AtMostOneTree TheUnit → AnswersAgree → FirstBreachesAreOne → AnswersAreApart → FirstIsOne → RunsAreOne → TracesAreOne → ChecksAreOne → BodiesEndOnce → CoreIsOne
     → AnswersAreOne
-one_answer readings outcomes texts trees agree breaches apart firsts runs traces checks lines have words files faults lanes a b s t below told h k =
-    two_answers (record { readings = readings; outcomes = outcomes; texts = texts; trees = trees; agree = agree; breaches = breaches; apart = apart }) (record { first = firsts; runs = runs; traces = traces; checks = checks })
+one_answer readings outcomes texts trees agree breaches apart firsts runs traces checks bodies cores lines have words files faults lanes a b s t below told h k =
+    two_answers (record { readings = readings; outcomes = outcomes; texts = texts; trees = trees; agree = agree; breaches = breaches; apart = apart }) (record { first = firsts; runs = runs; traces = traces; checks = checks; bodies = bodies; cores = cores })
     lines have words files faults lanes told a b s t
     (of_words lines have words files faults lanes a s below h)
     (of_words lines have words files faults lanes b t below k)

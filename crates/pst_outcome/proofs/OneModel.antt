@@ -1,6 +1,6 @@
 -- One answer and one text of a model, but for the budget, and but for runs on several lanes.
 use Rattle.std.proofs.Common.{◌≡◌, ◌∙◌, ◌⊎◌, ℕ, ◌<◌, inl, inr, List, ◌∷◌, length, refl, ap, sym, subst, arith}
-use Rattle.std.specs.Prelude.{Some, All, Option, codes}
+use Rattle.std.specs.Prelude.{Some, None, All, Option, codes}
 use Rattle.std.proofs.lemmas.List.Elements.{All-head}
 use Rattle.pst_target.specs.declared.call.Call.{Call as Answered}
 use Rattle.pst_model.specs.ModelTree.{ModelTree}
@@ -8,7 +8,8 @@ use Rattle.pst_scen.specs.declared.event.Event.{Event}
 use Rattle.pst_scen.specs.declared.scenario.Scenario.{Scenario}
 use Rattle.pst_scen.specs.Plan.{Entries, widest}
 use Rattle.pst_scen.specs.Plans.{IsPlanOf}
-use Rattle.pst_legal.specs.Laws.{FirstIsOne}
+use Rattle.pst_order.specs.Laws.{CoreIsOne}
+use Rattle.pst_legal.specs.Laws.{FirstIsOne, BodiesEndOnce}
 use Rattle.pst_exec.specs.Alone.{RanWhole}
 use Rattle.pst_book.specs.Books.{View}
 use Rattle.pst_trace_texts.specs.declared.last.Last.TheVariants as last
@@ -16,7 +17,7 @@ use Rattle.pst_trace_texts.specs.Texts.{trace_text}
 use Rattle.pst_scenario_answers.specs.Checked.{ChecksAreOne, answer_text}
 use Rattle.pst_run_alone.specs.declared.answer.RunAnswer.{RunAnswer}
 use Rattle.pst_run_alone.specs.declared.answer.RunAnswer.TheVariants as ran
-use Rattle.pst_run_alone.specs.Lanes.{Lane, AreUncalled}
+use Rattle.pst_run_alone.specs.Lanes.{Lane}
 use Rattle.pst_run_alone.specs.Shown.{ShowsRun, RunsAreOne, TracesAreOne, narrow_text}
 use Rattle.pst_run_alone.specs.Shown as shown
 use Rattle.pst_run_alone.proofs.OneAnswer.{groups_same}
@@ -25,10 +26,11 @@ use Rattle.pst_outcome.specs.declared.answer.Answer.{Answer}
 use Rattle.pst_outcome.specs.declared.task.Task.{Task}
 use Rattle.pst_outcome.specs.declared.task.Work.{Work}
 use Rattle.pst_outcome.specs.declared.task.Work.TheVariants as work
-use Rattle.pst_outcome.specs.Tasks.{IsSeveral}
-use Rattle.pst_outcome.specs.SharedRuns.{Break, Failed, Trapped, answer_of_break, last_of_break, ShowsSharedRun, IsTooWide, EndsWhole, EndsEarly}
+use Rattle.pst_outcome.specs.SharedRuns.{Break, HaveStopped, answer_of_break, last_of_break, ShowsSharedRun, IsTooWide, EndsWhole, EndsEarly}
 use Rattle.pst_outcome.specs.Models.{answer_of_run, answer_of_check, count_ended, ShowsCounts, HasEnded, EndsElse, ShowsSharedCounts, HaveEnded, EndElse, OfScenario, IsRun, IsSharedRun, IsGenerated, IsSharedGenerated, IsSolved, IsJudged, IsSought, OfModel, HasNone, IsSpent, IsFound, IsUnbuilt}
-use Rattle.pst_outcome.specs.Laws.{IsSpentBudget, TellsRun, ToldWhole, ToldCounts, ToldFault, ToldTrap, IsTold}
+use Rattle.pst_outcome.specs.Laws.{IsSpentBudget, Telling, Whole, Counts, Stop, TellsRun, TellTwoRuns, IsTold}
+use Rattle.pst_outcome.proofs.OneTask.{IsOnLanes}
+use Rattle.pst_outcome.proofs.OneRuns.{IsOf, two_tellings}
 
 -- the laws that tell what a model is answered
 pub record ModelLaws : Type 0 where
@@ -36,15 +38,17 @@ pub record ModelLaws : Type 0 where
   pub runs : RunsAreOne
   pub traces : TracesAreOne
   pub checks : ChecksAreOne
+  pub bodies : BodiesEndOnce
+  pub cores : CoreIsOne
 
--- one answer with one text, or runs of the scenario on several lanes
-abbrev pub AreAlike : List (List ℕ) → ModelTree → Scenario → Work → Answer → Answer → List ℕ → List ℕ → Type 0
-AreAlike names m s w a b t u = ((a ≡ b) × (t ≡ u)) ⊎ (IsSeveral w × TellsRun names m s a t × TellsRun names m s b u)
+-- one answer with one text, or runs of the scenario on several lanes that may differ
+abbrev pub AreAlike : List (List ℕ) → ModelTree → List Lane → Scenario → Work → Answer → Answer → List ℕ → List ℕ → Type 0
+AreAlike names m lanes s w a b t u = ((a ≡ b) × (t ≡ u)) ⊎ ((count : ℕ) × IsOnLanes count w × (1 < count) × TellTwoRuns names m s count lanes a b t u)
 
 -- the same of a model, or a spent budget
-abbrev pub AgreeOnModel : List (List ℕ) → ModelTree → Work → Answer → Answer → List ℕ → List ℕ → Type 0
-AgreeOnModel names m w a b t u =
-    ((a ≡ b) × (t ≡ u)) ⊎ ((IsSpentBudget a ⊎ IsSpentBudget b) ⊎ ((s : Scenario) × IsSeveral w × TellsRun names m s a t × TellsRun names m s b u))
+abbrev pub AgreeOnModel : List (List ℕ) → ModelTree → List Lane → Work → Answer → Answer → List ℕ → List ℕ → Type 0
+AgreeOnModel names m lanes w a b t u =
+    ((a ≡ b) × (t ≡ u)) ⊎ ((IsSpentBudget a ⊎ IsSpentBudget b) ⊎ ((s : Scenario) × (count : ℕ) × IsOnLanes count w × (1 < count) × TellTwoRuns names m s count lanes a b t u))
 
 head_same : {X : Type 0} {x y : X} {xs ys : List X} → x ∷ xs ≡ y ∷ ys → x ≡ y
 head_same e = cc
@@ -90,50 +94,55 @@ module _ (laws : ModelLaws) (names : List (List ℕ)) (m : ModelTree) (lanes : L
 
     -- ---- several lanes
 
-    told_break : (trace : List Event) (number action : ℕ) (break : Break)
-        → TellsRun names m s (answer_of_run (answer_of_break number action break)) (trace_text names m s trace (last_of_break number action break))
-    told_break trace number action (Failed call) = ToldFault trace number action call
-    told_break trace number action (Trapped kind) = ToldTrap trace number action kind
+    broke : (count : ℕ) (trace : List Event) (number action : ℕ) (break : Break) → HaveStopped m s count trace lanes number action break
+        → TellsRun names m s count lanes trace (Stop number action break) (answer_of_run (answer_of_break number action break)) (trace_text names m s trace (last_of_break number action break))
+    broke count trace number action break h = record { come = h; answer = refl; text = refl }
 
-    -- the widest group needs more lanes, and that is the answer; or it doesn't, and a run is told of
-    abbrev Judged : Entries → ℕ → RunAnswer → List ℕ → Type 0
-    Judged plan count x t =
+    -- the widest group needs more lanes, and that is the answer; or it doesn't, and a run is told of as is asked
+    abbrev Judged : Option ℕ → Entries → ℕ → RunAnswer → List ℕ → Type 0
+    Judged asked plan count x t =
         ((count < widest plan.groups) × (x ≡ ran.Narrow (widest plan.groups) count) × (t ≡ narrow_text (widest plan.groups) count))
-        ⊎ ((count < widest plan.groups → ⊥) × TellsRun names m s (answer_of_run x) t)
+        ⊎ ((count < widest plan.groups → ⊥) × (trace : List Event) × (telling : Telling) × IsOf asked telling × TellsRun names m s count lanes trace telling (answer_of_run x) t)
 
-    judged : (plan : Entries) (count : ℕ) (x : RunAnswer) (t : List ℕ) → ShowsSharedRun names m s plan count lanes x t → Judged plan count x t
+    judged : (plan : Entries) (count : ℕ) (x : RunAnswer) (t : List ℕ) → ShowsSharedRun names m s plan count lanes x t → Judged None plan count x t
     judged plan count _ _ (IsTooWide wide none) = inl (wide, refl, refl)
-    judged plan count _ _ (EndsWhole trace fits h) = inr (fits, ToldWhole trace)
-    judged plan count _ _ (EndsEarly trace number action break fits h) = inr (fits, told_break trace number action break)
+    judged plan count _ _ (EndsWhole trace fits h) = inr (fits, trace, Whole, tt, record { come = h; answer = refl; text = refl })
+    judged plan count _ _ (EndsEarly trace number action break fits h) = inr (fits, trace, Stop number action break, tt, broke count trace number action break h)
 
-    judged_counts : (plan : Entries) (size count : ℕ) (x : RunAnswer) (t : List ℕ) → ShowsSharedCounts names m s plan size count lanes x t → Judged plan count x t
-    judged_counts plan size count _ _ (HaveEnded trace fits h) =
-        inr (fits, ToldCounts size (count_ended names m s trace (codes "make")) (count_ended names m s trace (codes "take")))
-    judged_counts plan size count _ _ (EndElse x t h other) = judged plan count x t h
+    -- what wasn't whole isn't counted
+    judged_else : (plan : Entries) (size count : ℕ) (x : RunAnswer) (t : List ℕ) → ShowsSharedRun names m s plan count lanes x t → ((actions : ℕ) → x ≡ ran.Done actions → ⊥) → Judged (Some size) plan count x t
+    judged_else plan size count _ _ (IsTooWide wide none) other = inl (wide, refl, refl)
+    judged_else plan size count _ _ (EndsWhole trace fits h) other = absurd (other (length s.actions) refl)
+    judged_else plan size count _ _ (EndsEarly trace number action break fits h) other = inr (fits, trace, Stop number action break, tt, broke count trace number action break h)
+
+    judged_counts : (plan : Entries) (size count : ℕ) (x : RunAnswer) (t : List ℕ) → ShowsSharedCounts names m s plan size count lanes x t → Judged (Some size) plan count x t
+    judged_counts plan size count _ _ (HaveEnded trace fits h) = inr (fits, trace, Counts size, refl, record { come = h; answer = refl; text = refl })
+    judged_counts plan size count _ _ (EndElse x t h other) = judged_else plan size count x t h other
 
     widths : widest p.groups ≡ widest q.groups
     widths = ap widest (groups_same s p q first second)
 
-    two_judged : (count : ℕ) (x y : RunAnswer) (t u : List ℕ) → Judged p count x t → Judged q count y u
-        → ((answer_of_run x ≡ answer_of_run y) × (t ≡ u)) ⊎ (TellsRun names m s (answer_of_run x) t × TellsRun names m s (answer_of_run y) u)
-    two_judged count x y t u (inl (wide, a, e)) (inl (wider, b, d)) = inl (
+    two_judged : (asked : Option ℕ) (count : ℕ) (x y : RunAnswer) (t u : List ℕ) → Judged asked p count x t → Judged asked q count y u
+        → ((answer_of_run x ≡ answer_of_run y) × (t ≡ u)) ⊎ TellTwoRuns names m s count lanes (answer_of_run x) (answer_of_run y) t u
+    two_judged asked count x y t u (inl (wide, a, e)) (inl (wider, b, d)) = inl (
       ap answer_of_run (a ∙ ap (λ (n : ℕ). ran.Narrow n count) widths ∙ sym b),
       e ∙ ap (λ (n : ℕ). narrow_text n count) widths ∙ sym d,
     )
-    two_judged count x y t u (inl (wide, a, e)) (inr (fits, k)) = absurd (fits (subst (λ (n : ℕ). count < n) widths wide))
-    two_judged count x y t u (inr (fits, h)) (inl (wide, b, d)) = absurd (fits (subst (λ (n : ℕ). count < n) (sym widths) wide))
-    two_judged count x y t u (inr (fits, h)) (inr (fit, k)) = inr (h, k)
+    two_judged asked count x y t u (inl (wide, a, e)) (inr (fits, other, another, too, k)) = absurd (fits (subst (λ (n : ℕ). count < n) widths wide))
+    two_judged asked count x y t u (inr (fits, trace, one, is, h)) (inl (wide, b, d)) = absurd (fits (subst (λ (n : ℕ). count < n) (sym widths) wide))
+    two_judged asked count x y t u (inr (fits, trace, one, is, h)) (inr (fit, other, another, too, k)) =
+        two_tellings laws.bodies laws.cores names m s count lanes told asked trace other one another (answer_of_run x) (answer_of_run y) t u is too h k
 
     -- ---- scenarios
 
-    alike_on_one : (w : Work) (x y : RunAnswer) (t u : List ℕ) → (x ≡ y) × (t ≡ u) → AreAlike names m s w (answer_of_run x) (answer_of_run y) t u
+    alike_on_one : (w : Work) (x y : RunAnswer) (t u : List ℕ) → (x ≡ y) × (t ≡ u) → AreAlike names m lanes s w (answer_of_run x) (answer_of_run y) t u
     alike_on_one w x y t u same = inl (ap answer_of_run same.0, same.1)
 
-    alike_on_several : (w : Work) (x y : RunAnswer) (t u : List ℕ) → IsSeveral w
-        → ((answer_of_run x ≡ answer_of_run y) × (t ≡ u)) ⊎ (TellsRun names m s (answer_of_run x) t × TellsRun names m s (answer_of_run y) u)
-        → AreAlike names m s w (answer_of_run x) (answer_of_run y) t u
-    alike_on_several w x y t u several (inl same) = inl same
-    alike_on_several w x y t u several (inr (h, k)) = inr (several, h, k)
+    alike_on_several : (w : Work) (count : ℕ) (x y : RunAnswer) (t u : List ℕ) → IsOnLanes count w → 1 < count
+        → ((answer_of_run x ≡ answer_of_run y) × (t ≡ u)) ⊎ TellTwoRuns names m s count lanes (answer_of_run x) (answer_of_run y) t u
+        → AreAlike names m lanes s w (answer_of_run x) (answer_of_run y) t u
+    alike_on_several w count x y t u on several (inl same) = inl same
+    alike_on_several w count x y t u on several (inr runs) = inr (count, on, several, runs)
 
     not_both : (count : ℕ) → count ≡ 1 → 1 < count → ⊥
     not_both count one several = omega (arith, one, several)
@@ -142,20 +151,20 @@ module _ (laws : ModelLaws) (names : List (List ℕ)) (m : ModelTree) (lanes : L
     same_lane l k ls ks is other = head_same (sym other ∙ is)
 
     of_scenario : (trace : List ℕ) (w : Work) (a b : Answer) (x y : List ℕ)
-        → OfScenario names m s p trace lanes w a x → OfScenario names m s q trace lanes w b y → AreAlike names m s w a b x y
+        → OfScenario names m s p trace lanes w a x → OfScenario names m s q trace lanes w b y → AreAlike names m lanes s w a b x y
     of_scenario trace _ _ _ _ _ (IsRun n l ls u t one is calm h) (IsRun _ k ks v r another other calms j) =
         alike_on_one (work.Run n) u v t r (of_runs l u v t r (first_told l ls is) h
         (subst (λ (z : Lane). ShowsRun names m s q z.before z.after z.faults_before z.faults_after v r) (same_lane l k ls ks is other) j))
     of_scenario trace _ _ _ _ _ (IsRun n l ls u t one is calm h) (IsSharedRun _ v r several j) = absurd (not_both n one several)
     of_scenario trace _ _ _ _ _ (IsSharedRun n u t several h) (IsRun _ k ks v r one other calms j) = absurd (not_both n one several)
     of_scenario trace _ _ _ _ _ (IsSharedRun n u t several h) (IsSharedRun _ v r severals j) =
-        alike_on_several (work.Run n) u v t r several (two_judged n u v t r (judged p n u t h) (judged q n v r j))
+        alike_on_several (work.Run n) n u v t r refl several (two_judged None n u v t r (judged p n u t h) (judged q n v r j))
     of_scenario trace _ _ _ _ _ (IsGenerated size n l ls u t one is calm h) (IsGenerated _ _ k ks v r another other calms j) =
         alike_on_one (work.Generate size n) u v t r (of_counts size l u v t r (first_told l ls is) h (subst (λ (z : Lane). ShowsCounts names m s q size z v r) (same_lane l k ls ks is other) j))
     of_scenario trace _ _ _ _ _ (IsGenerated size n l ls u t one is calm h) (IsSharedGenerated _ _ v r several j) = absurd (not_both n one several)
     of_scenario trace _ _ _ _ _ (IsSharedGenerated size n u t several h) (IsGenerated _ _ k ks v r one other calms j) = absurd (not_both n one several)
     of_scenario trace _ _ _ _ _ (IsSharedGenerated size n u t several h) (IsSharedGenerated _ _ v r severals j) =
-        alike_on_several (work.Generate size n) u v t r several (two_judged n u v t r (judged_counts p size n u t h) (judged_counts q size n v r j))
+        alike_on_several (work.Generate size n) n u v t r refl several (two_judged (Some size) n u v t r (judged_counts p size n u t h) (judged_counts q size n v r j))
     of_scenario trace _ _ _ _ _ (IsSolved _) (IsSolved _) = inl (refl, refl)
     of_scenario trace _ _ _ _ _ (IsJudged u _ h) (IsJudged v _ k) = let same = laws.checks names m s trace u v h k in inl (ap answer_of_check same, ap answer_text same)
 
@@ -173,17 +182,17 @@ module _ (laws : ModelLaws) (names : List (List ℕ)) (m : ModelTree) (lanes : L
   not_sought w unbuilt sought = subst IsSought unbuilt sought
 
   of_found : (root : ℕ) (task : Task) (trace : List ℕ) (s r : Scenario) (p q : Entries) (a b : Answer) (x y : List ℕ) → r ≡ s → IsPlanOf s p → IsPlanOf r q
-      → OfScenario names m s p trace lanes task.work a x → OfScenario names m r q trace lanes task.work b y → AreAlike names m s task.work a b x y
+      → OfScenario names m s p trace lanes task.work a x → OfScenario names m r q trace lanes task.work b y → AreAlike names m lanes s task.work a b x y
   of_found root task trace s r p q a b x y same first second h k =
       of_scenario s p q first (subst (λ (z : Scenario). IsPlanOf z q) same second) trace task.work a b x y h
       (subst (λ (z : Scenario). OfScenario names m z q trace lanes task.work b y) same k)
 
-  agree : (s : Scenario) (w : Work) (a b : Answer) (x y : List ℕ) → AreAlike names m s w a b x y → AgreeOnModel names m w a b x y
+  agree : (s : Scenario) (w : Work) (a b : Answer) (x y : List ℕ) → AreAlike names m lanes s w a b x y → AgreeOnModel names m lanes w a b x y
   agree s w a b x y (inl same) = inl same
-  agree s w a b x y (inr (several, h, k)) = inr (inr (s, several, h, k))
+  agree s w a b x y (inr (count, on, several, runs)) = inr (inr (s, count, on, several, runs))
 
   pub of_model : (root : ℕ) (task : Task) (trace : List ℕ) (a b : Answer) (x y : List ℕ)
-      → OfModel names m root task trace lanes a x → OfModel names m root task trace lanes b y → AgreeOnModel names m task.work a b x y
+      → OfModel names m root task trace lanes a x → OfModel names m root task trace lanes b y → AgreeOnModel names m lanes task.work a b x y
   of_model root task trace _ _ _ _ (HasNone sought _ none) (HasNone _ _ other) = inl (refl, refl)
   of_model root task trace _ _ _ _ (HasNone sought _ none) (IsSpent level _ _ few spent) = inr (inl (inr tt))
   of_model root task trace _ _ _ _ (HasNone sought _ none) (IsFound s p b y first plan k) = absurd (none s first.few first.reads.legal)

@@ -1,6 +1,6 @@
 -- The words of a line ask for one thing.
 use Rattle.std.proofs.Common.{◌≡◌, ◌∙◌, ℕ, ◌*◌, ◌^◌, ◌<◌, ◌≤◌, ◌⊎◌, inl, inr, Bool, true, false, List, [], ◌∷◌, ◌++◌, length, drop, decimal, nat_lt, cond, refl, ap, sym, subst, arith}
-use Rattle.std.specs.Prelude.{All, Some, None, nat_eq, if◌then◌else◌}
+use Rattle.std.specs.Prelude.{All, Some, None}
 use Rattle.std.proofs.lemmas.Bool.{ltb-true, ltb-false}
 use Rattle.std.proofs.lemmas.List.{append_cancel_left}
 use Rattle.std.proofs.lemmas.List.Elements.{All-head, All-tail}
@@ -16,7 +16,7 @@ use Rattle.pst_words.proofs.Given.{given_here, given_later}
 use Rattle.pst_outcome.specs.declared.task.Task.{Task}
 use Rattle.pst_outcome.specs.declared.task.Work.{Work}
 use Rattle.pst_outcome.specs.declared.task.Work.TheVariants as work
-use Rattle.pst_outcome.specs.Tasks.{IsNumberGiven, AreSources, IsWork, FitsLanes, IsSeveral, AreLimits, IsTask}
+use Rattle.pst_outcome.specs.Tasks.{IsNumberGiven, AreSources, IsWork, FitsLanes, AreLimits, IsTask}
 
 -- ---- numbers
 
@@ -161,15 +161,21 @@ work_fits Sweep have arguments w some few each h = subst (FitsLanes have) (sym h
 
 -- ---- several lanes
 
+-- a scenario is run on so many lanes
+abbrev pub IsOnLanes : ℕ → Work → Type 0
+IsOnLanes count (work.Run lanes) = lanes ≡ count
+IsOnLanes count (work.Generate size lanes) = lanes ≡ count
+IsOnLanes count other = ⊥
+
 -- a line that asks for that gives the number
-pub several_given : (command : Command) (arguments : List (List ℕ)) (w : Work) → IsWork command arguments w → IsSeveral w → (count : ℕ) × IsNumberGiven Lanes arguments 1 count × (1 < count)
-several_given Run arguments w h several = (h.0, h.1, subst IsSeveral h.2 several)
-several_given Gen arguments w h several = (h.1, h.3, subst IsSeveral h.4 several)
-several_given Solve arguments w h several = absurd (subst IsSeveral h several)
-several_given Check arguments w h several = absurd (subst IsSeveral h several)
-several_given Static arguments w h several = absurd (subst IsSeveral h several)
-several_given Place arguments w h several = absurd (subst IsSeveral h several)
-several_given Sweep arguments w h several = absurd (subst IsSeveral h several)
+pub lanes_given : (command : Command) (arguments : List (List ℕ)) (w : Work) (count : ℕ) → IsWork command arguments w → IsOnLanes count w → IsNumberGiven Lanes arguments 1 count
+lanes_given Run arguments w count h on = subst (λ (n : ℕ). IsNumberGiven Lanes arguments 1 n) (subst (IsOnLanes count) h.2 on) h.1
+lanes_given Gen arguments w count h on = subst (λ (n : ℕ). IsNumberGiven Lanes arguments 1 n) (subst (IsOnLanes count) h.4 on) h.3
+lanes_given Solve arguments w count h on = absurd (subst (IsOnLanes count) h on)
+lanes_given Check arguments w count h on = absurd (subst (IsOnLanes count) h on)
+lanes_given Static arguments w count h on = absurd (subst (IsOnLanes count) h on)
+lanes_given Place arguments w count h on = absurd (subst (IsOnLanes count) h on)
+lanes_given Sweep arguments w count h on = absurd (subst (IsOnLanes count) h on)
 
 -- ---- sources
 

@@ -1,11 +1,13 @@
 -- The law of answers.
-use Rattle.std.specs.Prelude.{◌≡◌, ◌⊎◌, ℕ, ◌<◌, List, length, All, Some}
+use Rattle.std.specs.Prelude.{◌≡◌, ◌⊎◌, ℕ, ◌<◌, ℤ, List, [], length, get_or, codes, All, Some}
 use Rattle.pst_base.specs.Fault.{last_count}
 use Rattle.pst_io.specs.Shelf.{Files}
 use Rattle.pst_target.specs.declared.call.Call.{Call as Answered}
 use Rattle.pst_model.specs.ModelTree.{ModelTree}
 use Rattle.pst_scen.specs.declared.event.Event.{Event}
 use Rattle.pst_scen.specs.declared.scenario.Scenario.{Scenario}
+use Rattle.pst_scen.specs.Core.{commands_of}
+use Rattle.pst_legal.specs.Body.{Trap, Wants, body_run}
 use Rattle.pst_trace_texts.specs.declared.last.Last.TheVariants as last
 use Rattle.pst_trace_texts.specs.Texts.{trace_text}
 use Rattle.pst_run_alone.specs.Lanes.{Lane}
@@ -15,8 +17,10 @@ use Rattle.pst_words.specs.declared.command.Lines.{Lines}
 use Rattle.pst_words.specs.declared.key.Key.TheVariants.{Lanes}
 use Rattle.pst_words.specs.Lines.{IsLine}
 use Rattle.pst_outcome.specs.declared.answer.Answer.{Answer}
-use Rattle.pst_outcome.specs.declared.answer.Answer.TheVariants.{Done, Budget, TargetFault, BodyTrap}
+use Rattle.pst_outcome.specs.declared.answer.Answer.TheVariants.{Done, Budget}
 use Rattle.pst_outcome.specs.Tasks.{IsNumberGiven}
+use Rattle.pst_outcome.specs.SharedRuns.{Break, Failed, Trapped, HaveRun, HaveStopped, answer_of_break, last_of_break}
+use Rattle.pst_outcome.specs.Models.{answer_of_run, count_ended}
 use Rattle.pst_outcome.specs.Outcome.{IsOwed}
 
 -- the budget is said to be spent
@@ -24,16 +28,75 @@ abbrev pub IsSpentBudget : Answer → Type 0
 IsSpentBudget (Budget level) = Unit {0}
 IsSpentBudget other = ⊥
 
--- the answer and its text tell of a run of the scenario: all of its actions, which a generated model counts, or up to a body that didn't end
-pub data TellsRun (names : List (List ℕ)) (m : ModelTree) (s : Scenario) : Answer → List ℕ → Type 0 where
-  ToldWhole : (trace : List Event) → TellsRun names m s (Done (length s.actions)) (trace_text names m s trace last.Done)
-  ToldCounts : (size make take : ℕ) → TellsRun names m s (Done (length s.actions)) (counts_text size make take (length s.actions))
-  ToldFault : (trace : List Event) (lane action call : ℕ) → TellsRun names m s (TargetFault lane action call) (trace_text names m s trace (last.Fault lane action call))
-  ToldTrap : (trace : List Event) (lane action kind : ℕ) → TellsRun names m s (BodyTrap lane action kind) (trace_text names m s trace (last.Trap lane action kind))
+-- ---- runs on several lanes
 
--- The words ask for a run on several lanes, and both answers tell of runs of one scenario. In which order bodies on different lanes end isn't
--- determined, so neither is on which lanes later ones start.
-pub record AreOfOneRun (lines : Lines) (have : ℕ) (words : List (List ℕ)) (a b : Answer) (t u : List ℕ) : Type 0 where
+-- what is told of a run: its whole trace; how many actions of a generated model of that size ended; or its trace up to a body that broke off
+pub data Telling : Type 0 where
+  Whole : Telling
+  Counts : (size : ℕ) → Telling
+  Stop : (number action : ℕ) → (break : Break) → Telling
+
+abbrev pub answer_told : Scenario → Telling → Answer
+answer_told s Whole = Done (length s.actions)
+answer_told s (Counts size) = Done (length s.actions)
+answer_told s (Stop number action break) = answer_of_run (answer_of_break number action break)
+
+abbrev pub text_told : List (List ℕ) → ModelTree → Scenario → List Event → Telling → List ℕ
+text_told names m s trace Whole = trace_text names m s trace last.Done
+text_told names m s trace (Counts size) = counts_text size (count_ended names m s trace (codes "make")) (count_ended names m s trace (codes "take")) (length s.actions)
+text_told names m s trace (Stop number action break) = trace_text names m s trace (last_of_break number action break)
+
+-- a run with this trace, on so many of lanes that tell that, was so
+abbrev pub HasCome : ModelTree → Scenario → ℕ → List Lane → List Event → Telling → Type 0
+HasCome m s count lanes trace Whole = HaveRun m s count trace lanes
+HasCome m s count lanes trace (Counts size) = HaveRun m s count trace lanes
+HasCome m s count lanes trace (Stop number action break) = HaveStopped m s count trace lanes number action break
+
+-- the answer and its text tell that of a run with this trace
+pub record TellsRun (names : List (List ℕ)) (m : ModelTree) (s : Scenario) (count : ℕ) (lanes : List Lane) (trace : List Event) (telling : Telling) (a : Answer) (t : List ℕ) : Type 0 where
+  pub come : HasCome m s count lanes trace telling
+  pub answer : a ≡ answer_told s telling
+  pub text : t ≡ text_told names m s trace telling
+
+-- The body broke off before it had made a call, so what the lane tells is the same where it wasn't begun: it trapped, or its first call failed while the
+-- lane's count of faults stood at its last value.
+abbrev pub BreaksAtOnce : ModelTree → Scenario → ℕ → Lane → Break → Type 0
+BreaksAtOnce m s action l (Failed call) =
+    (function : ℕ) × (arguments : List ℤ) × (body_run m s action [] ≡ Some (Wants function arguments)) × (call ≡ 1) × (l.faults_before ≡ last_count)
+BreaksAtOnce m s action l (Trapped kind) = body_run m s action [] ≡ Some (Trap kind)
+
+-- the actions start and end in another order
+abbrev pub HaveOtherCommands : List Event → List Event → Type 0
+HaveOtherCommands trace other = commands_of trace ≡ commands_of other → ⊥
+
+-- Where two tellings of runs with these traces may differ. The core makes one trace of the same commands, so of these they tell the same, unless both
+-- stopped and tell of different lanes: then the body on the less one broke off at once. What is counted is the same whatever the commands.
+abbrev pub MayDiffer : ModelTree → Scenario → List Lane → List Event → List Event → Telling → Telling → Type 0
+MayDiffer m s lanes trace other Whole Whole = HaveOtherCommands trace other
+MayDiffer m s lanes trace other Whole (Counts size) = ⊥
+MayDiffer m s lanes trace other Whole (Stop number action break) = HaveOtherCommands trace other
+MayDiffer m s lanes trace other (Counts size) Whole = ⊥
+MayDiffer m s lanes trace other (Counts size) (Counts more) = ⊥
+MayDiffer m s lanes trace other (Counts size) (Stop number action break) = HaveOtherCommands trace other
+MayDiffer m s lanes trace other (Stop number action break) Whole = HaveOtherCommands trace other
+MayDiffer m s lanes trace other (Stop number action break) (Counts size) = HaveOtherCommands trace other
+MayDiffer m s lanes trace other (Stop number action break) (Stop less act end) =
+    HaveOtherCommands trace other
+    ⊎ (((number < less) × ((d : Lane) → BreaksAtOnce m s action (get_or lanes number d) break)) ⊎ ((less < number) × ((d : Lane) → BreaksAtOnce m s act (get_or lanes less d) end)))
+
+-- two answers with their texts tell of runs of the scenario on so many of the lanes, and may differ
+pub record TellTwoRuns (names : List (List ℕ)) (m : ModelTree) (s : Scenario) (count : ℕ) (lanes : List Lane) (a b : Answer) (t u : List ℕ) : Type 0 where
+  pub trace : List Event
+  pub other : List Event
+  pub one : Telling
+  pub another : Telling
+  pub first : TellsRun names m s count lanes trace one a t
+  pub second : TellsRun names m s count lanes other another b u
+  pub differ : MayDiffer m s lanes trace other one another
+
+-- The words ask for a run on several lanes, and both answers tell of runs of one scenario that may differ. In which order bodies on different lanes end
+-- isn't determined, so neither is on which lanes later ones start, nor whether a body was begun where another one broke off.
+pub record AreOfOneRun (lines : Lines) (have : ℕ) (words : List (List ℕ)) (lanes : List Lane) (a b : Answer) (t u : List ℕ) : Type 0 where
   pub command : Command
   pub arguments : List (List ℕ)
   pub line : IsLine lines have words command arguments
@@ -43,12 +106,13 @@ pub record AreOfOneRun (lines : Lines) (have : ℕ) (words : List (List ℕ)) (a
   pub names : List (List ℕ)
   pub model : ModelTree
   pub scenario : Scenario
-  pub first : TellsRun names model scenario a t
-  pub second : TellsRun names model scenario b u
+  pub runs : TellTwoRuns names model scenario count lanes a b t u
+
+-- ---- all words
 
 -- The answers and their texts are one; or the budget is said to be spent in one of them; or both tell of a run on several lanes.
-abbrev pub Agree : Lines → ℕ → List (List ℕ) → Answer → Answer → List ℕ → List ℕ → Type 0
-Agree lines have words a b t u = ((a ≡ b) × (t ≡ u)) ⊎ ((IsSpentBudget a ⊎ IsSpentBudget b) ⊎ AreOfOneRun lines have words a b t u)
+abbrev pub Agree : Lines → ℕ → List (List ℕ) → List Lane → Answer → Answer → List ℕ → List ℕ → Type 0
+Agree lines have words lanes a b t u = ((a ≡ b) × (t ≡ u)) ⊎ ((IsSpentBudget a ⊎ IsSpentBudget b) ⊎ AreOfOneRun lines have words lanes a b t u)
 
 -- the lane tells its calls
 abbrev pub IsTold : Lane → Type 0
@@ -60,4 +124,4 @@ abbrev pub AnswersAreOne : Type 0
 AnswersAreOne =
     (lines : Lines) (have : ℕ) (words : List (List ℕ)) (files : Files) (faults : ℕ) (lanes : List Lane) (a b : Answer) (t u : List ℕ)
     → faults < last_count → All IsTold lanes → IsOwed lines have words (Some files) faults faults lanes a t → IsOwed lines have words (Some files) faults faults lanes b u
-    → Agree lines have words a b t u
+    → Agree lines have words lanes a b t u

@@ -6,6 +6,7 @@ use Rattle.pst_model.specs.ModelTree.{ModelTree}
 use Rattle.pst_scen.specs.declared.event.Event.{Event}
 use Rattle.pst_scen.specs.declared.scenario.Scenario.{Scenario}
 use Rattle.pst_scen.specs.Plan.{Entries, widest}
+use Rattle.pst_scen.specs.Core.{Core, commands_of}
 use Rattle.pst_scen.specs.Trace.{IsLegalTrace, IsWhole, Prefix}
 use Rattle.pst_legal.specs.Body.{BodyRun, Trap, Wants}
 use Rattle.pst_legal.specs.Runs.{AreRuns, AreRunsUpTo}
@@ -61,17 +62,19 @@ pub data HasStopped (m : ModelTree) (s : Scenario) (trace : List Event) (number 
 abbrev pub AreUncalledFrom : ℕ → List Lane → Type 0
 AreUncalledFrom count lanes = (k : ℕ) (d : Lane) → count ≤ k → k < length lanes → IsUncalled (get_or lanes k d)
 
--- The trace is a whole legal one on so many lanes; each lane's new calls are the runs of the bodies of the actions that start there, in that order; and
+-- The core made the trace, which is a whole legal one on so many lanes; each lane's new calls are the runs of the bodies of the actions that start there, in that order; and
 -- the other lanes have none.
 pub record HaveRun (m : ModelTree) (s : Scenario) (count : ℕ) (trace : List Event) (lanes : List Lane) : Type 0 where
+  pub core : Core s count (commands_of trace) trace
   pub legal : IsLegalTrace s count trace
   pub whole : IsWhole s trace
   pub each : (k : ℕ) (d : Lane) → k < count → HasRun m s (starts_on k trace) (get_or lanes k d)
   pub others : AreUncalledFrom count lanes
 
--- The trace begins a whole legal one on so many lanes. The action runs in it on the lane of that number, where its body broke off so, and on no lane
+-- The core made the trace, which begins a whole legal one on so many lanes. The action runs in it on the lane of that number, where its body broke off so, and on no lane
 -- below did one.
 pub record HaveStopped (m : ModelTree) (s : Scenario) (count : ℕ) (trace : List Event) (lanes : List Lane) (number action : ℕ) (break : Break) : Type 0 where
+  pub core : Core s count (commands_of trace) trace
   pub prefix : Prefix s count trace
   pub inside : number < count
   pub runs : RunsOn trace number action

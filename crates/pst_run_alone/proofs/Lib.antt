@@ -1,4 +1,4 @@
-mod Calls
+pub mod Calls
 mod Turns
 mod OneRun
 pub mod OneAnswer

@@ -63,6 +63,7 @@ module _ {T : Type 0} (calls : T → Option (List Answered)) (faults : T → ℕ
 
   pub whole_run : (book : View) → RanWholeOn m s plan count (told_of calls faults was) (told_of calls faults now) book → HaveRun m s count book.trace (lanes_told calls faults was now)
   whole_run book h = record {
+    core = h.is_of.core;
     legal = laws s count book.trace h.is_of.prefix;
     whole = h.whole;
     each = λ k d below. at (HasRun m s (starts_on k book.trace)) k d below (ran m s (starts_on k book.trace) _ _ (h.lanes k below));
@@ -74,6 +75,7 @@ module _ {T : Type 0} (calls : T → Option (List Answered)) (faults : T → ℕ
       → HaveStopped m s count book.trace (lanes_told calls faults was now) number action break
   part_run book number action break h broke =
       let inside = h.inside in record {
+        core = h.is_of.core;
         prefix = h.is_of.prefix;
         inside = h.inside;
         runs = there m s book.trace number action h.runs;
