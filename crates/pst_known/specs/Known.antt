@@ -8,7 +8,7 @@ use Rattle.pst_legal.specs.Slots.{behind, unread_slot, type_behind}
 use Rattle.pst_legal.specs.Standing.{Standing, Known as Read, Lacking as Never, Open as Blank-of, Unread}
 use Rattle.pst_known.specs.declared.known.Known.{Known}
 use Rattle.pst_known.specs.declared.known.Known.TheVariants as known
-use Rattle.pst_known.specs.declared.known.Scene.{Scene}
+use Rattle.pst_known.specs.declared.scene.Scene.{Scene}
 
 abbrev pub known_of : Standing → Known
 known_of (Read v) = known.Value v

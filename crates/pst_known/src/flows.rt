@@ -8,7 +8,8 @@ ghost use Rattle.pst_legal.specs.Standing.{unread_truth};
 ghost use Rattle.pst_legal.specs.Slots.{first_values, first_slot, written_slot, output_values, linked_slot, flow_slot, is_source_first, initial_by, initial_slot};
 ghost use Rattle.pst_known.specs.Known.{known_of, seen};
 
-use crate::known::{Known, Scene, open, read_or};
+use crate::known::{Known, open, read_or};
+use crate::scene::Scene;
 use crate::spans::pool_span;
 use pst_expr::Span;
 use pst_model::Model;

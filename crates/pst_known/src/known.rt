@@ -3,8 +3,6 @@ ghost use Rattle.std.specs.Prelude.{◌≡◌};
 ghost use Rattle.pst_known.specs.Known.{known_span, known_or};
 
 use pst_expr::Span;
-use pst_model::Model;
-use pst_scen::{Act, First, Node};
 
 /// What is known of a slot.
 #[derive(Clone, Copy, Debug, PartialEq, Eq)]
@@ -15,17 +13,6 @@ pub enum Known {
     Open(Span),
     /// It never has a value.
     Lacking,
-}
-
-/// A scenario that is read, or is still being read, and its model.
-#[derive(Clone, Copy)]
-pub struct Scene<'a> {
-    pub model: &'a Model,
-    /// The number of inferred actions that was asked for.
-    pub level: u32,
-    pub nodes: &'a [Node],
-    pub actions: &'a [Act],
-    pub firsts: &'a [First],
 }
 
 /// A value that isn't read yet, where there are any.

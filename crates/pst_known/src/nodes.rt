@@ -8,7 +8,8 @@ ghost use Rattle.pst_legal.specs.Slots.{unread_slot, compound_slot, maybe_act_sl
 ghost use Rattle.pst_known.specs.Known.{known_of, seen, unread_behind};
 
 use crate::flows::unread_truth;
-use crate::known::{Known, Scene, open, read_or};
+use crate::known::{Known, open, read_or};
+use crate::scene::Scene;
 use crate::slots::act_slot;
 use crate::spans::{action_span, claim_span, reference_span};
 use crate::ways::{node_behind, traversed_type, type_behind};
@@ -102,7 +103,7 @@ pub fn node_slot(alloc: Global, scene: &Scene<'_>, n: usize, slot: &Slot) -> Res
 {
     match slot {
         Slot::Through { handle, slot } => {
-            match node_behind(alloc, scene.model, scene.nodes, n, *handle)? {
+            match node_behind(alloc, scene, n, *handle)? {
                 None => Ok(unread_behind(scene, n, *handle, slot)),
                 Some(node) => node_slot(alloc, scene, node, slot),
             }

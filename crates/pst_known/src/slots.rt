@@ -11,7 +11,8 @@ ghost use Rattle.pst_known.specs.Known.{known_of, seen};
 
 use crate::claims::{claim_field, claim_number};
 use crate::flows::{first_field, initial_of, linked_field, object_field, written_field};
-use crate::known::{Known, Scene, read_or};
+use crate::known::{Known, read_or};
+use crate::scene::Scene;
 use crate::spans::action_span;
 use pst_model::{Model, Slot};
 use pst_scen::{Act, Filled};

@@ -1,15 +1,11 @@
 -- What is told of a scenario's constraints.
-use Rattle.std.specs.Prelude.{◌≡◌, ℕ, ◌<◌, List, Bool, true, false, Some, slice_get}
+use Rattle.std.specs.Prelude.{Bool, true, false}
 use Rattle.pst_model.specs.ModelTree.{ModelTree}
-use Rattle.pst_scen.specs.declared.tree.Node.{Node}
 use Rattle.pst_scen.specs.declared.scenario.Scenario.{Scenario}
 use Rattle.pst_legal.specs.Constraints.{Holds}
 use Rattle.pst_legal.specs.First.{NoneRefused}
 use Rattle.pst_built.specs.Refused.{SomeRefused}
-
--- each node's parent stands before it
-abbrev pub StandEarlier : List Node → Type 0
-StandEarlier nodes = (n parent : ℕ) (node : Node) → slice_get nodes n ≡ Some node → node.parent ≡ Some parent → parent < n
+pub use Rattle.pst_handle_nodes.specs.Children.{StandEarlier}
 
 abbrev pub TellsRefusals : ModelTree → Scenario → Bool → Type 0
 TellsRefusals m s true = SomeRefused m s

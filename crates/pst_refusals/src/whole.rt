@@ -6,7 +6,7 @@ ghost use Rattle.pst_model.specs.Sound.{IsSound};
 ghost use Rattle.pst_known.specs.Known.{seen};
 ghost use Rattle.pst_slots.specs.Listed.{constraints_of};
 ghost use Rattle.pst_refusals.specs.Failing.{fails};
-ghost use Rattle.pst_refusals.specs.Answers.{StandEarlier, TellsRefusals, TellsUnmet};
+ghost use Rattle.pst_refusals.specs.Answers.{TellsRefusals, TellsUnmet};
 
 use crate::acts::{of_acts, of_firsts};
 use crate::listed::of_nodes;
@@ -30,8 +30,7 @@ fn some_fails(alloc: Global, scene: &Scene<'_>, by_values: bool) -> Result<bool,
 
 /// Whether some constraint of the scenario is refused at what is known of it.
 pub fn some_refused(alloc: Global, scene: &Scene<'_>) -> Result<bool, NoMemory>
-    requires sound { IsSound (view_model scene.now.model.now) }
-    requires earlier { StandEarlier scene.now.nodes.now }
+    requires { IsSound (view_model scene.now.model.now) }
     ensures { IfOk result (λ r. TellsRefusals (view_model scene.now.model.now) (seen scene.now) r) }
 {
     some_fails(alloc, scene, false)
@@ -39,8 +38,7 @@ pub fn some_refused(alloc: Global, scene: &Scene<'_>) -> Result<bool, NoMemory>
 
 /// Whether some constraint of the scenario doesn't hold at the values that are read.
 pub fn some_unmet(alloc: Global, scene: &Scene<'_>) -> Result<bool, NoMemory>
-    requires sound { IsSound (view_model scene.now.model.now) }
-    requires earlier { StandEarlier scene.now.nodes.now }
+    requires { IsSound (view_model scene.now.model.now) }
     ensures { IfOk result (λ r. TellsUnmet (view_model scene.now.model.now) (seen scene.now) r) }
 {
     some_fails(alloc, scene, true)

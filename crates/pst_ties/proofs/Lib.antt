@@ -1,4 +1,2 @@
 pub mod Ends
 pub mod Rows
-pub mod Ways
-pub mod Children

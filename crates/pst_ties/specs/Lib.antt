@@ -1,4 +1,2 @@
-pub mod Ways
 pub mod Tieds
 pub mod Kept
-pub mod Children

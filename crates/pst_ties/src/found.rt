@@ -1,21 +1,22 @@
 //! What the binds of a filled-in activity join.
-ghost use Rattle.std.specs.Prelude.{◌≡◌, ◌++◌, IfOk, OnOk, map, option_to_list};
+ghost use Rattle.std.specs.Prelude.{◌≡◌, ◌++◌, IfOk, OnOk, map, option_to_list, true};
 ghost use Rattle.std.specs.List.{flat_map, enumerate_from};
 ghost use Rattle.std.specs.Option.{option_map};
 ghost use Rattle.pst_model.specs.ModelView.{view_model};
 ghost use Rattle.pst_legal.specs.Binds.{bound_by, bounds_of, ties_at};
 ghost use Rattle.pst_ties.specs.Tieds.{bound_of, binds_of, binds_in};
-ghost use Rattle.pst_ties.specs.Children.{are_behind};
+ghost use Rattle.pst_handle_nodes.specs.Children.{are_behind};
 
-use crate::handles::{act_behind, are_behind};
+use crate::handles::act_behind;
 use crate::tied::{End, Tied};
 use pst_base::NoMemory;
+use pst_handle_nodes::are_behind;
 use pst_model::{Content, Model, Tie};
 use pst_scen::{Fill, Node};
 use std::alloc::Global;
 
-// What a bind joins in the activity of the compound action of a node. `behind`: each node stands
-// behind its parent.
+// What a bind joins in the activity of the compound action of a node. `behind`: each node is
+// known to stand behind its parent.
 fn tied_by(
     alloc: Global,
     model: &Model,
@@ -24,7 +25,7 @@ fn tied_by(
     top: usize,
     tie: &Tie,
 ) -> Result<Option<Tied>, NoMemory>
-    requires { behind ≡ are_behind 0 nodes.now }
+    requires { behind ≡ true → are_behind 0 nodes.now ≡ true }
     ensures { IfOk result (λ tied. option_map bound_of tied ≡ bound_by (view_model model.now) nodes.now top tie.now) }
 {
     let Some(from) = act_behind(alloc, model, nodes, behind, top, tie.from_handle)? else {
@@ -55,7 +56,7 @@ fn add_ties(
     top: usize,
     ties: &[Tie],
 ) -> Result<(), NoMemory>
-    requires { behind ≡ are_behind 0 nodes.now }
+    requires { behind ≡ true → are_behind 0 nodes.now ≡ true }
     ensures { OnOk result (map bound_of found.new.items ≡ map bound_of found.old.items ++ flat_map (λ tie. option_to_list (bound_by (view_model model.now) nodes.now top tie)) ties.now) }
 {
     for tie in ties {

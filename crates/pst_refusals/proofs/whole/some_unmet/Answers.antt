@@ -5,4 +5,4 @@ use Rattle.pst_refusals.proofs.Told.{told_unmet}
 use Rattle.pst_refusals.proofs.whole.some_unmet.Goals as goal
 
 pub returns : goal.returns
-returns c = IfOk-weaker c.some_fails.result _ _ (λ r e. told_unmet (view_model c.args.scene.now.model.now) (seen c.args.scene.now) c.requires.earlier r e) c.some_fails.ensures
+returns c = IfOk-weaker c.some_fails.result _ _ (λ r e. told_unmet (view_model c.args.scene.now.model.now) (seen c.args.scene.now) c.args.scene.now.earlier r e) c.some_fails.ensures

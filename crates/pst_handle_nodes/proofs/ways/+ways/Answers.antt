@@ -2,9 +2,9 @@ use Rattle.std.proofs.Common.{◌∙◌, ap, sym, subst, map}
 use Rattle.std.specs.Prelude.{IfOk}
 use Rattle.pst_model.specs.ModelView.{view_step}
 use Rattle.pst_legal.specs.Statements.{way_in, way_in_step}
-use Rattle.pst_known.specs.Leading.{Leads}
-use Rattle.pst_known.proofs.Rows.{way_sequence, way_parallel, way_schedule, way_joined}
-use Rattle.pst_known.proofs.ways.+ways.Goals as goal
+use Rattle.pst_handle_nodes.specs.Ways.{Leads}
+use Rattle.pst_handle_nodes.proofs.Rows.{way_sequence, way_parallel, way_schedule, way_joined}
+use Rattle.pst_handle_nodes.proofs.ways.+ways.Goals as goal
 
 pub find_in_step-returns-in-Sequence : goal.find_in_step-returns-in-Sequence
 find_in_step-returns-in-Sequence t c =

@@ -1,5 +1,5 @@
 -- Where the children of a node stand.
-use Rattle.std.specs.Prelude.{ℕ, ◌+◌, List, [], ◌∷◌, map, Bool, true, ◌&&◌, nat_lt, Option, Some, None}
+use Rattle.std.specs.Prelude.{◌≡◌, ℕ, ◌+◌, ◌<◌, List, [], ◌∷◌, map, Bool, true, ◌&&◌, nat_lt, Option, Some, None, slice_get}
 use Rattle.std.specs.List.{enumerate_from, filter}
 use Rattle.pst_scen.specs.declared.tree.Node.{Node}
 use Rattle.pst_scen.specs.Tree.{is_parent}
@@ -17,3 +17,7 @@ names_lower number (Some parent) = nat_lt parent number
 abbrev pub are_behind : ℕ → List Node → Bool
 are_behind number [] = true
 are_behind number (node ∷ more) = names_lower number node.parent && are_behind (number + 1) more
+
+-- each node's parent stands before it
+abbrev pub StandEarlier : List Node → Type 0
+StandEarlier nodes = (n parent : ℕ) (node : Node) → slice_get nodes n ≡ Some node → node.parent ≡ Some parent → parent < n

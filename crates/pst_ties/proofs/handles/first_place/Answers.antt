@@ -1,6 +1,0 @@
-use Rattle.std.proofs.Common.{◌+◌, sym, ◌∙◌, arith}
-use Rattle.pst_ties.proofs.Children.{behind_it}
-use Rattle.pst_ties.proofs.handles.first_place.Goals as goal
-
-pub returns-then-parent-nodes-clause-children : goal.returns-then-parent-nodes-clause-children
-returns-then-parent-nodes-clause-children c = behind_it c.args.parent 0 (c.args.parent + 1) c.args.nodes.now (omega arith) (sym c.requires ∙ c.if-behind.true)
