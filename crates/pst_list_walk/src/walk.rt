@@ -211,6 +211,7 @@ fn is_unrefused(
     requires sound { IsSound (view_model model.now) }
     requires far { AreFarOf (view_model model.now) far.now }
     requires inlines { inlines ≡ false → has_inlines (view_model model.now) ≡ false }
+    requires earlier { StandEarlier nodes.now }
     ensures { result ≡ true → StaysFree (view_model model.now) far.now.some nodes.now actions.now from fresh.now }
 {
     match some_newly_refused(alloc, model, far, inlines, nodes, actions, from, fresh) {
@@ -242,9 +243,9 @@ fn given_acts<'a>(links: &'a LinkWalk<'_>, far: bool) -> Option<&'a [Act]>
     }
 }
 
-// Whether the list refuses no constraint, where it is known that the one without the last choice
-// refused none, of so many choices, and so many nodes and actions. Only what is new is looked at, and
-// what stands above it.
+// Whether the list is known to refuse no constraint, where it is known that the one without the last
+// choice refused none, of so many choices, and so many nodes and actions. Only what is new is looked at,
+// and what stands above it; nothing at a dead end and behind the last source.
 fn is_freed(
     alloc: Global,
     model: &Model,
@@ -261,9 +262,13 @@ fn is_freed(
     requires inlines { inlines ≡ false → has_inlines (view_model model.now) ≡ false }
     ensures { result ≡ true → (root seed level digit : ℕ) → IsFreed model.now root seed level digit size nodes links.now }
 {
+    nodes_stand_for_pieces();
     if free <= count {
         return false;
     }
+    let Next::Options(_count) = links.next() else {
+        return false;
+    };
     let Ok(news) = links.news(size) else {
         return false;
     };
