@@ -32,9 +32,6 @@ use pst_scen::{Act, First, Next, Node, Scenario};
 use pst_value_walk::ValueWalk;
 use std::alloc::Global;
 
-// How many actions are so few that a plan is asked for at each claim.
-const FEW_ACTIONS: usize = 128;
-
 // How many nodes are so few that the order is judged at each link.
 const FEW_NODES: usize = 512;
 
@@ -543,16 +540,12 @@ impl<'a> ListWalk<'a> {
         self.linked = self.linked.saturating_sub(1);
     }
 
-    /// Whether a plan may refuse what has just become known: where the sources have just been read through, or the
-    /// last claim has, or any claim where there are few actions.
-    pub fn is_to_be_planned(&self) -> bool {
+    /// Whether the claims have just been read through: the last choice is the instance of one, and the blank at hand is one
+    /// for a value.
+    pub fn is_just_behind_claims(&self) -> bool {
         match &self.values {
             None => false,
-            Some(values) => {
-                let few = values.scenario().actions.as_slice().len() <= FEW_ACTIONS;
-                self.valued == 0
-                    || is_instance(values.filled()) && (few || !is_instance(values.blank()))
-            }
+            Some(values) => is_instance(values.filled()) && values.domain().is_some(),
         }
     }
 

@@ -60,7 +60,7 @@ fn is_time_to_plan(lists: &ListWalk<'_>) -> Result<bool, NoMemory> {
     if behind {
         return Ok(true);
     }
-    Ok(lists.is_to_be_planned() && lists.domain().is_some())
+    Ok(lists.is_just_behind_claims())
 }
 
 // Whether the plan refuses what is read, or there are too few instances for its claims, where that may just have become
