@@ -79,7 +79,7 @@ fn node_meaning(
 {
     match slot {
         Slot::Through { handle, slot } => {
-            match node_behind(alloc, scene.model, scene.nodes, node, *handle)? {
+            match node_behind(alloc, scene, node, *handle)? {
                 None => Ok(Meaning::Untold),
                 Some(behind) => node_meaning(alloc, scene, behind, slot),
             }

@@ -1,13 +1,15 @@
 -- What is told of a scenario whose parts are known.
-use Rattle.std.proofs.Common.{◌≡◌, ℕ, List, [], Bool, refl, sym, ap, ◌∙◌, subst}
+use Rattle.std.proofs.Common.{◌≡◌, ℕ, List, [], ◌∷◌, Bool, refl, sym, ap, ◌∙◌, subst}
 use Rattle.pst_model.specs.ModelTree.{ModelTree}
+use Rattle.pst_model.specs.ModelView.{view_model}
 use Rattle.pst_scen.specs.declared.act.Act.{Act}
+use Rattle.pst_scen.specs.declared.next.Next.TheVariants as next
 use Rattle.pst_scen.specs.declared.tree.Node.{Node}
 use Rattle.pst_scen.specs.declared.scenario.First.{First}
 use Rattle.pst_scen.specs.declared.scenario.Scenario.{Scenario}
-use Rattle.pst_legal.specs.Reading.{Reading, Wants, Stops, Reads}
-use Rattle.pst_legal.specs.ValueReading.{Answer, Options, Dead, Whole, answer_of, read}
-use Rattle.pst_shape.specs.Walks.{IfRead}
+use Rattle.pst_legal.specs.Reading.{Reading, Wants, Stops, Reads, then_read}
+use Rattle.pst_legal.specs.ValueReading.{Answer, Options, Dead, Whole, answer_of, read, read_values}
+use Rattle.pst_shape.specs.Walks.{next_of, IfRead}
 use Rattle.pst_built.specs.SoFar.{HasRead}
 use Rattle.pst_read_domains.specs.ReadNodesLaws.{NodesStandForPieces}
 use Rattle.pst_refusals.specs.Answers.{StandEarlier, TellsRefusals}
@@ -29,6 +31,18 @@ earlier_at law m root seed level xs nodes (Whole s) e is same =
 
 pub earlier_in : NodesStandForPieces → (m : ModelTree) (root seed level : ℕ) (xs : List ℕ) (nodes : List Node) → IsRead (read m root seed level xs) → IfRead (read m root seed level xs) (λ s. nodes ≡ s.nodes) → StandEarlier nodes
 earlier_in law m root seed level xs nodes is same = earlier_at law m root seed level xs nodes (read m root seed level xs) refl is same
+
+-- and so it is of what is read up to a place of the activity or the sources
+pub place_earlier : NodesStandForPieces → (k : Kept) (nodes : List Node) (n : ℕ) → next_of (link_answer k) ≡ next.Options n → IfRead (link_answer k) (λ s. nodes ≡ s.nodes) → StandEarlier nodes
+place_earlier law k nodes n is same = go (reading k) refl is same
+  where
+    go : (r : Reading) → reading k ≡ r → next_of (answer_of r) ≡ next.Options n → IfRead (answer_of r) (λ s. nodes ≡ s.nodes) → StandEarlier nodes
+    go (Wants s count) e is same =
+        subst StandEarlier (sym same)
+        ((law (view_model k.model) k.root k.seed k.level k.choices s (subst (λ r. HasRead (answer_of (then_read r (read_values (view_model k.model) k.seed))) s) (sym e) refl)).1.earlier)
+    go Stops e is same = absurd cc
+    go (Reads s place []) e is same = absurd cc
+    go (Reads s place (digit ∷ left)) e is same = absurd cc
 
 pub same_scenario : (s : Scenario) (level : ℕ) (nodes : List Node) (actions : List Act) (firsts : List First) → level ≡ s.level → nodes ≡ s.nodes → actions ≡ s.actions → firsts ≡ s.firsts → scenario_by level nodes actions firsts ≡ s
 same_scenario s level nodes actions firsts l n a f =

@@ -32,9 +32,6 @@ use pst_scen::{Act, First, Next, Node, Scenario};
 use pst_value_walk::ValueWalk;
 use std::alloc::Global;
 
-// How many actions are so few that a plan is asked for at each claim.
-const FEW_ACTIONS: usize = 128;
-
 // How many nodes are so few that the order is judged at each link.
 const FEW_NODES: usize = 512;
 
@@ -211,6 +208,7 @@ fn is_unrefused(
     requires sound { IsSound (view_model model.now) }
     requires far { AreFarOf (view_model model.now) far.now }
     requires inlines { inlines ≡ false → has_inlines (view_model model.now) ≡ false }
+    requires earlier { StandEarlier nodes.now }
     ensures { result ≡ true → StaysFree (view_model model.now) far.now.some nodes.now actions.now from fresh.now }
 {
     match some_newly_refused(alloc, model, far, inlines, nodes, actions, from, fresh) {
@@ -242,9 +240,9 @@ fn given_acts<'a>(links: &'a LinkWalk<'_>, far: bool) -> Option<&'a [Act]>
     }
 }
 
-// Whether the list refuses no constraint, where it is known that the one without the last choice
-// refused none, of so many choices, and so many nodes and actions. Only what is new is looked at, and
-// what stands above it.
+// Whether the list is known to refuse no constraint, where it is known that the one without the last
+// choice refused none, of so many choices, and so many nodes and actions. Only what is new is looked at,
+// and what stands above it; nothing at a dead end and behind the last source.
 fn is_freed(
     alloc: Global,
     model: &Model,
@@ -261,9 +259,13 @@ fn is_freed(
     requires inlines { inlines ≡ false → has_inlines (view_model model.now) ≡ false }
     ensures { result ≡ true → (root seed level digit : ℕ) → IsFreed model.now root seed level digit size nodes links.now }
 {
+    nodes_stand_for_pieces();
     if free <= count {
         return false;
     }
+    let Next::Options(_count) = links.next() else {
+        return false;
+    };
     let Ok(news) = links.news(size) else {
         return false;
     };
@@ -538,16 +540,12 @@ impl<'a> ListWalk<'a> {
         self.linked = self.linked.saturating_sub(1);
     }
 
-    /// Whether a plan may refuse what has just become known: where the sources have just been read through, or the
-    /// last claim has, or any claim where there are few actions.
-    pub fn is_to_be_planned(&self) -> bool {
+    /// Whether the claims have just been read through: the last choice is the instance of one, and the blank at hand is one
+    /// for a value.
+    pub fn is_just_behind_claims(&self) -> bool {
         match &self.values {
             None => false,
-            Some(values) => {
-                let few = values.scenario().actions.as_slice().len() <= FEW_ACTIONS;
-                self.valued == 0
-                    || is_instance(values.filled()) && (few || !is_instance(values.blank()))
-            }
+            Some(values) => is_instance(values.filled()) && values.domain().is_some(),
         }
     }
 

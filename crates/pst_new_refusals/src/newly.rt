@@ -328,6 +328,7 @@ pub fn some_newly_refused(
     requires sound { IsSound (view_model model.now) }
     requires far { AreFarOf (view_model model.now) far.now }
     requires inlines { inlines ≡ false → has_inlines (view_model model.now) ≡ false }
+    requires earlier { StandEarlier nodes.now }
     ensures { IfOk result (λ r. IfNot r (StaysFree (view_model model.now) far.now.some nodes.now actions.now from fresh.now)) }
 {
     let scene = Scene {

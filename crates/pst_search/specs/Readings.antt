@@ -1,13 +1,15 @@
 -- What whole lists of choices come to.
 use Rattle.std.specs.Prelude.{◌≡◌, Option, None, Some}
 use Rattle.pst_model.specs.ModelView.{view_model}
+use Rattle.pst_scen.specs.declared.next.Next.TheVariants as next_to
 use Rattle.pst_scen.specs.declared.scenario.Scenario.{Scenario}
 use Rattle.pst_scen.specs.Plan.{Entries}
 use Rattle.pst_scen.specs.Plans.{IsPlanOf}
 use Rattle.pst_legal.specs.ValueReading.{Answer, Options, Whole}
 use Rattle.pst_built.specs.OrderStaysLaws.{IsBarren}
+use Rattle.pst_shape.specs.Walks.{next_of}
 use Rattle.pst_link_walk.specs.Walks.{Kept}
-use Rattle.pst_list_walk.specs.Walks.{answer}
+use Rattle.pst_list_walk.specs.Walks.{answer, IsRead}
 use Rattle.pst_search_loop.specs.declared.walker.Look.{Look}
 use Rattle.pst_search_loop.specs.declared.walker.Look.TheVariants as look
 use Rattle.pst_search_loop.specs.Kept.{IsConflict}
@@ -24,6 +26,11 @@ abbrev pub IsAnswer : Answer → Look → Type 0
 IsAnswer (Options s n) (look.Options count) = n ≡ count
 IsAnswer (Whole s) look.Whole = Unit {0}
 IsAnswer _ _ = ⊥
+
+-- what is shown of a list, which is nothing at a dead end
+abbrev pub IsShown : Answer → Option Look → Type 0
+IsShown a (Some shown) = IsRead a × IsAnswer a shown
+IsShown a None = next_of a ≡ next_to.Dead
 
 -- a plan of the whole scenario of the list
 abbrev pub HasPlan : Kept → Entries → Type 0

@@ -3,11 +3,10 @@
 #![tactic(auto)]
 
 mod first;
-mod given;
 mod judging;
 mod looking;
 mod planned;
 mod reading;
-mod shortage;
+mod whole;
 
 pub use first::{SearchEnd, search};

@@ -10,9 +10,9 @@ ghost use Rattle.pst_search_loop.specs.declared.walker.Look.TheVariants as look;
 ghost use Rattle.pst_list_values.specs.Walked.{kept_of};
 ghost use Rattle.pst_search.specs.Readings.{IsFound};
 
-use crate::given::look_behind;
-use crate::looking::{found_at, found_with, judge_at, plan_whole, rests_on};
+use crate::looking::{look_behind, rests_on};
 use crate::planned::Planned;
+use crate::whole::{found_at, found_with, judge_at, plan_whole};
 use pst_base::NoMemory;
 use pst_list_values::{Behind, back_at, choose_at, skip_at};
 use pst_list_walk::ListWalk;

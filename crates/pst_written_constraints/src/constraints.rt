@@ -6,6 +6,7 @@ ghost use Rattle.pst_model.specs.ModelView.{view_model};
 ghost use Rattle.pst_blanks.specs.Blanks.{blank_of};
 ghost use Rattle.pst_few_places.specs.Fillings.{all_blanks};
 ghost use Rattle.pst_known.specs.Known.{seen};
+ghost use Rattle.pst_refusals.specs.Answers.{StandEarlier};
 ghost use Rattle.pst_constraint_sites.specs.Groups.{groups};
 ghost use Rattle.pst_constraint_sites.specs.Laws.{HasFirstObjects};
 ghost use Rattle.pst_constraint_sites.specs.Views.{view_site, view_group};
@@ -115,6 +116,7 @@ fn write_all(
     places: &[Place],
 ) -> Result<Written, NoMemory>
     requires sound { IsSound (view_model model.now) }
+    requires earlier { StandEarlier scenario.now.nodes }
     requires firsts { HasFirstObjects (view_model model.now) scenario.now }
     requires places { map blank_of places.now ≡ all_blanks (view_model model.now) scenario.now }
     ensures implied { IfOk result (λ w. All (IsImplied (view_model model.now) scenario.now) (map view w.constraints.items)) }
@@ -139,7 +141,8 @@ pub fn write_constraints(
     model: &Model,
     linked: Scenario,
 ) -> Result<Written, NoMemory>
-    requires { IsSound (view_model model.now) }
+    requires sound { IsSound (view_model model.now) }
+    requires earlier { StandEarlier linked.nodes }
     ensures written { IfOk result (λ w. AreWritten (view_model model.now) linked (map view w.constraints.items)) }
     ensures spans { IfOk result (λ w. HoldOptions (view_model model.now) linked w.spans.items) }
     ensures together { IfOk result (λ w. w.whole ≡ true → OpenTogether (view_model model.now) linked (map view w.constraints.items)) }

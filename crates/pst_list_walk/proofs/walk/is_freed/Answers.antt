@@ -1,9 +1,13 @@
-use Rattle.std.proofs.Common.{subst}
+use Rattle.std.proofs.Common.{sym, subst, ◌∙◌}
 use Rattle.pst_model.specs.ModelView.{view_model}
 use Rattle.pst_link_walk.specs.News.{IsNews}
 use Rattle.pst_new_refusals.specs.Newly.{StaysFree}
 use Rattle.pst_list_walk.proofs.Going.{freed_on}
+use Rattle.pst_list_walk.proofs.Seen.{place_earlier}
 use Rattle.pst_list_walk.proofs.walk.is_freed.Goals as goal
+
+pub is_unrefused-requires-clause-earlier : goal.is_unrefused-requires-clause-earlier
+is_unrefused-requires-clause-earlier c = place_earlier c.nodes_stand_for_pieces.ensures.pieces c.args.links.now c.nodes.result.now c.in-Options._count (sym c.next.ensures ∙ c.in-Options.is) c.nodes.ensures
 
 pub returns : goal.returns
 returns c = λ so root seed level digit.

@@ -12,8 +12,8 @@ holding : (m : ModelTree) (s : Scenario) (b : Bool) → TellsUnmet m s b → Tel
 holding m s true told = told
 holding m s false told = told
 
-pub some_unmet-requires-clause-earlier : goal.some_unmet-requires-clause-earlier
-some_unmet-requires-clause-earlier c = subst StandEarlier (sym c.as_slice-nodes.ensures) c.requires.earlier
+pub invariant_of-scene : goal.invariant_of-scene
+invariant_of-scene c = record { earlier = subst StandEarlier (sym c.as_slice-nodes.ensures) c.requires.earlier }
 
 pub returns : goal.returns
 returns c =

@@ -1,11 +1,15 @@
-use Rattle.std.proofs.Common.{◌≡◌, map, subst}
+use Rattle.std.proofs.Common.{◌≡◌, map, sym, subst}
 use Rattle.std.proofs.lemmas.Result.{IfOk-weaker}
 use Rattle.pst_expr.specs.Tree.{view}
 use Rattle.pst_model.specs.ModelView.{view_model}
 use Rattle.pst_scen.specs.declared.scenario.Scenario.{Scenario}
 use Rattle.pst_blanks.specs.Blanks.{blank_of}
+use Rattle.pst_refusals.specs.Answers.{StandEarlier}
 use Rattle.pst_written_constraints.specs.Open.{IsAllWritten}
 use Rattle.pst_written_constraints.proofs.constraints.write_all.Goals as goal
+
+pub invariant_of-scene : goal.invariant_of-scene
+invariant_of-scene c = record { earlier = subst StandEarlier (sym c.as_slice.ensures) c.requires.earlier }
 
 pub returns-clause-all : goal.returns-clause-all
 returns-clause-all c =

@@ -7,6 +7,7 @@ use Rattle.pst_blanks.specs.Blanks.{blank_of}
 use Rattle.pst_blank_values.specs.Values.{AreBare}
 use Rattle.pst_constraint_sites.specs.Laws.{HasFirstObjects}
 use Rattle.pst_few_places.specs.Fillings.{all_blanks}
+use Rattle.pst_refusals.specs.Answers.{StandEarlier}
 use Rattle.pst_written_constraints.specs.Spans.{blank_bound}
 use Rattle.pst_written_constraints.specs.Open.{IsAllWritten}
 use Rattle.pst_written_constraints.proofs.Opens.{open_all}
@@ -17,6 +18,9 @@ use Rattle.pst_written_constraints.proofs.constraints.write_constraints.Goals as
 
 pub write_all-requires-clause-firsts : goal.write_all-requires-clause-firsts
 write_all-requires-clause-firsts c = subst (HasFirstObjects (view_model c.args.model.now)) (sym c.in_ok-places.ensures.begun) (has_firsts (view_model c.args.model.now) c.args.linked)
+
+pub write_all-requires-clause-earlier : goal.write_all-requires-clause-earlier
+write_all-requires-clause-earlier c = subst (λ (s : Scenario). StandEarlier s.nodes) (sym c.in_ok-places.ensures.begun) c.requires.earlier
 
 pub returns-clause-written : goal.returns-clause-written
 returns-clause-written c =
@@ -33,7 +37,7 @@ returns-clause-spans c =
     let u = c.args.linked in
     let bare : AreBare u.actions = subst AreBare (c.as_slice.ensures ∙ ap (λ (s : Scenario). s.actions) c.in_ok-places.ensures.begun) (c.are_bare.ensures c.if-not-are_bare.false) in
     IfOk-weaker c.write_all.result _ _
-    (λ w is. hold c.domains_list_values.ensures m c.requires u bare w.spans.items
+    (λ w is. hold c.domains_list_values.ensures m c.requires.sound u bare w.spans.items
     (is
     ∙ ap (λ xs. map (blank_bound m c.begin.new.scenario) (map blank_of xs)) c.as_slice-2.ensures.value
     ∙ ap (λ bs. map (blank_bound m c.begin.new.scenario) bs) c.in_ok-places.ensures.blanks

@@ -1,7 +1,7 @@
 use Rattle.std.proofs.Common.{false, refl, subst}
 use Rattle.pst_search.specs.Judging.{TellsPlanned}
 use Rattle.pst_search.proofs.Looks.{whole_built, whole_refused}
-use Rattle.pst_search.proofs.looking.plan_whole.Goals as goal
+use Rattle.pst_search.proofs.whole.plan_whole.Goals as goal
 
 pub plan_if_any-requires : goal.plan_if_any-requires
 plan_if_any-requires c = whole_built c.args.lists.now c.whole_readings_are_built.ensures.built c.in-Some.scenario.now c.requires c.in-Some.ensures.read

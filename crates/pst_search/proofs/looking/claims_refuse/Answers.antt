@@ -3,7 +3,7 @@ use Rattle.pst_model.specs.ModelView.{view_model}
 use Rattle.pst_claim_counts.specs.Counts.{AreTooMany}
 use Rattle.pst_search.proofs.Looks.{built_at}
 use Rattle.pst_search.proofs.Short.{few_barren}
-use Rattle.pst_search.proofs.shortage.is_short.Goals as goal
+use Rattle.pst_search.proofs.looking.claims_refuse.Goals as goal
 
 pub has_too_few_instances-requires : goal.has_too_few_instances-requires
 has_too_few_instances-requires c = built_at c.args.lists.now c.sources_are_built.ensures c.requires c.in-Some.ensures.sources c.in-Some.scenario.now c.in-Some.ensures.read

@@ -2,7 +2,7 @@ use Rattle.std.proofs.Common.{sym, subst, ap, ◌∙◌}
 use Rattle.pst_scen.specs.Plans.{IsPlanOf}
 use Rattle.pst_legal.specs.ValueReading.{Whole}
 use Rattle.pst_search.proofs.Looks.{whole_is, has_plan}
-use Rattle.pst_search.proofs.looking.found_with.Goals as goal
+use Rattle.pst_search.proofs.whole.found_with.Goals as goal
 
 pub returns : goal.returns
 returns c =

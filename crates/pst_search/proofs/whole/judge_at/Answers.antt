@@ -4,7 +4,7 @@ use Rattle.pst_model.specs.Sound.{IsSound}
 use Rattle.pst_list_walk.proofs.Refusing.{earlier_of}
 use Rattle.pst_search.specs.Judging.{TellsLegal}
 use Rattle.pst_search.proofs.Looks.{known_plan, whole_read, whole_built, whole_refused, whole_sought}
-use Rattle.pst_search.proofs.looking.judge_at.Goals as goal
+use Rattle.pst_search.proofs.whole.judge_at.Goals as goal
 
 pub judge-requires-clause-sound : goal.judge-requires-clause-sound
 judge-requires-clause-sound c = subst (λ m. IsSound (view_model m)) (sym c.model.ensures) c.requires.sound
