@@ -77,7 +77,7 @@ module _ (names : List (List ℕ)) where
       subst AreNamed (sym are.all)
       (named_append are.before_end (token_of kind.End 0 (pos 0) (place_after file text) ∷ [])
       (tokens_named (lexemes_of file are.parts) are.before_end (proper file [] are.parts [] are.reading.front.stand) are.each)
-      (end_is_no_name kind.End refl, tt))
+      ((λ same. absurd (end_is_no_name kind.End refl same)), tt))
 
   -- ---- numbers
 
@@ -86,13 +86,13 @@ module _ (names : List (List ℕ)) where
 
   numbered : (tokens : List Token) (free next : ℕ) → AreNamed tokens → AreNumbered free tokens next → HaveNames free next
   numbered [] free next own is id least below = absurd (omega (arith, is, least, below))
-  numbered (token ∷ tokens) free next (own, others) (_, Other no, rest) id least below = numbered tokens free next others rest id least below
+  numbered (token ∷ tokens) free next (own, others) (_, Other is, rest) id least below = numbered tokens free next others rest id least below
   numbered (token ∷ tokens) free next (own, others) (_, Known is low, rest) id least below = numbered tokens free next others rest id least below
-  numbered (token ∷ tokens) free next (own, others) (_, New is same, rest) id least below = by (nat_lt free id) refl
+  numbered (token ∷ tokens) free next (own, others) (_, New is same, rest) id least below = by (λ far. numbered tokens (suc free) next others rest id far below) (nat_lt free id) refl
     where
-      by : (b : Bool) → nat_lt free id ≡ b → HasName id
-      by true later = let far : free < id = grind (arith, nat_tests, later) in numbered tokens (suc free) next others rest id (omega (arith, far)) below
-      by false here =
+      by : (suc free ≤ id → HasName id) → (b : Bool) → nat_lt free id ≡ b → HasName id
+      by later true is = let far : free < id = grind (arith, nat_tests, is) in later (omega (arith, far))
+      by later false here =
           let near : id ≤ free = grind (arith, nat_tests, here) in
           let one : free ≡ id = omega (arith, near, least) in
           subst HasName (same ∙ one) (own is)
@@ -101,11 +101,11 @@ module _ (names : List (List ℕ)) where
   in_turn file [] [] free next is id least below = absurd (omega (arith, is, least, below))
   in_turn file [] (ts ∷ tokens) free next is id least below = absurd is
   in_turn file (text ∷ texts) [] free next is id least below = absurd is
-  in_turn file (text ∷ texts) (ts ∷ tokens) free next (middle, are, numbers, rest) id least below = by (nat_lt id middle) refl
+  in_turn file (text ∷ texts) (ts ∷ tokens) free next (middle, are, numbers, rest) id least below = by (λ far. in_turn (suc file) texts tokens middle next rest id far below) (nat_lt id middle) refl
     where
-      by : (b : Bool) → nat_lt id middle ≡ b → HasName id
-      by true early = let near : id < middle = grind (arith, nat_tests, early) in numbered ts free middle (text_named file text ts are) numbers id least near
-      by false late = let far : middle ≤ id = grind (arith, nat_tests, late) in in_turn (suc file) texts tokens middle next rest id far below
+      by : (middle ≤ id → HasName id) → (b : Bool) → nat_lt id middle ≡ b → HasName id
+      by later true early = let near : id < middle = grind (arith, nat_tests, early) in numbered ts free middle (text_named file text ts are) numbers id least near
+      by later false late = let far : middle ≤ id = grind (arith, nat_tests, late) in later far
 
 pub names_are_names : NamesOfTextsAreNames
 names_are_names texts names tokens are k d below = by (in_turn names 0 texts tokens 0 (length names) are.are k (omega arith) below)

@@ -36,7 +36,7 @@ printable : (names : List (List ℕ)) (s : Scenario) → ArePrinted names → Is
 printable names s printed built =
     let small = built.small.acts in
     let few = few_inferred s built.leaves in
-    record { names = printed; actions = omega (arith, small); inferred = omega (arith, small, few) }
+    record { printed = printed; actions = omega (arith, small); inferred = omega (arith, small, few) }
 
 is_check : Work → Type 0
 is_check work.Check = Unit {0}

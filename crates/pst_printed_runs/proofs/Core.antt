@@ -32,8 +32,8 @@ one_step s lanes before _ _ own (Closed a runs) = record {
 one_step s lanes before _ _ own (Idle a idle) = own
 
 more_steps : (s : Scenario) (lanes : ℕ) (before after : List Event) (commands : List Command) → IsByRule s lanes before → Makes s lanes before commands after → IsByRule s lanes after
-more_steps s lanes before _ _ own (Done _) = own
-more_steps s lanes before after _ own (Then _ middle _ command more step rest) = more_steps s lanes middle after more (one_step s lanes before middle command own step) rest
+more_steps s lanes _ _ _ own (Done t) = own
+more_steps s lanes _ _ _ own (Then before middle after command more step rest) = more_steps s lanes middle after more (one_step s lanes before middle command own step) rest
 
 pub by_rule : (s : Scenario) (lanes : ℕ) (trace : List Event) (commands : List Command) → Core s lanes commands trace → IsByRule s lanes trace
 by_rule s lanes trace commands core = more_steps s lanes [] trace commands (record { blocks = []; are = refl; rule = tt }) core

@@ -32,9 +32,9 @@ use Rattle.pst_printed_runs.specs.Taken.{IsTaken, RunsAreTaken}
 use Rattle.pst_printed_runs.proofs.Core.{by_rule, not_ended}
 
 at_most_one : (n : ℕ) → (1 < n → ⊥) → n ≤ 1
-at_most_one zero no = omega arith
-at_most_one (suc zero) no = omega arith
-at_most_one (suc (suc n)) no = absurd (no (omega arith))
+at_most_one zero few = omega arith
+at_most_one (suc zero) few = omega arith
+at_most_one (suc (suc n)) few = absurd (few (omega arith))
 
 -- the laws that a run on one lane rests on
 record RunLaws : Type 0 where

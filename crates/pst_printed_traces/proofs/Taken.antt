@@ -32,7 +32,7 @@ use Rattle.pst_printed_traces.proofs.Inside.{start_inside, all_numbered, whole_b
 module _ (reads : WrittenTracesAreRead) (verdicts : TraceVerdictsAreOne) (names : List (List ℕ)) (m : ModelTree) (s : Scenario) (lanes : ℕ) (trace : List Event) where
   may_be_read : IsPrintable names s → lanes ≤ 16 → IsLegalTrace s lanes trace → MayBeRead names s trace
   may_be_read own few legal = record {
-    printed = own.names;
+    printed = own.printed;
     actions = own.actions;
     inferred = own.inferred;
     blocks = whole_blocks s lanes trace legal;
@@ -40,19 +40,19 @@ module _ (reads : WrittenTracesAreRead) (verdicts : TraceVerdictsAreOne) (names 
   }
 
   -- what is read has the verdict of the events and the last line that were written
-  verdict_on : (last : LastLine) (t : TraceText) (v : TraceVerdict) → ((lines : ℕ) → OfEvents s lines trace last v)
-      → (t.format ≡ 2) × (flat_map line (map string_bytes t.header.items) ≡ header_text 2 names m s) × (t.events.items ≡ trace) × (t.last ≡ last) → IsTraceVerdict names m s t v
-  verdict_on last t v own (format, header, events, end) =
+  verdict_on : (told : LastLine) (t : TraceText) (v : TraceVerdict) → ((lines : ℕ) → OfEvents s lines trace told v)
+      → (t.format ≡ 2) × (flat_map line (map string_bytes t.header.items) ≡ header_text 2 names m s) × (t.events.items ≡ trace) × (t.last ≡ told) → IsTraceVerdict names m s t v
+  verdict_on told t v own (format, header, events, end) =
       subst (λ (f : ℕ). OfText names m s f (map string_bytes t.header.items) t.events.items t.last v) (sym format)
       (subst (λ (es : List Event). OfText names m s 2 (map string_bytes t.header.items) es t.last v) (sym events)
       (subst (λ (l : LastLine). OfText names m s 2 (map string_bytes t.header.items) trace l v) (sym end)
       (HeaderKept v (record { has = inl refl; is = sym header }) (own (length (map string_bytes t.header.items))))))
 
-  taken : (end : Last) (last : LastLine) (v : TraceVerdict) (answer : CheckAnswer) → MayBeRead names s trace → Says (length s.actions) end last
-      → ((lines : ℕ) → OfEvents s lines trace last v) → IsChecked names m s (trace_text names m s trace end) answer → answer ≡ answer_of v
-  taken end last v _ may says own (IsNoTrace number bad) = absurd ((reads names m s trace end last may says).1.no_bad_line number bad)
-  taken end last v _ may says own (IsJudged t given read judged) =
-      ap answer_of (verdicts names m s t given v judged (verdict_on last t v own ((reads names m s trace end last may says).1.found t read)))
+  taken : (end : Last) (told : LastLine) (v : TraceVerdict) (answer : CheckAnswer) → MayBeRead names s trace → Says (length s.actions) end told
+      → ((lines : ℕ) → OfEvents s lines trace told v) → IsChecked names m s (trace_text names m s trace end) answer → answer ≡ answer_of v
+  taken end told v _ may says own (IsNoTrace number bad) = absurd ((reads names m s trace end told may says).1.no_bad_line number bad)
+  taken end told v _ may says own (IsJudged t given read judged) =
+      ap answer_of (verdicts names m s t given v judged (verdict_on told t v own ((reads names m s trace end told may says).1.found t read)))
 
   -- not every action has ended where one runs
   not_whole : (act lane : ℕ) → IsLegalTrace s lanes trace → RunsOn trace act lane → IsWhole s trace → ⊥

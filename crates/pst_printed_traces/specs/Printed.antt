@@ -16,7 +16,7 @@ use Rattle.pst_scenario_answers.specs.Checked.{IsChecked}
 
 -- names of printed bytes alone, and counts below 2^32
 pub record IsPrintable (names : List (List ℕ)) (s : Scenario) : Type 0 where
-  pub names : All (λ name. list_all is_printed name ≡ true) names
+  pub printed : All (λ name. list_all is_printed name ≡ true) names
   pub actions : length s.actions < 2 ^ 32
   pub inferred : s.level < 2 ^ 32
 
