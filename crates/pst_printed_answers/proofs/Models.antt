@@ -38,7 +38,7 @@ printable names s printed built =
     let few = few_inferred s built.leaves in
     record { printed = printed; actions = omega (arith, small); inferred = omega (arith, small, few) }
 
-is_check : Work → Type 0
+abbrev is_check : Work → Type 0
 is_check work.Check = Unit {0}
 is_check other = ⊥
 

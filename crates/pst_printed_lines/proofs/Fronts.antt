@@ -70,27 +70,27 @@ front_too files shelf old new faults arguments others trace text names m root bo
           (subst (λ (ts : List (List ℕ)). OfTexts arguments front.component front.action ts (HasModel names m root)) (sources ∙ texts) front.comes_to);
     }
 
+abbrev names_of : Front → List (List ℕ)
+names_of (Ends answer text) = []
+names_of (HasModel names m root) = names
+
+abbrev model_of : ModelTree → Front → ModelTree
+model_of otherwise (Ends answer text) = otherwise
+model_of otherwise (HasModel names m root) = m
+
+abbrev root_of : Front → ℕ
+root_of (Ends answer text) = 0
+root_of (HasModel names m root) = root
+
+abbrev has_model : Front → Type 0
+has_model (Ends answer text) = ⊥
+has_model (HasModel names m root) = Unit {0}
+
 pub model_same : (names others : List (List ℕ)) (m l : ModelTree) (root number : ℕ) → HasModel names m root ≡ HasModel others l number → (names ≡ others) × (m ≡ l) × (root ≡ number)
-model_same names others m l root number same = (ap names_of same, ap model_of same, ap root_of same)
-  where
-    names_of : Front → List (List ℕ)
-    names_of (Ends answer text) = []
-    names_of (HasModel ns x r) = ns
-
-    model_of : Front → ModelTree
-    model_of (Ends answer text) = m
-    model_of (HasModel ns x r) = x
-
-    root_of : Front → ℕ
-    root_of (Ends answer text) = 0
-    root_of (HasModel ns x r) = r
+model_same names others m l root number same = (ap names_of same, ap (model_of m) same, ap root_of same)
 
 pub no_end : (names : List (List ℕ)) (m : ModelTree) (root : ℕ) (answer : Answer) (text : List ℕ) → HasModel names m root ≡ Ends answer text → ⊥
 no_end names m root answer text same = subst has_model same tt
-  where
-    has_model : Front → Type 0
-    has_model (Ends a t) = ⊥
-    has_model (HasModel ns x r) = Unit {0}
 
 -- ---- tasks
 

@@ -43,30 +43,33 @@ by_rule s lanes trace commands core = more_steps s lanes [] trace commands (reco
 is_own : (a : ℕ) → nat_eq a a ≡ true
 is_own a = grind (arith, nat_tests)
 
+abbrev is_a_start : Event → Type 0
+is_a_start (Start act lane more) = Unit {0}
+is_a_start (End act) = ⊥
+
 start_is_end : (a b l : ℕ) (more : Bool) → Start b l more ≡ End a → ⊥
 start_is_end a b l more same = subst is_a_start same tt
-  where
-    is_a_start : Event → Type 0
-    is_a_start (Start x y z) = Unit {0}
-    is_a_start (End x) = ⊥
 
-end_of : Event → ℕ
-end_of (Start a l more) = a
-end_of (End a) = a
+abbrev act_of : Event → ℕ
+act_of (Start act lane more) = act
+act_of (End act) = act
+
+abbrev bit : Bool → ℕ
+bit test = cond test 1 0
 
 -- an action that has ended among those that ran one after another has started there
 ended_counts : (actions : List ℕ) (a : ℕ) → Contains (events_of actions) (End a) → 1 ≤ count_by (is_start a) (events_of actions)
 ended_counts [] a (k, below, is) = absurd (omega (arith, below))
 ended_counts (b ∷ more) a (zero, below, is) = absurd (start_is_end a b 0 false is)
 ended_counts (b ∷ more) a (suc zero, below, is) =
-    let same : b ≡ a = ap end_of is in
-    let here : cond (nat_eq b a) 1 0 ≡ 1 = ap (λ (t : Bool). cond t 1 0) (subst (λ (x : ℕ). nat_eq x a ≡ true) (sym same) (is_own a)) in
-    let all : count_by (is_start a) (events_of (b ∷ more)) ≡ cond (nat_eq b a) 1 0 + count_by (is_start a) (End b ∷ events_of more) = sum_by-cons (λ e. cond (is_start a e) 1 0) (Start b 0 false) (End b ∷ events_of more) in
+    let same : b ≡ a = ap act_of is in
+    let here : bit (nat_eq b a) ≡ 1 = ap bit (subst (λ (x : ℕ). nat_eq x a ≡ true) (sym same) (is_own a)) in
+    let all : count_by (is_start a) (events_of (b ∷ more)) ≡ bit (nat_eq b a) + count_by (is_start a) (End b ∷ events_of more) = sum_by-cons (λ (e : Event). bit (is_start a e)) (Start b 0 false) (End b ∷ events_of more) in
     omega (arith, here, all)
 ended_counts (b ∷ more) a (suc (suc k), below, is) =
     let later = ended_counts more a (k, omega (arith, below), is) in
-    let all : count_by (is_start a) (events_of (b ∷ more)) ≡ cond (nat_eq b a) 1 0 + count_by (is_start a) (End b ∷ events_of more) = sum_by-cons (λ e. cond (is_start a e) 1 0) (Start b 0 false) (End b ∷ events_of more) in
-    let rest : count_by (is_start a) (End b ∷ events_of more) ≡ 0 + count_by (is_start a) (events_of more) = sum_by-cons (λ e. cond (is_start a e) 1 0) (End b) (events_of more) in
+    let all : count_by (is_start a) (events_of (b ∷ more)) ≡ bit (nat_eq b a) + count_by (is_start a) (End b ∷ events_of more) = sum_by-cons (λ (e : Event). bit (is_start a e)) (Start b 0 false) (End b ∷ events_of more) in
+    let rest : count_by (is_start a) (End b ∷ events_of more) ≡ 0 + count_by (is_start a) (events_of more) = sum_by-cons (λ (e : Event). bit (is_start a e)) (End b) (events_of more) in
     omega (arith, later, all, rest)
 
 -- so one that starts behind them has not ended
@@ -74,10 +77,10 @@ pub not_ended : StartsOnce → (s : Scenario) (lanes : ℕ) (actions : List ℕ)
 not_ended once s lanes actions a legal ended = ⊎_elim before here (Contains-append_cases (events_of actions) (Start a 0 false ∷ []) (End a) ended)
   where
     all : count_by (is_start a) (events_of actions ++ Start a 0 false ∷ []) ≡ count_by (is_start a) (events_of actions) + count_by (is_start a) (Start a 0 false ∷ [])
-    all = sum_by-append (λ e. cond (is_start a e) 1 0) (events_of actions) (Start a 0 false ∷ [])
+    all = sum_by-append (λ (e : Event). bit (is_start a e)) (events_of actions) (Start a 0 false ∷ [])
 
     own : count_by (is_start a) (Start a 0 false ∷ []) ≡ 1
-    own = sum_by-cons (λ e. cond (is_start a e) 1 0) (Start a 0 false) [] ∙ ap (λ (t : Bool). cond t 1 0 + 0) (is_own a)
+    own = sum_by-cons (λ (e : Event). bit (is_start a e)) (Start a 0 false) [] ∙ ap (λ (t : Bool). bit t + 0) (is_own a)
 
     before : Contains (events_of actions) (End a) → ⊥
     before h =

@@ -28,8 +28,8 @@ module _ (s : Scenario) (lanes : ℕ) where
   block_inside : (trace : List Event) (block : Block) → All (λ e. IsInside (length s.actions) lanes e) trace → MayCome s lanes trace block
       → All (λ e. IsInside (length s.actions) lanes e) (events_of block)
   block_inside trace (Starts members used) before may = starts_inside (length s.actions) lanes members used may.group.inside may.free.below
-  block_inside trace (Ends a) before ((lane, more, start), open) =
-      let one : IsInside (length s.actions) lanes (Start a lane more) = All-contains (λ e. IsInside (length s.actions) lanes e) trace (Start a lane more) before start in
+  block_inside trace (Ends a) before ((lane, start), going) =
+      let one : IsInside (length s.actions) lanes (Start a lane start.0) = All-contains (λ e. IsInside (length s.actions) lanes e) trace (Start a lane start.0) before start.1 in
       All-cons (λ e. IsInside (length s.actions) lanes e) (End a) [] one.0 (All-nil (λ e. IsInside (length s.actions) lanes e))
 
   blocks_inside : (blocks : List Block) → AreLegal s lanes blocks → All (λ e. IsInside (length s.actions) lanes e) (events blocks)

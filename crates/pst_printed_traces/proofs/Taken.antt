@@ -56,7 +56,7 @@ module _ (reads : WrittenTracesAreRead) (verdicts : TraceVerdictsAreOne) (names 
 
   -- not every action has ended where one runs
   not_whole : (act lane : ℕ) → IsLegalTrace s lanes trace → RunsOn trace act lane → IsWhole s trace → ⊥
-  not_whole act lane legal (start, open) whole = open (whole act (start_inside s lanes trace act lane legal start).0)
+  not_whole act lane legal (start, going) whole = going (whole act (start_inside s lanes trace act lane legal start).0)
 
 lane_of : {lanes lane : ℕ} → lanes ≤ 16 → lane < lanes → lane ≤ 15
 lane_of few inside = omega (arith, few, inside)
