@@ -1,6 +1,6 @@
 -- A check of a model takes what a run of its first legal scenario prints.
 use Rattle.std.proofs.Common.{◌≡◌, ◌<◌, ◌≤◌, ◌^◌, ◌⊎◌, inl, inr, ℕ, ◌+◌, List, length, map, refl, sym, ap, subst, ◌∙◌, arith}
-use Rattle.std.specs.Prelude.{Some, None, ◌++◌, replicate}
+use Rattle.std.specs.Prelude.{Option, Some, None, ◌++◌, replicate}
 use Rattle.std.proofs.lemmas.List.{length-map, length-append, length-replicate}
 use Rattle.pst_model.specs.ModelTree.{ModelTree}
 use Rattle.pst_scen.specs.declared.scenario.Scenario.{Scenario}
@@ -22,14 +22,17 @@ use Rattle.pst_outcome.specs.Laws.{IsSpentBudget}
 use Rattle.pst_printed_answers.specs.Names.{ArePrinted}
 use Rattle.pst_printed_answers.specs.Taken.{Takes, ScenariosAreTaken, ModelsAreTaken}
 
+abbrev nothing : Option ℕ
+nothing = None
+
 -- no more actions are inferred than there are
 few_inferred : (s : Scenario) → HasLeavesFirst s → s.level ≤ length s.actions
 few_inferred s leaves =
-    let all : length (map (λ act. act.node) s.actions) ≡ length (map (λ e. Some e.1) (leaves_of s.nodes) ++ replicate s.level None) = ap length leaves.nodes in
+    let all : length (map (λ act. act.node) s.actions) ≡ length (map (λ e. Some e.1) (leaves_of s.nodes) ++ replicate s.level nothing) = ap length leaves.nodes in
     let own : length (map (λ act. act.node) s.actions) ≡ length s.actions = length-map s.actions (λ act. act.node) in
-    let sum : length (map (λ e. Some e.1) (leaves_of s.nodes) ++ replicate s.level None) ≡ length (map (λ e. Some e.1) (leaves_of s.nodes)) + length (replicate s.level None) =
-    length-append (map (λ e. Some e.1) (leaves_of s.nodes)) (replicate s.level None) in
-    let many : length (replicate s.level None) ≡ s.level = length-replicate s.level None in
+    let sum : length (map (λ e. Some e.1) (leaves_of s.nodes) ++ replicate s.level nothing) ≡ length (map (λ e. Some e.1) (leaves_of s.nodes)) + length (replicate s.level nothing) =
+    length-append (map (λ e. Some e.1) (leaves_of s.nodes)) (replicate s.level nothing) in
+    let many : length (replicate s.level nothing) ≡ s.level = length-replicate s.level nothing in
     omega (arith, all, own, sum, many)
 
 printable : (names : List (List ℕ)) (s : Scenario) → ArePrinted names → IsBuilt s → IsPrintable names s
