@@ -1,9 +1,9 @@
-mod OneReading
-mod OneLine
+pub mod OneReading
+pub mod OneLine
 mod OneLexing
 mod OneParse
 pub mod OneTask
-mod OneFront
-mod OneStop
+pub mod OneFront
+pub mod OneStop
 mod OneModel
 mod OneAnswer
