@@ -6,8 +6,7 @@ use Rattle.pst_model.specs.ModelTree.{ModelTree}
 use Rattle.pst_scen.specs.declared.event.Event.{Event}
 use Rattle.pst_scen.specs.declared.scenario.Scenario.{Scenario}
 use Rattle.pst_scen.specs.Laws.{PrefixesAreLegal}
-use Rattle.pst_scen.specs.Trace.{IsLegalTrace, IsWhole, Prefix}
-use Rattle.pst_check.specs.Verdicts.{IsBegun, IsLegal}
+use Rattle.pst_scen.specs.Trace.{IsLegalTrace, IsWhole}
 use Rattle.pst_trace_texts.specs.declared.last.Last.{Last}
 use Rattle.pst_trace_texts.specs.declared.last.Last.TheVariants as last
 use Rattle.pst_trace_texts.specs.Lines.{line}
@@ -16,17 +15,15 @@ use Rattle.pst_trace_texts.specs.Texts.{trace_text}
 use Rattle.pst_trace_lines.specs.declared.last.LastLine.{LastLine}
 use Rattle.pst_trace_lines.specs.declared.last.LastLine.TheVariants as said
 use Rattle.pst_trace_reader.specs.declared.text.TraceText.{TraceText}
-use Rattle.pst_trace_reader.specs.Traces.{IsTraceText}
-use Rattle.pst_written_traces.specs.Written.{MayBeRead, Says, ReadsAs, WrittenTracesAreRead}
+use Rattle.pst_written_traces.specs.Written.{MayBeRead, Says, WrittenTracesAreRead}
 use Rattle.pst_trace_verdict.specs.declared.verdict.TraceVerdict.{TraceVerdict}
 use Rattle.pst_trace_verdict.specs.declared.verdict.TraceVerdict.TheVariants as verdict
 use Rattle.pst_trace_verdict.specs.Events.{RunsOn}
 use Rattle.pst_trace_verdict.specs.Laws.{TraceVerdictsAreOne}
 use Rattle.pst_trace_verdict.specs.Verdicts.{OfEvents, IsWhole as EndsWhole, IsPrefix as EndsEarly, OfText, HeaderKept, IsTraceVerdict}
 use Rattle.pst_scenario_answers.specs.declared.check.CheckAnswer.{CheckAnswer}
-use Rattle.pst_scenario_answers.specs.declared.check.CheckAnswer.TheVariants as checked
 use Rattle.pst_scenario_answers.specs.Checked.{IsChecked, IsNoTrace, IsJudged, answer_of}
-use Rattle.pst_printed_traces.specs.Printed.{IsPrintable, EndsAt, WholeTracesAreTaken, BegunTracesAreTaken}
+use Rattle.pst_printed_traces.specs.Printed.{IsPrintable, WholeTracesAreTaken, BegunTracesAreTaken}
 use Rattle.pst_printed_traces.proofs.Inside.{start_inside, all_numbered, whole_blocks}
 
 module _ (reads : WrittenTracesAreRead) (verdicts : TraceVerdictsAreOne) (names : List (List ℕ)) (m : ModelTree) (s : Scenario) (lanes : ℕ) (trace : List Event) where
