@@ -1,6 +1,6 @@
 -- Each text of the own table of texts is the name of a token.
-use Rattle.std.proofs.Common.{◌≡◌, ◌<◌, ◌≤◌, ◌⊎◌, ℕ, suc, List, [], ◌∷◌, ◌++◌, length, Bool, true, false, nat_lt, refl, sym, ap, subst, ◌∙◌, ⊎_elim, arith}
-use Rattle.std.specs.Prelude.{All, slice_get, Some, pos, slice_index_or}
+use Rattle.std.proofs.Common.{◌≡◌, ◌<◌, ◌≤◌, ℕ, suc, List, [], ◌∷◌, ◌++◌, length, Bool, true, false, nat_lt, refl, sym, ap, subst, ◌∙◌, arith}
+use Rattle.std.specs.Prelude.{slice_get, Some, pos, slice_index_or}
 use Rattle.std.proofs.lemmas.Bool.Decides.{nat_tests}
 use Rattle.std.proofs.lemmas.Option.{slice_get-get_or}
 use Rattle.pst_base.specs.declared.position.Place.{Place}
@@ -11,8 +11,8 @@ use Rattle.pst_token.specs.Spelling.{spelling_of}
 use Rattle.pst_token.specs.Lexemes.{Lexeme, fixed, name, number, IsLexeme, IsName}
 use Rattle.pst_token.specs.Parts.{Part, blank, comment, lexeme, Stand, bytes_of}
 use Rattle.pst_token.specs.Tokens.{lexemes_after, lexemes_of, token_of, IsTokenOf, AreTokensOf, AreTokens, place_after}
-use Rattle.pst_lexer.specs.Numbering.{Numbers, Other, Known, New, AreNumbered}
-use Rattle.pst_texts.specs.Texts.{AreTokensInTurn, AreTokensOfTexts}
+use Rattle.pst_lexer.specs.Numbering.{Other, Known, New, AreNumbered}
+use Rattle.pst_texts.specs.Texts.{AreTokensInTurn}
 use Rattle.pst_own_names.specs.Names.{NamesOfTextsAreNames}
 
 -- ---- lexemes

@@ -5,4 +5,6 @@
 
 mod laws;
 
-pub use laws::{models_are_taken, names_of_models_are_printed, scenarios_are_taken, shared_runs_are_taken};
+pub use laws::{
+    models_are_taken, names_of_models_are_printed, scenarios_are_taken, shared_runs_are_taken,
+};

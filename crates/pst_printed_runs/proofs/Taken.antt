@@ -61,9 +61,10 @@ module _ (laws : RunLaws) (names : List (List ℕ)) (m : ModelTree) (s : Scenari
     -- the action whose body broke off runs
     runs : RunsOn book.trace action 0
     runs =
-        subst (λ (es : List Event). RunsOn es action 0) (sym ran.trace)
-        ((false, Contains-push (events_of ran.actions) (Start action 0 false)),
-        not_ended laws.once s 1 ran.actions action (subst (λ (es : List Event). IsLegalTrace s 1 es) ran.trace legal))
+        subst (λ (es : List Event). RunsOn es action 0) (sym ran.trace) (
+          (false, Contains-push (events_of ran.actions) (Start action 0 false)),
+          not_ended laws.once s 1 ran.actions action (subst (λ (es : List Event). IsLegalTrace s 1 es) ran.trace legal),
+        )
 
     up_to : (end : Last) (given : CheckAnswer) → EndsAt book.trace end → IsChecked names m s (trace_text names m s book.trace end) given → given ≡ checked.Prefix
     up_to end given at is = laws.begun names m s 1 book.trace end given own (omega arith) begun at is
