@@ -1,19 +1,10 @@
 -- A check of a scenario takes what a run of it prints.
-use Rattle.std.proofs.Common.{◌≡◌, ◌≤◌, ℕ, List, refl, ap}
-use Rattle.pst_model.specs.ModelTree.{ModelTree}
-use Rattle.pst_scen.specs.declared.scenario.Scenario.{Scenario}
-use Rattle.pst_scen.specs.Plan.{Entries}
-use Rattle.pst_scen.specs.Plans.{IsPlanOf}
-use Rattle.pst_order.specs.Facts.{LinksStates}
+use Rattle.std.proofs.Common.{ap}
 use Rattle.pst_run_alone.specs.declared.answer.RunAnswer.{RunAnswer}
 use Rattle.pst_run_alone.specs.declared.answer.RunAnswer.TheVariants as ran
-use Rattle.pst_run_alone.specs.Lanes.{Lane}
 use Rattle.pst_scenario_answers.specs.declared.check.CheckAnswer.{CheckAnswer}
-use Rattle.pst_printed_traces.specs.Printed.{IsPrintable}
 use Rattle.pst_printed_runs.specs.Taken.{IsTaken, RunsAreTaken}
-use Rattle.pst_outcome.specs.declared.answer.Answer.{Answer}
-use Rattle.pst_outcome.specs.declared.task.Work.TheVariants as work
-use Rattle.pst_outcome.specs.Models.{answer_of_run, answer_of_check, OfScenario, IsRun, IsSharedRun, IsJudged}
+use Rattle.pst_outcome.specs.Models.{answer_of_run, answer_of_check, IsRun, IsSharedRun, IsJudged}
 use Rattle.pst_printed_answers.specs.Taken.{Takes, SharedRunsAreTaken, ScenariosAreTaken}
 
 -- the answer of a check, as the program tells it

@@ -1,5 +1,5 @@
 -- A check takes what a run on several lanes prints.
-use Rattle.std.proofs.Common.{◌≡◌, ◌<◌, ◌≤◌, ◌^◌, ℕ, ◌+◌, List, length, refl, arith}
+use Rattle.std.proofs.Common.{◌<◌, ◌≤◌, ℕ, List, length, arith}
 use Rattle.std.specs.Prelude.{None, get_or}
 use Rattle.pst_model.specs.ModelTree.{ModelTree}
 use Rattle.pst_scen.specs.declared.event.Event.{Event}
@@ -15,7 +15,7 @@ use Rattle.pst_scenario_answers.specs.Checked.{IsChecked}
 use Rattle.pst_body_ends.specs.Ends.{BodiesAreShort}
 use Rattle.pst_printed_traces.specs.Printed.{IsPrintable, EndsAt, WholeTracesAreTaken, BegunTracesAreTaken}
 use Rattle.pst_printed_runs.specs.Taken.{IsTaken}
-use Rattle.pst_outcome.specs.SharedRuns.{Break, Failed, Trapped, HasBroken, AtCall, InTrap, HaveStopped, ShowsSharedRun, IsTooWide, EndsWhole, EndsEarly, answer_of_break, last_of_break}
+use Rattle.pst_outcome.specs.SharedRuns.{Break, Failed, Trapped, HasBroken, AtCall, InTrap, HaveStopped, IsTooWide, EndsWhole, EndsEarly, answer_of_break, last_of_break}
 use Rattle.pst_printed_answers.specs.Taken.{SharedRunsAreTaken}
 
 -- a body that broke off made few calls, or trapped by one of the kinds
