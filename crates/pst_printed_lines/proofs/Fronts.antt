@@ -1,19 +1,18 @@
 -- Two lines come to one model.
-use Rattle.std.proofs.Common.{◌≡◌, ◌≤◌, ◌<◌, ◌^◌, ◌⊎◌, inl, inr, ℕ, List, [], Bool, true, false, decimal, nat_lt, cond, refl, sym, ap, subst, ◌∙◌, arith}
+use Rattle.std.proofs.Common.{◌≡◌, ◌≤◌, ◌<◌, ◌^◌, ◌⊎◌, inl, inr, ℕ, List, [], Bool, true, false, decimal, nat_lt, cond, refl, ap, subst, ◌∙◌, arith}
 use Rattle.std.specs.Prelude.{Option, Some, None, All}
 use Rattle.std.proofs.lemmas.Bool.{ltb-true}
 use Rattle.pst_io.specs.Shelf.{Files}
 use Rattle.pst_model.specs.ModelTree.{ModelTree}
-use Rattle.pst_words.specs.declared.command.Command.{Command}
 use Rattle.pst_words.specs.declared.command.Command.TheVariants.{Run, Check}
-use Rattle.pst_words.specs.declared.key.Key.TheVariants.{Seed, Infer, Budget, Lanes}
+use Rattle.pst_words.specs.declared.key.Key.TheVariants.{Seed, Infer, Lanes}
 use Rattle.pst_words.specs.Table.{IsValue}
 use Rattle.pst_words.specs.Lines.{IsArgument, given}
 use Rattle.pst_files_read.specs.Files.{IsTraceRead, sources_in}
 use Rattle.pst_outcome.specs.declared.answer.Answer.{Answer}
 use Rattle.pst_outcome.specs.declared.task.Task.{Task}
-use Rattle.pst_outcome.specs.Tasks.{IsNumberGiven, HasRoot, AreSources, IsTask}
-use Rattle.pst_outcome.specs.Sources.{Front, Ends, HasModel, OfUnits, BreaksRule, HasManyInstances, AreElaborated, OfTokens, IsSyntaxFault, HasUnits, OfTexts, IsLexicalFault, HasManyTokens, HasTokens}
+use Rattle.pst_outcome.specs.Tasks.{IsNumberGiven, HasRoot, IsTask}
+use Rattle.pst_outcome.specs.Sources.{Front, Ends, HasModel, BreaksRule, HasManyInstances, AreElaborated, IsSyntaxFault, HasUnits, OfTexts, IsLexicalFault, HasManyTokens, HasTokens}
 use Rattle.pst_outcome.specs.Outcome.{OfFiles, IsNoFile, IsUnread, HasManyBytes, HasLongTrace, HasFront}
 use Rattle.pst_outcome.proofs.OneReading.{one_texts}
 use Rattle.pst_outcome.proofs.OneTask.{one_task, value_cases}

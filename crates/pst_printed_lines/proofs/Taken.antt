@@ -1,19 +1,19 @@
 -- A line that checks takes what a line that runs prints.
-use Rattle.std.proofs.Common.{◌≡◌, ◌≤◌, ◌<◌, ◌⊎◌, inr, ℕ, List, refl, sym, ap, subst, ◌∙◌, arith}
-use Rattle.std.specs.Prelude.{Option, Some, All}
+use Rattle.std.proofs.Common.{◌≡◌, ◌<◌, ◌⊎◌, inr, ℕ, List, sym, ap, subst, arith}
+use Rattle.std.specs.Prelude.{Option, Some}
 use Rattle.pst_base.specs.Fault.{last_count}
 use Rattle.pst_io.specs.Shelf.{Files}
 use Rattle.pst_model.specs.ModelTree.{ModelTree}
 use Rattle.pst_words.specs.declared.command.Command.{Command}
 use Rattle.pst_words.specs.declared.command.Command.TheVariants.{Run, Check}
 use Rattle.pst_words.specs.declared.command.Lines.{Lines}
-use Rattle.pst_words.specs.Lines.{IsLine, IsArgument}
+use Rattle.pst_words.specs.Lines.{IsLine}
 use Rattle.pst_files_read.specs.Files.{IsTraceRead}
 use Rattle.pst_run_alone.specs.Lanes.{Lane}
 use Rattle.pst_outcome.specs.declared.answer.Answer.{Answer}
 use Rattle.pst_outcome.specs.declared.task.Task.{Task}
 use Rattle.pst_outcome.specs.Tasks.{IsTask}
-use Rattle.pst_outcome.specs.Sources.{Front, Ends, HasModel}
+use Rattle.pst_outcome.specs.Sources.{Ends, HasModel}
 use Rattle.pst_outcome.specs.Models.{OfModel}
 use Rattle.pst_outcome.specs.Outcome.{OfFiles, HasFront, bytes_of, IsOwed, IsUsage, EndsAtFiles, EndsAtSources, IsServed}
 use Rattle.pst_outcome.specs.Laws.{IsSpentBudget}
