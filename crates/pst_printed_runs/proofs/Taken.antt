@@ -1,16 +1,15 @@
 -- A check takes what a run on one lane prints.
-use Rattle.std.proofs.Common.{◌≡◌, ◌<◌, ◌≤◌, ◌^◌, ℕ, zero, suc, ◌+◌, ℤ, List, [], ◌∷◌, ◌++◌, length, false, refl, sym, subst, arith}
-use Rattle.std.specs.Prelude.{Option, Some}
+use Rattle.std.proofs.Common.{◌≡◌, ◌<◌, ◌≤◌, ℕ, zero, suc, List, length, false, sym, subst, arith}
+use Rattle.std.specs.Prelude.{Option}
 use Rattle.std.proofs.lemmas.List.Elements.{Contains-push}
 use Rattle.pst_target.specs.declared.call.Call.{Call as Answered}
 use Rattle.pst_model.specs.ModelTree.{ModelTree}
 use Rattle.pst_scen.specs.declared.event.Event.{Event}
 use Rattle.pst_scen.specs.declared.event.Event.TheVariants.{Start}
 use Rattle.pst_scen.specs.declared.scenario.Scenario.{Scenario}
-use Rattle.pst_scen.specs.Core.{Command}
 use Rattle.pst_scen.specs.Plan.{Entries, widest}
 use Rattle.pst_scen.specs.Plans.{IsPlanOf}
-use Rattle.pst_scen.specs.Trace.{IsLegalTrace, IsWhole, Prefix, Ended, StartsOn}
+use Rattle.pst_scen.specs.Trace.{IsLegalTrace, Prefix}
 use Rattle.pst_legal.specs.Body.{BodyRun, Trap, Wants}
 use Rattle.pst_order.specs.Facts.{LinksStates}
 use Rattle.pst_order.specs.Laws.{RuleIsLegal, RuleIsPrefix}
@@ -21,14 +20,13 @@ use Rattle.pst_trace_texts.specs.declared.last.Last.{Last}
 use Rattle.pst_trace_texts.specs.declared.last.Last.TheVariants as last
 use Rattle.pst_trace_texts.specs.Texts.{trace_text}
 use Rattle.pst_trace_verdict.specs.Events.{RunsOn}
-use Rattle.pst_run_alone.specs.declared.answer.RunAnswer.{RunAnswer}
-use Rattle.pst_run_alone.specs.Shown.{ShowsRun, IsTooWide, HasEnded, HasFailed, HasTrapped}
+use Rattle.pst_run_alone.specs.Shown.{IsTooWide, HasEnded, HasFailed, HasTrapped}
 use Rattle.pst_scenario_answers.specs.declared.check.CheckAnswer.{CheckAnswer}
 use Rattle.pst_scenario_answers.specs.declared.check.CheckAnswer.TheVariants as checked
 use Rattle.pst_scenario_answers.specs.Checked.{IsChecked}
 use Rattle.pst_body_ends.specs.Ends.{BodiesAreShort}
 use Rattle.pst_printed_traces.specs.Printed.{IsPrintable, EndsAt, WholeTracesAreTaken, BegunTracesAreTaken}
-use Rattle.pst_printed_runs.specs.Taken.{IsTaken, RunsAreTaken}
+use Rattle.pst_printed_runs.specs.Taken.{RunsAreTaken}
 use Rattle.pst_printed_runs.proofs.Core.{by_rule, not_ended}
 
 at_most_one : (n : ℕ) → (1 < n → ⊥) → n ≤ 1
