@@ -4,7 +4,7 @@ mod OneLexing
 mod OneParse
 pub mod OneTask
 pub mod OneFront
-mod OneStop
+pub mod OneStop
 mod OneCounts
 mod OneRuns
 mod OneModel

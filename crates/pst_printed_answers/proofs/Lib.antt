@@ -1,0 +1,4 @@
+mod Names
+mod Shared
+mod Scenarios
+mod Models
