@@ -4,6 +4,7 @@ ghost use Rattle.pst_expr.specs.Spans.{size_of};
 ghost use Rattle.pst_reasons.specs.Giving.{IsKept, IsAt};
 ghost use Rattle.pst_fitting.specs.Passed.{Passes};
 
+use crate::portions::{inner_of, next_width, portion_at};
 use crate::trial::can_give;
 use pst_base::NoMemory;
 use pst_expr::Domain;
@@ -25,8 +26,10 @@ pub struct Fitting {
 /// refused. The order begins at the value of the start's index and goes on in ascending order, behind the greatest
 /// value with the least. Nothing more is given then.
 ///
-/// Values are tried in runs, as one span: where it is refused, all its values are passed and a run of twice the length
-/// follows; else half of it is tried, until one value is left.
+/// Values are tried in runs, as one span: where it is refused, all its values are passed. Those below the variable's
+/// present bounds are one run, and so are those above them. Between them a run of twice the length follows one that is
+/// refused; else half of it is tried, until one value is left. Where a run outside the bounds isn't refused, they are left
+/// aside from there on.
 pub fn first_fitting(
     alloc: Global,
     narrowed: &mut Narrowed,
@@ -44,17 +47,23 @@ pub fn first_fitting(
 {
     let size = domain.size();
     let mut reasons = Vec::new(alloc);
+    let inner = inner_of(narrowed, variable, domain);
+    let mut bounded = true;
     let mut place = from;
     let mut width = 1;
     while place < size {
         let run = run_at(start, size, place);
-        let count = run.count.min(width);
+        let portion = portion_at(bounded, inner, run, width);
+        let count = portion.count;
+        let is_outer = portion.outer;
         let span = span_of_run(domain, run.index, count);
         if !can_give(alloc, narrowed, variable, span, &mut reasons)? {
             place += count;
-            width = count.saturating_add(count);
+            width = next_width(portion, width);
         } else if count == 1 {
             return Ok(Fitting { place, reasons });
+        } else if is_outer {
+            bounded = false;
         } else {
             width = count / 2;
         }

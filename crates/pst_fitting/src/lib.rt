@@ -4,6 +4,7 @@
 
 mod fitting;
 mod places;
+mod portions;
 mod trial;
 
 pub use fitting::{Fitting, first_fitting};

@@ -1,4 +1,4 @@
-use Rattle.std.proofs.Common.{rules, ◌≡◌, ◌<◌, Bool, not, true, false, length, refl, sym, subst, arith}
+use Rattle.std.proofs.Common.{rules, ◌≡◌, Bool, not, true, false, length, refl, sym, subst, arith}
 use Rattle.pst_expr.specs.Spans.{size_of}
 use Rattle.pst_values.specs.Options.{IsRun}
 use Rattle.pst_fitting.specs.Places.{AreBelow}
@@ -37,20 +37,23 @@ loop-place-preserved-then-not-branch c =
     let h = c.loop-place.invariant in
     let is : IsRun c.args.start (size_of spans) c.loop-place.place run = subst (λ n. IsRun c.args.start n c.loop-place.place run) c.size-size.ensures c.run_at-run.ensures in
     let b : c.in_ok-can_give.field-0 ≡ false = first_of (cc (c.if-not-branch.true), search (rules, not_is_true, c.if-not-branch.true)) in
-    let some = is.some in
-    let wide = h.wide in
-    after_refused c.args.narrowed.now c.loop-place.narrowed c.can_give.new.narrowed c.args.variable spans c.args.start c.args.from c.loop-place.place c.loop-place.width c.saturating_add-width.result c.min-count.result run span c.loop-place.reasons.items c.can_give.new.reasons.items
-    (grind (arith, c.saturating_add-width.ensures, c.min-count.ensures, some, wide)) is (grind (arith, c.min-count.ensures)) c.span_of_run-span.ensures.holds h c.can_give.ensures.at
+    after_refused c.args.narrowed.now c.loop-place.narrowed c.can_give.new.narrowed c.args.variable spans c.args.start c.args.from c.loop-place.place c.loop-place.width c.next_width-width.result c.portion_at-portion.result.count run span c.loop-place.reasons.items c.can_give.new.reasons.items
+    c.next_width-width.ensures.some is c.portion_at-portion.ensures.most c.span_of_run-span.ensures.holds h c.can_give.ensures.at
     (subst (λ x. Tries x c.loop-place.narrowed c.args.variable span c.loop-place.reasons.items c.can_give.new.reasons.items) b c.in_ok-can_give.ensures.tries)
+
+pub loop-place-preserved-then-is_outer : goal.loop-place-preserved-then-is_outer
+loop-place-preserved-then-is_outer c =
+    let h = c.loop-place.invariant in
+    let b : c.in_ok-can_give.field-0 ≡ true = first_of (cc (c.if-not-branch.false), search (rules, not_is_false, c.if-not-branch.false)) in
+    let same = subst (λ x. Tries x c.loop-place.narrowed c.args.variable c.span_of_run-span.result c.loop-place.reasons.items c.can_give.new.reasons.items) b c.in_ok-can_give.ensures.tries in
+    after_wide c.args.narrowed.now c.loop-place.narrowed c.can_give.new.narrowed c.args.variable c.args.domain.now c.args.start c.args.from c.loop-place.place c.loop-place.width c.loop-place.width c.loop-place.reasons.items c.can_give.new.reasons.items h.wide same h c.can_give.ensures.at
 
 pub loop-place-preserved : goal.loop-place-preserved
 loop-place-preserved c =
     let h = c.loop-place.invariant in
     let b : c.in_ok-can_give.field-0 ≡ true = first_of (cc (c.if-not-branch.false), search (rules, not_is_false, c.if-not-branch.false)) in
     let same = subst (λ x. Tries x c.loop-place.narrowed c.args.variable c.span_of_run-span.result c.loop-place.reasons.items c.can_give.new.reasons.items) b c.in_ok-can_give.ensures.tries in
-    let run_some = c.run_at-run.ensures.some in
-    let wide = h.wide in
-    let some : 0 < c.min-count.result = grind (arith, c.min-count.ensures, run_some, wide) in
+    let some = c.portion_at-portion.ensures.some in
     after_wide c.args.narrowed.now c.loop-place.narrowed c.can_give.new.narrowed c.args.variable c.args.domain.now c.args.start c.args.from c.loop-place.place c.loop-place.width _ c.loop-place.reasons.items c.can_give.new.reasons.items (omega (arith, some, c.if-count-eq1.false)) same h c.can_give.ensures.at
 
 pub returns-then-count-eq1-clause-passes : goal.returns-then-count-eq1-clause-passes
