@@ -4,6 +4,7 @@
 
 mod bare;
 mod constraints;
+mod earlier;
 mod pairs;
 
 pub use constraints::{differing, rival_constraints};
