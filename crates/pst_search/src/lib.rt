@@ -4,6 +4,7 @@
 
 mod first;
 mod judging;
+mod linked;
 mod looking;
 mod planned;
 mod reading;

@@ -11,7 +11,7 @@
 //! | `need_refuses` | a need that no action serves, while the sources are being linked | `pst_open_needs` |
 //! | `order_refuses` | sources that no order of the actions allows, while they are being linked | `pst_link_order`, `pst_order_ahead` |
 //! | `claims_refuse` | claims that need more instances than there are, where the sources have just been read through | `pst_claim_counts` |
-//! | `plan_refuses` | what has no plan, where the sources or the claims have just been read through | `pst_graph`, `pst_plan_so_far` |
+//! | `plan_refuses` | what has no plan, where the sources, of which some are linked, or the claims have just been read through | `pst_graph`, `pst_plan_so_far` |
 //!
 //! A whole list that passes them all is refused where it has no plan (`plan_whole`), and where a constraint doesn't hold
 //! (`judge_at`).
@@ -30,6 +30,7 @@ ghost use Rattle.pst_list_values.specs.Walked.{kept_of};
 ghost use Rattle.pst_search.specs.Readings.{barren_at, IsAnswer, IsShown};
 
 use crate::judging::has_plan;
+use crate::linked::is_some_linked;
 use pst_base::NoMemory;
 use pst_built::dead_stays_dead;
 use pst_claim_counts::{has_too_few_instances, too_many_claims_refuse_lists};
@@ -171,13 +172,17 @@ fn claims_refuse(alloc: Global, lists: &ListWalk<'_>) -> Result<bool, NoMemory>
     Ok(short)
 }
 
-// Whether the sources, or the claims behind them, have just been read through, and more is to be read.
-fn is_time_to_plan(lists: &ListWalk<'_>) -> Result<bool, NoMemory> {
+// Whether the sources, or the claims behind them, have just been read through, and more is to be read. Where nothing is
+// linked, the order is that of the activity alone: nothing but claims refuses it.
+fn is_time_to_plan(lists: &ListWalk<'_>, scenario: &Scenario) -> Result<bool, NoMemory> {
     if let Next::Whole = lists.next() {
         return Ok(false);
     }
+    if lists.is_just_behind_claims() {
+        return Ok(true);
+    }
     let behind = is_just_behind(lists)?;
-    Ok(behind || lists.is_just_behind_claims())
+    Ok(behind && is_some_linked(scenario))
 }
 
 // Whether the plan refuses what is read, where that may just have become known.
@@ -187,12 +192,12 @@ fn plan_refuses(alloc: Global, lists: &ListWalk<'_>) -> Result<bool, NoMemory>
 {
     sources_are_built();
     plans_refuse_lists();
-    if !is_time_to_plan(lists)? {
-        return Ok(false);
-    }
     let Some(scenario) = lists.scenario() else {
         return Ok(false);
     };
+    if !is_time_to_plan(lists, scenario)? {
+        return Ok(false);
+    }
     let planned = has_plan(alloc, scenario)?;
     Ok(!planned)
 }
