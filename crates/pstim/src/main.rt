@@ -7,21 +7,48 @@ use pst_io::{FileShelf, OutSink};
 use pst_portable::portable_stimulus;
 use pst_target::{OpenGate, ScriptTarget};
 use std::alloc::{AllocError, Global};
-use std::env;
+use std::env::FillError;
 use std::process::ExitCode;
 use std::rt::Env;
 
 /// The status where the program itself finds no memory.
 const NO_MEMORY: u8 = 8;
 
+/// The bytes of room in which a word is read at first, and the most: no system hands in a longer one.
+const LEAST_ROOM: usize = 1 << 10;
+
+const MOST_ROOM: usize = 1 << 18;
+
+/// The word at a place of the command line, none behind the last. A word that isn't UTF-8, or is too
+/// long for any room, is handed in as an empty one: no line has that, wherever it is.
+fn word_at<R: Env + AllocGlobal>(rt: &R, place: usize) -> Result<Option<String>, NoMemory> {
+    let mut room = LEAST_ROOM;
+    while room <= MOST_ROOM {
+        let mut bytes = Vec::new(rt.alloc());
+        bytes.resize(room, 0u8)?;
+        match rt.arg(place, &mut bytes) {
+            Ok(length) => {
+                bytes.truncate(length);
+                return Ok(Some(match String::from_utf8(bytes) {
+                    Ok(word) => word,
+                    Err(_) => String::new(rt.alloc()),
+                }));
+            }
+            Err(FillError::NotPresent) => return Ok(None),
+            Err(FillError::TooLong) => room *= 2,
+        }
+    }
+    Ok(Some(String::new(rt.alloc())))
+}
+
 /// The words of the command line, without the program's name.
 fn words_of<R: Env + AllocGlobal>(rt: &R) -> Result<Vec<String>, NoMemory> {
     let mut words = Vec::new(rt.alloc());
-    let Ok(all) = env::args(rt) else {
-        return Err(NoMemory);
-    };
-    for word in all.skip(1) {
-        words.push(word)?;
+    for place in 1..usize::MAX {
+        match word_at(rt, place)? {
+            Some(word) => words.push(word)?,
+            None => break,
+        }
     }
     Ok(words)
 }
