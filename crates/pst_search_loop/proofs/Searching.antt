@@ -8,9 +8,11 @@ use Rattle.pst_search_loop.specs.declared.conflict.Conflict.{Conflict}
 use Rattle.pst_search_loop.specs.declared.frame.Frame.{Frame}
 use Rattle.pst_search_loop.specs.declared.walker.Look.{Look}
 use Rattle.pst_search_loop.specs.declared.walker.Look.TheVariants as look
+use Rattle.pst_search_loop.specs.declared.level.Found.{Found}
+use Rattle.pst_search_loop.specs.declared.level.Found.TheVariants as found
 use Rattle.pst_search_loop.specs.Kept.{Kept, Sought, Shows, FactsHold, SameKept}
 use Rattle.pst_search_loop.specs.Stack.{Stands}
-use Rattle.pst_search_loop.specs.Search.{Further, Says, IsLeast, AreCounted, IsSpent, IsEmpty}
+use Rattle.pst_search_loop.specs.Search.{Further, Says, IsLeast, AreCounted, IsSpent, IsEmpty, EndsAt, Ends}
 use Rattle.pst_search_loop.proofs.Conflicts.{same_self, same_then}
 use Rattle.pst_search_loop.proofs.Stack.{stands_first, none_before_here}
 
@@ -115,3 +117,10 @@ searching_spent k l frames shown budget facts s = (
     before = subst (NoneBefore k.model k.root k.seed k.level) s.here (none_before_same k l l.choices s.same (none_before_here l frames (facts_same k l s.same facts) s.stands));
   },
 )
+
+-- at the last live list that the budget allows
+pub searching_ends : (k l : Kept) (frames : List Frame) (shown : Look) (budget : ℕ) → FactsHold k.facts → Searching k l frames shown budget → (f : Found) → EndsAt f l → Ends f k l budget
+searching_ends k l frames shown budget facts s found.Here h =
+    record { same = s.same; before = none_before_here l frames (facts_same k l s.same facts) s.stands; sought = h }
+searching_ends k l frames shown budget facts s (found.Nothing on_level left) h = absurd h
+searching_ends k l frames shown budget facts s found.Spent h = searching_spent k l frames shown budget facts s

@@ -121,6 +121,12 @@ pub record IsEmpty (k : Kept) (on_level : Bool) (budget left : ℕ) : Type 0 whe
   pub sum : used + left ≡ budget
   pub more : 0 < left
 
+-- whether the list here reads a legal scenario, where it is the last that the budget allows
+abbrev pub EndsAt : Found → Kept → Type 0
+EndsAt found.Here k = Sought k k.level k.choices
+EndsAt (found.Nothing on_level left) k = ⊥
+EndsAt found.Spent k = Unit {0}
+
 abbrev pub Ends : Found → Kept → Kept → ℕ → Type 0
 Ends found.Here old new budget = IsLeast old new
 Ends (found.Nothing on_level left) old new budget = SameKept old new × IsEmpty old on_level budget left

@@ -4,7 +4,7 @@ ghost use Rattle.pst_scen.specs.declared.scenario.Scenario.{Scenario};
 ghost use Rattle.pst_legal.specs.ValueReading.{Options};
 ghost use Rattle.pst_search_loop.specs.Kept.{Kept, answer, with_choice, Sought, Shows, IsConflict, SameKept, FactsHold};
 ghost use Rattle.pst_search_loop.specs.Stack.{Stands, AllRight, ArePassed};
-ghost use Rattle.pst_search_loop.specs.Search.{rank, Turns, Leaves, Says, Ends, IsOnward, Went, Took};
+ghost use Rattle.pst_search_loop.specs.Search.{rank, Turns, Leaves, Says, EndsAt, Ends, IsOnward, Went, Took};
 
 use crate::conflict::Conflict;
 use crate::frame::Frame;
@@ -25,7 +25,7 @@ pub enum Found {
         /// How many live lists of the budget are left.
         left: u64,
     },
-    /// As many live lists were passed as the budget has.
+    /// As many live lists were come to as the budget has, and none of them reads a legal scenario.
     Spent,
 }
 
@@ -179,7 +179,21 @@ fn step<W: Walker>(
     }
 }
 
-/// Searches a level from the empty list on, past at most so many live lists.
+// At the last live list that the budget allows: whether it reads a legal scenario.
+fn end_at<W: Walker>(walker: &W, shown: &Look) -> Result<Found, NoMemory>
+    requires { Shows (W.kept walker.now) shown.now }
+    ensures { IfOk result (λ found. EndsAt found (W.kept walker.now)) }
+{
+    let Look::Whole = shown else {
+        return Ok(Found::Spent);
+    };
+    match walker.judge()? {
+        Judged::Legal => Ok(Found::Here),
+        Judged::Refused(_) => Ok(Found::Spent),
+    }
+}
+
+/// Searches a level from the empty list on, past at most so many live lists. The last of them may read the scenario.
 pub fn search_level<W: Walker>(
     alloc: Global,
     walker: &mut W,
@@ -206,5 +220,6 @@ pub fn search_level<W: Walker>(
             },
         }
     }
-    Ok(Found::Spent)
+    let found = end_at(walker, &shown)?;
+    Ok(found)
 }

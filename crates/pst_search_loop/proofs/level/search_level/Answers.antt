@@ -3,7 +3,7 @@ use Rattle.std.specs.Prelude.{Option, Some}
 use Rattle.pst_search_loop.specs.declared.walker.Look.{Look}
 use Rattle.pst_search_loop.specs.Kept.{Kept}
 use Rattle.pst_search_loop.specs.Search.{Says}
-use Rattle.pst_search_loop.proofs.Searching.{Searching, searching_begun, searching_on, says_further, searching_here, searching_empty, searching_spent}
+use Rattle.pst_search_loop.proofs.Searching.{Searching, searching_begun, searching_on, says_further, searching_here, searching_empty, searching_ends}
 use Rattle.pst_search_loop.proofs.level.search_level.Goals as goal
 
 pub loop-spent-init : goal.loop-spent-init
@@ -46,4 +46,4 @@ returns g c =
     let l : Kept = g.W.Walker.kept c.loop-spent.walker in
     let fs = c.loop-spent.frames.items in
     let all : c.loop-spent.spent ≡ c.args.budget = omega arith in
-    searching_spent k l fs c.loop-spent.shown c.args.budget c.requires.facts (subst (λ n. Searching k l fs c.loop-spent.shown n) all c.loop-spent.invariant)
+    searching_ends k l fs c.loop-spent.shown c.args.budget c.requires.facts (subst (λ n. Searching k l fs c.loop-spent.shown n) all c.loop-spent.invariant) c.in_ok-found.found c.in_ok-found.ensures
