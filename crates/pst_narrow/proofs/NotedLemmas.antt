@@ -4,7 +4,8 @@ use Rattle.std.specs.Prelude.{slice_get, Contains}
 use Rattle.std.specs.Global.{Vec}
 use Rattle.std.proofs.lemmas.List.{length_push, get_or_default}
 use Rattle.std.proofs.lemmas.List.Elements.{Contains-get_or, Contains-append_left, Contains-append_right, Contains-append_cases}
-use Rattle.pst_expr.specs.Tree.{Expression}
+use Rattle.pst_expr.specs.declared.tree.BinaryOp.{BinaryOp}
+use Rattle.pst_expr.specs.Tree.{Expression, Binary}
 use Rattle.pst_narrow.specs.Mentions.{IsElement, Mentions, AreNoted}
 use Rattle.pst_narrow.specs.Watch.{Rows, Has, AreAdded, IsNumbered, AreWatched}
 
@@ -32,6 +33,11 @@ noted_then P Q R xs ys zs first second each h k =
       added = λ v r. elim (each v r) [ inl p ↦ k.kept v (h.added v p) | inr q ↦ k.added v q ];
       only = λ v c. elim (k.only v c) [ inl d ↦ elim (h.only v d) [ inl o ↦ inl o | inr p ↦ inr (first v p) ] | inr q ↦ inr (second v q) ];
     }
+
+-- the variables of a right operand, and then those of the left one
+pub noted_right_first : (op : BinaryOp) (l r : Expression) (xs ys zs : List ℕ) → AreNoted (Mentions r) xs ys → AreNoted (Mentions l) ys zs → AreNoted (Mentions (Binary op l r)) xs zs
+noted_right_first op l r xs ys zs first second =
+    noted_then (Mentions r) (Mentions l) (Mentions (Binary op l r)) xs ys zs (λ v p. inr p) (λ v q. inl q) (λ v h. elim h [ inl p ↦ inr p | inr q ↦ inl q ]) first second
 
 -- ---- rows
 

@@ -29,8 +29,26 @@ fn add_elements(first: u32, count: u32, numbers: &mut Vec<u32>) -> Result<(), No
     Ok(())
 }
 
-/// Adds the numbers of the variables that stand in an expression.
+/// Adds the numbers of the variables that stand in an expression. Along the left operands it takes no stack.
+#[cycle(mentions)]
 pub fn add_mentioned(expr: &Expr, numbers: &mut Vec<u32>) -> Result<(), NoMemory>
+    requires { HasVariablesBelow (2 ^ 32) (view expr.now) }
+    ensures { OnOk result (AreNoted (Mentions (view expr.now)) numbers.old.items numbers.new.items) }
+{
+    let mut part = expr;
+    for _depth in 0..usize::MAX {
+        let Expr::Binary(_, left, right) = part else {
+            break;
+        };
+        add_mentioned(right, numbers)?;
+        part = left;
+    }
+    add_of_operands(part, numbers)
+}
+
+// The same, operand by operand.
+#[cycle(mentions)]
+fn add_of_operands(expr: &Expr, numbers: &mut Vec<u32>) -> Result<(), NoMemory>
     requires { HasVariablesBelow (2 ^ 32) (view expr.now) }
     ensures { OnOk result (AreNoted (Mentions (view expr.now)) numbers.old.items numbers.new.items) }
 {
