@@ -29,8 +29,7 @@ class Expressions:
 
     def unary(self):
         if self.kind() in ("-", "!", "~"):
-            operator = self.take().kind
-            return self.nested(lambda: (operator, self.unary()))
+            return self.nested(lambda: (self.take().kind, self.unary()))
         return self.primary()
 
     def primary(self):
@@ -38,11 +37,13 @@ class Expressions:
             return ("number", int(self.take().text, 0))
         if self.kind() in ("true", "false"):
             return ("number", int(self.take().kind == "true"))
-        if self.skip("("):
-            inner = self.nested(self.expression)
-            self.need(")")
-            return inner
-        return self.path()
+        return self.nested(self.bracketed) if self.kind() == "(" else self.path()
+
+    def bracketed(self):
+        self.need("(")
+        inner = self.expression()
+        self.need(")")
+        return inner
 
     def path(self):
         name = self.need("name").text
@@ -59,9 +60,11 @@ class Expressions:
         return ("path", steps)
 
     def index(self):
-        if not self.skip("["):
-            return None
-        inner = self.nested(self.expression)
+        return self.nested(self.bracketed_index) if self.kind() == "[" else None
+
+    def bracketed_index(self):
+        self.need("[")
+        inner = self.expression()
         self.need("]")
         return inner
 

@@ -11,7 +11,7 @@ BLANK = r"[ \t\r\n]+|//[^\n]*|/\*(?:[^*]|\*(?!/))*\*/"
 NUMBER = r"0x[0-9A-Fa-f]+|[1-9][0-9]*|0"
 PART = re.compile(
     rf"(?P<blank>{BLANK})|(?P<word>[A-Za-z_][A-Za-z_0-9]*)|(?P<number>(?:{NUMBER})(?![A-Za-z_0-9]))"
-    rf"|(?P<mark>(?!/\*){'|'.join(map(re.escape, MARKS))})"
+    rf"|(?P<mark>(?!/\*)(?:{'|'.join(map(re.escape, MARKS))}))"
 )
 LARGEST = 2**63 - 1
 
