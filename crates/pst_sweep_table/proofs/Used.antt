@@ -42,16 +42,16 @@ module _ (used : List Use) (type at : ℕ) (d : Use) (first : IsFirstFrom used t
 -- ---- one more type
 
 push_other : (used : List Use) (one : Use) (type : ℕ) → nat_eq type one.action ≡ false → used_in (used ++ one ∷ []) type ≡ used_in used type
-push_other [] one type no = ap (λ b. if b then one.count else 0) no
-push_other (head ∷ used) one type no = ap (λ n. if nat_eq type head.action then head.count else n) (push_other used one type no)
+push_other [] one type differs = ap (λ b. if b then one.count else 0) differs
+push_other (head ∷ used) one type differs = ap (λ n. if nat_eq type head.action then head.count else n) (push_other used one type differs)
 
 push_new : (used : List Use) (one : Use) (type : ℕ) → used_in used type ≡ 0 → (d : Use) → ((k : ℕ) → k < length used → (get_or used k d).action ≢ type) → nat_eq type one.action ≡ true → used_in (used ++ one ∷ []) type ≡ one.count
-push_new [] one type z d other yes = ap (λ b. if b then one.count else 0) yes
-push_new (head ∷ used) one type z d other yes =
+push_new [] one type z d other same = ap (λ b. if b then one.count else 0) same
+push_new (head ∷ used) one type z d other same =
     let o : head.action ≢ type = other 0 (omega arith) in
     let no : nat_eq type head.action ≡ false = grind (arith, nat_tests, o) in
     ap (λ b. if b then head.count else used_in (used ++ one ∷ []) type) no
-    ∙ push_new used one type (nowhere used type d (λ k h. other (suc k) (omega (arith, h)))) d (λ k h. other (suc k) (omega (arith, h))) yes
+    ∙ push_new used one type (nowhere used type d (λ k h. other (suc k) (omega (arith, h)))) d (λ k h. other (suc k) (omega (arith, h))) same
 
 module _ (counts : List ℕ) (used : List Use) (type : ℕ) (are : AreUses counts type used) where
   abbrev no_use : Use
