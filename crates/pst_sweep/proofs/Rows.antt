@@ -12,9 +12,13 @@ use Rattle.pst_legal.specs.Shape.{HasShape}
 use Rattle.pst_sweep_table.specs.declared.row.SweepRow.{SweepRow}
 use Rattle.pst_legal.specs.First.{IsFirst}
 use Rattle.pst_built.specs.Laws.{WholeReadingsAreBuilt}
+use Rattle.pst_search.specs.declared.first.SearchEnd.{SearchEnd}
+use Rattle.pst_search.specs.declared.first.SearchEnd.TheVariants as search_end
+use Rattle.pst_search.specs.Searches.{Searches}
 use Rattle.pst_sweep_table.specs.declared.row.Outcome.{Outcome}
+use Rattle.pst_sweep_table.specs.declared.row.Outcome.TheVariants.{NoScenario, Budget}
 use Rattle.pst_sweep_table.specs.Counts.{no_uses}
-use Rattle.pst_sweep_table.specs.Rows.{MayCome, IsFound, IsRow, IsTable}
+use Rattle.pst_sweep_table.specs.Rows.{MayCome, IsFound, HasNone, IsSpent, IsRow, IsTable}
 use Rattle.pst_sweep.specs.Sweeping.{IsFoundRow, IsEndedRow}
 
 -- ---- the rows that the threads gave
@@ -56,8 +60,15 @@ module _ (m : ModelTree) (root infer budget seed : ℕ) where
   found_is_row s first (Ok row) is = subst (IsRow m root infer budget seed) (sym is) (record { seed_is = refl; comes = IsFound s first })
   found_is_row s first (Err e) is = tt
 
-  pub ended_is_row : (outcome : Outcome) → MayCome m root infer budget seed outcome (no_uses m) → (row : SweepRow) → IsEndedRow m seed outcome row → IsRow m root infer budget seed row
+  ended_is_row : (outcome : Outcome) → MayCome m root infer budget seed outcome (no_uses m) → (row : SweepRow) → IsEndedRow m seed outcome row → IsRow m root infer budget seed row
   ended_is_row outcome comes row is = subst (IsRow m root infer budget seed) (sym is) (record { seed_is = refl; comes = comes })
+
+  pub none_is_row : (end : SearchEnd) → end ≡ search_end.NoScenario → Searches m root seed infer budget (Err end) → (row : SweepRow) → IsEndedRow m seed NoScenario row → IsRow m root infer budget seed row
+  none_is_row end is searched = ended_is_row NoScenario (HasNone (subst (λ (e : SearchEnd). Searches m root seed infer budget (Err e)) is searched))
+
+  pub spent_is_row : (end : SearchEnd) (level : ℕ) → end ≡ search_end.Budget level → Searches m root seed infer budget (Err end) → (row : SweepRow) → IsEndedRow m seed (Budget level) row → IsRow m root infer budget seed row
+  spent_is_row end level is searched =
+      let spent = subst (λ (e : SearchEnd). Searches m root seed infer budget (Err e)) is searched in ended_is_row (Budget level) (IsSpent level spent.0 spent.1)
 
 pub few_acts : WholeReadingsAreBuilt → (m : ModelTree) (root seed infer : ℕ) (s : Scenario) → IsFirst m root seed infer s → length s.actions < 2 ^ 32
 few_acts law m root seed infer s first = let small = (law m root seed s.level first.choices s first.reads.reads).0.small.acts in omega (arith, small)

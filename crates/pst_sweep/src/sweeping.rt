@@ -99,7 +99,7 @@ fn sweep_rows(
         .with_min_len(1)
         .map(
             |k: u32| -> Result<SweepRow, NoMemory>
-                requires { IsSound (view_model model.entry.now) × IsConcreteRoot (view_model model.entry.now) root × (first_seed + k < 2 ^ 64) }
+                requires { IsSound (view_model model.now) × IsConcreteRoot (view_model model.now) root × (first_seed + k < 2 ^ 64) }
                 ensures { IfOk result (IsRow (view_model model.entry.now) root infer budget (first_seed + k)) }
             { search_row(alloc, model, root, first_seed + k as u64, infer, budget) },
         )
