@@ -34,17 +34,22 @@ all_at IsOf from (suc count) (r ∷ rows) h = let rest = all_at IsOf (from + 1) 
     each more zero row e = let z : from ≡ from + 0 = omega arith in subst (λ n. IsOf n row) z (subst (IsOf from) (same_Some r row e) h.0)
     each more (suc k) row e = let z : from + 1 + k ≡ from + suc k = omega arith in subst (λ n. IsOf n row) z (more k row e)
 
+pub collected : {V : Type 0} (items : V → List SweepRow) (IsOf : ℕ → Result SweepRow NoMemory → Type 0) (ks many : List ℕ) (xs : List (Result SweepRow NoMemory)) (r : Result V NoMemory)
+    → ks ≡ many → AllZip IsOf ks xs → MatchResult r (λ v. (ys : List SweepRow) × (xs ≡ map Ok ys) × (items v ≡ ys)) (λ e. Contains xs (Err e)) → IfOk r (λ v. AllZip IsOf many (map Ok (items v)))
+collected items IsOf ks many xs (Ok v) e h k =
+    subst (λ (ys : List SweepRow). AllZip IsOf many (map Ok ys)) (sym k.2) (subst (λ (zs : List (Result SweepRow NoMemory)). AllZip IsOf many zs) k.1 (subst (λ (ns : List ℕ). AllZip IsOf ns xs) e h))
+collected items IsOf ks many xs (Err end) e h k = tt
+
 module _ (m : ModelTree) (root infer budget first count : ℕ) where
-  is_table : (xs : List (Result SweepRow NoMemory)) (rows : List SweepRow) → AllZip (λ k r. IfOk r (IsRow m root infer budget (first + k))) (range_with_len 0 count) xs → xs ≡ map Ok rows → IsTable m root infer budget first count rows
-  is_table xs rows h e =
-      let a = all_at (λ k. IsRow m root infer budget (first + k)) 0 count rows (subst (AllZip (λ k r. IfOk r (IsRow m root infer budget (first + k))) (range_with_len 0 count)) e h) in
+  is_table : (rows : List SweepRow) → AllZip (λ k r. IfOk r (IsRow m root infer budget (first + k))) (range_with_len 0 count) (map Ok rows) → IsTable m root infer budget first count rows
+  is_table rows h =
+      let a = all_at (λ k. IsRow m root infer budget (first + k)) 0 count rows h in
       record { many = a.0; each = λ k row is. let z : 0 + k ≡ k = omega arith in subst (λ n. IsRow m root infer budget (first + n) row) z (a.1 k row is) }
 
-  pub of_result : {V : Type 0} (items : V → List SweepRow) (xs : List (Result SweepRow NoMemory)) (r : Result V NoMemory)
-      → AllZip (λ k y. IfOk y (IsRow m root infer budget (first + k))) (range_with_len 0 count) xs
-      → MatchResult r (λ v. (ys : List SweepRow) × (xs ≡ map Ok ys) × (items v ≡ ys)) (λ e. Contains xs (Err e)) → IfOk r (λ v. IsTable m root infer budget first count (items v))
-  of_result items xs (Ok v) h k = subst (λ ys. IsTable m root infer budget first count ys) (sym k.2) (is_table xs k.0 h k.1)
-  of_result items xs (Err e) h k = tt
+  pub of_rows : {V : Type 0} (items : V → List SweepRow) (r : Result V NoMemory)
+      → IfOk r (λ v. AllZip (λ k y. IfOk y (IsRow m root infer budget (first + k))) (range_with_len 0 count) (map Ok (items v))) → IfOk r (λ v. IsTable m root infer budget first count (items v))
+  of_rows items (Ok v) h = is_table (items v) h
+  of_rows items (Err e) h = tt
 
 -- ---- the types of a legal scenario's actions are there
 

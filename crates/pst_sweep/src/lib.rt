@@ -2,6 +2,7 @@
 //! that a loop over the seeds may give.
 #![tactic(auto)]
 
+mod many;
 mod sweeping;
 
 pub use pst_sweep_table::{Outcome, SweepRow, Table, Uses};

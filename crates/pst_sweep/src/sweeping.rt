@@ -9,13 +9,13 @@ ghost use Rattle.pst_sweep_table.specs.Counts.{uses_of, no_uses};
 ghost use Rattle.pst_sweep_table.specs.Rows.{IsRow, IsTable};
 ghost use Rattle.pst_sweep.specs.Sweeping.{IsFoundRow, IsEndedRow};
 
+use crate::many::each_row;
 use pst_base::NoMemory;
 use pst_built::whole_readings_are_built;
 use pst_model::Model;
 use pst_scen::Scenario;
 use pst_search::{SearchEnd, search};
 use pst_sweep_table::{Outcome, SweepRow, Table, Uses};
-use rayon::prelude::*;
 use std::alloc::Global;
 use std::thread::Threads;
 
@@ -77,34 +77,55 @@ fn search_row(
     }
 }
 
-/// The rows of so many seeds from the first on, in the order of the seeds. Each seed is a piece of its
-/// own for the threads.
-fn sweep_rows(
-    rt: &(impl Threads + Sync),
+/// What the seeds of a sweep are searched for.
+#[derive(Drop)]
+struct Asked<'m> {
     alloc: Global,
-    model: &Model,
+    model: &'m Model,
     root: u32,
     first_seed: u64,
-    count: u32,
     infer: u32,
     budget: u64,
-) -> Result<Vec<SweepRow>, NoMemory>
-    requires sound { IsSound (view_model model.now) }
-    requires root { IsConcreteRoot (view_model model.now) root }
-    requires room { first_seed + count ≤ 2 ^ 64 }
-    ensures { IfOk result (λ rows. IsTable (view_model model.now) root infer budget first_seed count rows.items) }
+}
+
+/// The row of the seed of that number, counted from the first.
+fn row_at(asked: &Asked<'_>, k: u32) -> Result<SweepRow, NoMemory>
+    requires sound { IsSound (view_model asked.now.model.now) }
+    requires root { IsConcreteRoot (view_model asked.now.model.now) asked.now.root }
+    requires room { asked.now.first_seed + k < 2 ^ 64 }
+    ensures { IfOk result (IsRow (view_model asked.now.model.now) asked.now.root asked.now.infer asked.now.budget (asked.now.first_seed + k)) }
 {
-    let rows: Result<Vec<SweepRow>, NoMemory> = (0..count)
-        .into_par_iter()
-        .with_min_len(1)
-        .map(
-            |k: u32| -> Result<SweepRow, NoMemory>
-                requires { IsSound (view_model model.now) × IsConcreteRoot (view_model model.now) root × (first_seed + k < 2 ^ 64) }
-                ensures { IfOk result (IsRow (view_model model.entry.now) root infer budget (first_seed + k)) }
-            { search_row(alloc, model, root, first_seed + k as u64, infer, budget) },
-        )
-        .collect(rt, alloc)?;
-    rows
+    let seed = asked.first_seed + k as u64;
+    search_row(
+        asked.alloc,
+        asked.model,
+        asked.root,
+        seed,
+        asked.infer,
+        asked.budget,
+    )
+}
+
+/// The rows of so many seeds from the first on, in the order of the seeds.
+fn sweep_rows(
+    rt: &(impl Threads + Sync),
+    asked: &Asked<'_>,
+    count: u32,
+) -> Result<Vec<SweepRow>, NoMemory>
+    requires sound { IsSound (view_model asked.now.model.now) }
+    requires root { IsConcreteRoot (view_model asked.now.model.now) asked.now.root }
+    requires room { asked.now.first_seed + count ≤ 2 ^ 64 }
+    ensures { IfOk result (λ rows. IsTable (view_model asked.now.model.now) asked.now.root asked.now.infer asked.now.budget asked.now.first_seed count rows.items) }
+{
+    each_row(
+        rt,
+        asked.alloc,
+        count,
+        move |k: u32| -> Result<SweepRow, NoMemory>
+            requires { IsSound (view_model asked.now.model.now) × IsConcreteRoot (view_model asked.now.model.now) asked.now.root × (asked.now.first_seed + k < 2 ^ 64) }
+            ensures { IfOk result (IsRow (view_model asked.entry.now.model.now) asked.entry.now.root asked.entry.now.infer asked.entry.now.budget (asked.entry.now.first_seed + k)) }
+        { row_at(asked, k) },
+    )
 }
 
 /// The table of so many seeds from the first on. Each row is one that the search may answer for its
@@ -124,6 +145,14 @@ pub fn sweep(
     requires room { first_seed + count ≤ 2 ^ 64 }
     ensures { IfOk result (λ table. IsTable (view_model model.now) root infer budget first_seed count table.rows.items) }
 {
-    let rows = sweep_rows(rt, alloc, model, root, first_seed, count, infer, budget)?;
+    let asked = Asked {
+        alloc,
+        model,
+        root,
+        first_seed,
+        infer,
+        budget,
+    };
+    let rows = sweep_rows(rt, &asked, count)?;
     Ok(Table { rows })
 }

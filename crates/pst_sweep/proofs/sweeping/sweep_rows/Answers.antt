@@ -1,23 +1,21 @@
-use Rattle.std.proofs.Common.{◌≡◌, ℕ, ◌<◌, ◌+◌, ◌-◌, ◌^◌, List, IfOk, subst, arith}
-use Rattle.std.specs.List.{AllZip}
-use Rattle.rayon.proofs.ToStd.{nat_range-All}
+use denote.Exit.{no}
+use denote.Param.Send.{param_send, arg_send, param_sync, arg_sync, shr_send, shr_sync}
+use Rattle.std.proofs.Common.{arith}
 use Rattle.pst_model.specs.ModelView.{view_model}
-use Rattle.pst_sweep_table.specs.Rows.{IsRow}
-use Rattle.pst_sweep.proofs.Rows.{of_result}
+use Rattle.pst_sweep.proofs.Crossing.{asked_crosses, one_send, one_sync}
+use Rattle.pst_sweep.proofs.Rows.{of_rows}
 use Rattle.pst_sweep.proofs.sweeping.sweep_rows.Goals as goal
 
-pub collect-requires-clause-ready : goal.collect-requires-clause-ready
-collect-requires-clause-ready g c κs within =
-    let ends = c.into_par_iter.ensures in
-    let room = c.requires.room in
-    let inside = nat_range-All (λ k. c.args.first_seed + k < 2 ^ 64) 0 c.args.count (λ i low high. omega (arith, high, room)) in
-    rw (c.map.ensures.base, c.map.ensures.f, c.with_min_len.ensures.base, ends.0, ends.1) (λ k d lt. ((c.requires.sound, c.requires.root, inside k d lt), λ y p. tt))
+pub each_row-requires-send-F : goal.each_row-requires-send-F
+each_row-requires-send-F g c κs within = param_send 0 _ (arg_send _ no _ (one_send _ _ (shr_send _ _ _ (asked_crosses _))))
+
+pub each_row-requires-sync-F : goal.each_row-requires-sync-F
+each_row-requires-sync-F g c κs within = param_sync 0 _ (arg_sync _ no _ (one_sync _ _ (shr_sync _ _ _ (asked_crosses _))))
+
+pub each_row-requires-clause-callable : goal.each_row-requires-clause-callable
+each_row-requires-clause-callable g c κs within = λ k inside. (c.requires.sound, c.requires.root, omega (arith, inside, c.requires.room))
 
 pub returns : goal.returns
 returns g c =
-    let ends = c.into_par_iter.ensures in
-    let whole : c.args.count - 0 ≡ c.args.count = omega arith in
-    let h = c.in_ok-rows.ensures in
-    let chain = rw (c.map.ensures.base, c.map.ensures.f, c.with_min_len.ensures.base, ends.0, ends.1, whole) at h.1 in
-    let rows = subst (λ (ks : List ℕ). AllZip (λ k y. IfOk y (IsRow (view_model c.args.model.now) c.args.root c.args.infer c.args.budget (c.args.first_seed + k))) ks h.0) chain.1 chain.2 in
-    of_result (view_model c.args.model.now) c.args.root c.args.infer c.args.budget c.args.first_seed c.args.count (λ v. v.items) h.0 c.in_ok-rows.rows rows h.2
+    let asked = c.args.asked.now in
+    of_rows (view_model asked.model.now) asked.root asked.infer asked.budget asked.first_seed c.args.count (λ v. v.items) c.each_row.result c.each_row.ensures
