@@ -41,13 +41,13 @@ collected items IsOf ks many xs (Ok v) e h k =
 collected items IsOf ks many xs (Err end) e h k = tt
 
 module _ (m : ModelTree) (root infer budget first count : ℕ) where
-  is_table : (rows : List SweepRow) → AllZip (λ k r. IfOk r (IsRow m root infer budget (first + k))) (range_with_len 0 count) (map Ok rows) → IsTable m root infer budget first count rows
+  is_table : (rows : List SweepRow) → AllZip (λ k (r : Result SweepRow NoMemory). IfOk r (IsRow m root infer budget (first + k))) (range_with_len 0 count) (map Ok rows) → IsTable m root infer budget first count rows
   is_table rows h =
       let a = all_at (λ k. IsRow m root infer budget (first + k)) 0 count rows h in
       record { many = a.0; each = λ k row is. let z : 0 + k ≡ k = omega arith in subst (λ n. IsRow m root infer budget (first + n) row) z (a.1 k row is) }
 
   pub of_rows : {V : Type 0} (items : V → List SweepRow) (r : Result V NoMemory)
-      → IfOk r (λ v. AllZip (λ k y. IfOk y (IsRow m root infer budget (first + k))) (range_with_len 0 count) (map Ok (items v))) → IfOk r (λ v. IsTable m root infer budget first count (items v))
+      → IfOk r (λ v. AllZip (λ k (y : Result SweepRow NoMemory). IfOk y (IsRow m root infer budget (first + k))) (range_with_len 0 count) (map Ok (items v))) → IfOk r (λ v. IsTable m root infer budget first count (items v))
   of_rows items (Ok v) h = is_table (items v) h
   of_rows items (Err e) h = tt
 

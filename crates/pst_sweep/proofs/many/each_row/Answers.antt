@@ -6,7 +6,7 @@ use Rattle.pst_sweep.proofs.many.each_row.Goals as goal
 pub collect-requires-clause-ready : goal.collect-requires-clause-ready
 collect-requires-clause-ready g c κs within =
     let ends = c.into_par_iter.ensures in
-    let inside = nat_range-All (goal.F-pre g c.args.search) 0 c.args.count (λ i low high. c.requires i high) in
+    let inside = nat_range-All (goal.F-pre g c.args.search) 0 c.args.count (λ i low high. c.requires.callable i high) in
     rw (c.map.ensures.base, c.map.ensures.f, c.with_min_len.ensures.base, ends.0, ends.1) (λ k d lt. (inside k d lt, λ y p. tt))
 
 pub returns : goal.returns
