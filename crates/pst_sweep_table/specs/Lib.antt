@@ -1,0 +1,5 @@
+pub mod Counts
+pub mod Uses
+pub mod Kept
+pub mod Rows
+pub mod Laws
