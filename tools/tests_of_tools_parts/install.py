@@ -69,7 +69,7 @@ def from_log(tests):
     table = tests.folder / "device.table"
     table.write_text(TABLE)
     for name, trace in tests.traces.items():
-        words = (TOP / "examples" / f"{name}.out").read_text().split("\n", 1)[0].split()[3:]
+        words = tests.words(name)
         header, log, made = (tests.folder / f"{name}.{kind}" for kind in ("solved", "log", "made"))
         header.write_bytes(run([tests.program, "solve", *words], TOP).out)
         log.write_text(log_of(trace.read_text()))
