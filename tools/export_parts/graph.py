@@ -82,7 +82,8 @@ def write_locks(story, out):
     """In a run, who had an instance before whom: this order is the run's, not the scenario's."""
     for (pool, instance), holds in story.resources().items() if story.has_run() else []:
         for earlier, later in zip(holds, holds[1:]):
-            if earlier.stop <= later.start:
+            shared = story.is_shared(earlier) and story.is_shared(later)
+            if earlier.stop <= later.start and not shared:
                 what = f"{pool}[{instance}]\nin this run"
                 out.write(edge(f"a{earlier.action.number}", f"a{later.action.number}", "lock", what))
 

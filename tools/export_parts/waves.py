@@ -56,7 +56,8 @@ def lane_wires(story, wires):
 def resource_wires(story, wires):
     """The holders of each instance; several that share it stand together."""
     for (pool, instance), holds in story.resources().items():
-        code = wires.wire("resources." + pool, f"instance_{instance}", "string", IDLE)
+        above, _, name = ("resources." + pool).rpartition(".")
+        code = wires.wire(above, f"{name}_{instance}", "string", IDLE)
         changes = sorted([(hold.stop, 0, hold) for hold in holds] + [(hold.start, 1, hold) for hold in holds], key=lambda it: it[:2])
         held = []
         for time, begins, hold in changes:
@@ -69,14 +70,15 @@ def resource_wires(story, wires):
 
 def state_wires(story, wires):
     for pool, objects in story.states().items():
+        above, _, name = ("states." + pool).rpartition(".")
         for field in objects[0].fields:
             kind = "string" if story.pool_item(pool, field, objects[0].fields[field]) else "integer"
             values = [it.fields.get(field, objects[0].fields[field]) for it in objects]
             shown = [story.pool_item(pool, field, value) or str(value) if kind == "string" else value for value in values]
-            code = wires.wire("states." + pool, field, kind, shown[0])
+            code = wires.wire(above, f"{name}_{field}", kind, shown[0])
             for held, value in zip(objects[1:], shown[1:]):
                 wires.change(held.start, code, kind, value)
-        code = wires.wire("states." + pool, "written_by", "string", "first")
+        code = wires.wire(above, f"{name}_written_by", "string", "first")
         for held in objects[1:]:
             wires.change(held.start, code, "string", label(held.writer))
 

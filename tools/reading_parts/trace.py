@@ -203,11 +203,18 @@ def read(text):
 
 
 def check_numbers(trace):
-    """The trace, where its blocks and its last line name actions that the header has."""
+    """The trace, where its blocks and its last line name actions of the header, each starts once, and what ends runs."""
+    started, running = set(), set()
     for word, what, number in trace.blocks:
         for action in [what] if word == "end" else [pair[0] for pair in what]:
             if action not in trace.actions:
                 raise BadLine(number, f"names action {action}, which the header hasn't")
+            if action in (started if word == "start" else ()):
+                raise BadLine(number, f"starts action {action} a second time")
+            if word == "end" and action not in running:
+                raise BadLine(number, f"ends action {action}, which doesn't run")
+            started.add(action)
+            (running.add if word == "start" else running.discard)(action)
     word, found = trace.last
     if word in ("fault", "trap") and found[1] not in trace.actions:
         raise BadLine(trace.last_line, f"names action {found[1]}, which the header hasn't")

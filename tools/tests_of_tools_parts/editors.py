@@ -1,6 +1,7 @@
 """Tests of editors/ and tools/language_server: colours against tokens, the reader of sources against the program, and sessions of a
 client, of Neovim and of Emacs."""
 import json
+import pathlib
 import re
 import shutil
 import subprocess
@@ -188,6 +189,38 @@ def in_neovim(tests):
     tests.is_true("Neovim shows the message and the colours", b"told 0:25 rule-2 pssDeclaration" in ran.errors + ran.out, (ran.errors + ran.out).decode())
 
 
+EGLOT = """
+(require 'package)
+(package-initialize)
+(load "MODE")
+(require 'eglot)
+(setq eglot-sync-connect t)
+(find-file "FILE")
+(eglot--connect '(pss-mode) (project-current) 'eglot-lsp-server '("SERVER" "--program" "PROGRAM") "pss")
+(let ((turns 0))
+  (while (and (< turns 100) (null (flymake-diagnostics)))
+    (accept-process-output nil 0.1)
+    (setq turns (1+ turns))))
+(princ (format "told %s" (mapcar (lambda (it) (list (flymake-diagnostic-beg it) (flymake-diagnostic-text it))) (flymake-diagnostics))))
+(princ (format " %s" (imenu--make-index-alist t)))
+"""
+
+
+def in_eglot(tests):
+    """The message and the outline in Emacs by Eglot."""
+    folder = tests.folder / "eglot"
+    folder.mkdir()
+    run(["git", "init", "-q", folder])
+    (folder / "bad.pss").write_text("component pss_top { pool b p; action entry { } }\n")
+    script, text = folder / "try.el", EGLOT
+    for word, given in [("MODE", TOP / "editors" / "pss-mode.el"), ("FILE", folder / "bad.pss"), ("SERVER", SERVER), ("PROGRAM", tests.program)]:
+        text = text.replace(word, str(given))
+    script.write_text(text)
+    ran = run(["emacs", "-q", "--batch", "-l", script], folder, limit=60)
+    tests.is_true("Eglot shows the message", b"told ((26 pstim [rule-2]" in ran.out, (ran.out + ran.errors).decode()[-400:])
+    tests.is_true("Eglot shows the outline", b"(pss_top (entry . 38))" in ran.out, (ran.out + ran.errors).decode()[-400:])
+
+
 EMACS = """
 (load "MODE")
 (find-file "FILE")
@@ -220,3 +253,5 @@ def run_all(tests):
             trial(tests)
         else:
             print(f"  {editor} isn't there and wasn't tried")
+    if shutil.which("emacs") and list(pathlib.Path("/usr/share/emacs/site-lisp/elpa-src").glob("eglot-*")):
+        in_eglot(tests)

@@ -78,6 +78,11 @@ def known_facts(tests):
     actions = {it["number"]: it for it in lines if it["record"] == "action"}
     tests.is_same("handles", [actions[number]["handle"] for number in range(4)], ["p", "c", "p", "c"])
     tests.is_same("parents", [actions[number]["parent"] for number in range(4)], [1, 1, 2, 2])
+    lines = [json.loads(line) for line in (tests.folder / "device.json").read_text().splitlines()]
+    kinds = {it["kind"] for record in lines if record["record"] == "action" for it in record["links"]}
+    tests.is_same("the kinds of links of device", kinds, {"buffer", "stream", "state", "previous"})
+    claims = {(it["pool"], it["lock"]) for record in lines if record["record"] == "action" for it in record["claims"]}
+    tests.is_true("the pools of device", {("pss_top.buses", True), ("pss_top.buses", False)} <= claims, str(claims))
     graph = (tests.folder / "joins.dot").read_text()
     tests.is_true("what is joined comes before", "a0 -> a3" in graph and "a1 -> a2" in graph and "a2 -> a3" not in graph)
     waves = (tests.folder / "power.vcd").read_text()
@@ -93,10 +98,14 @@ def refusals(tests):
         (good.replace(b"end 2\n", b"end 7\n"), "line 8 "),
         (good + b"end 1\n", "line 14 "),
         (good[:-1], "line 13 "),
+        (good.replace(b"start 0:", b"start 2:"), "line 9 starts action 2 a second time"),
+        (good.replace(b"end 2\n", b"end 0\n"), "line 8 ends action 0, which doesn't run"),
     ]
     for text, owed in bad:
         ran = run([EXPORT, "--json", "-"], given=text)
         tests.is_true(f"a bad text is refused with {owed}", ran.status == 1 and owed.encode() in ran.errors, ran.errors.decode())
+    old = good.replace(b"pst 2", b"pst 1")
+    tests.ends_well("a text of format 1", [EXPORT, "--vcd", "-", "--sources", tests.source("dma")], given=old)
     for name in ("locks", "streams"):
         solved = "\n".join((TOP / "examples" / f"{name}.out").read_text().splitlines()[1:-1]) + "\n"
         tests.ends_well(f"a scenario of {name}", [EXPORT, "--dot", "-", "--sources", tests.source(name)], given=solved.encode())

@@ -101,12 +101,19 @@ class Tests:
         """Writes the traces of all examples, each run on up to sixteen lanes, and the large one."""
         self.large.write_text(large_trace())
         self.large_source.write_text(LARGE_SOURCE)
-        for path in sorted((TOP / "examples").glob("*.out")):
-            words = path.read_text().split("\n", 1)[0].split()[3:]
-            ran = run([self.program, "run", "lanes=16", *[it for it in words if not it.startswith("lanes=")]], TOP)
-            self.traces[path.stem] = self.folder / f"{path.stem}.trace"
-            self.traces[path.stem].write_bytes(ran.out)
-            self.is_true(f"the example {path.stem} runs", ran.status in (0, 5), f"status {ran.status}")
+        for name in [*sorted(path.stem for path in (TOP / "examples").glob("*.out")), "device"]:
+            ran = run([self.program, "run", "lanes=16", *self.words(name)], TOP)
+            self.traces[name] = self.folder / f"{name}.trace"
+            self.traces[name].write_bytes(ran.out)
+            self.is_true(f"the example {name} runs", ran.status in (0, 5), f"status {ran.status}")
+
+    def words(self, name):
+        """The words of an example behind its command, from the top of the repository."""
+        if name == "device":
+            return ["root=pss_top::entry", "infer=6", str(self.source(name))]
+        words = (TOP / "examples" / f"{name}.out").read_text().split("\n", 1)[0].split()[3:]
+        return [word for word in words if not word.startswith("lanes=")]
 
     def source(self, name):
-        return TOP / "examples" / f"{name}.pss"
+        """The source of an example; `device` has all that the examples have, in one."""
+        return pathlib.Path(__file__).parent / "device.pss" if name == "device" else TOP / "examples" / f"{name}.pss"

@@ -108,12 +108,13 @@ function ask() {
 
 function sized() {
   const ratio = window.devicePixelRatio || 1, box = canvas.getBoundingClientRect();
-  view.width = box.width;
-  view.height = box.height;
-  if (canvas.width !== Math.round(box.width * ratio) || canvas.height !== Math.round(box.height * ratio)) {
-    canvas.width = Math.round(box.width * ratio);
-    canvas.height = Math.round(box.height * ratio);
+  const width = Math.max(1, Math.round(box.width * ratio)), height = Math.max(1, Math.round(box.height * ratio));
+  if (canvas.width !== width || canvas.height !== height) {
+    canvas.width = width;
+    canvas.height = height;
   }
+  view.width = width / ratio;
+  view.height = height / ratio;
   pen.setTransform(ratio, 0, 0, ratio, 0, 0);
 }
 
@@ -203,11 +204,12 @@ function drawLabel(bar, y, height) {
   if (room < 12) return;
   const action = actions.get(bar[2]);
   let text = bar[3] !== undefined ? bar[3] : bar[2] + " " + shortType(action);
-  if (pen.measureText(text).width > room) {
-    const letters = Math.floor(room / 7);
+  const wide = pen.measureText(text).width;
+  if (wide > room) {
+    const letters = Math.floor((text.length * room) / wide);
     if (bar[3] === undefined && letters < String(bar[2]).length + 3) text = String(bar[2]);
     else text = text.slice(0, Math.max(letters - 1, 1)) + "\u2026";
-    if (pen.measureText(text).width > room + 4) return;
+    if (pen.measureText(text).width > room + 6) return;
   }
   pen.globalAlpha = isDim(bar[2]) ? 0.35 : 1;
   pen.strokeStyle = "rgba(255,255,255,0.9)";
@@ -619,7 +621,7 @@ document.getElementById("previous").onclick = () => step(-1);
 document.getElementById("in").onclick = () => zoom(1.5);
 document.getElementById("out").onclick = () => zoom(1 / 1.5);
 document.getElementById("fit").onclick = fit;
-window.addEventListener("resize", ask);
+new ResizeObserver(ask).observe(canvas);
 
 function begin() {
   const outcome = document.getElementById("outcome");

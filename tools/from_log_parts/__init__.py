@@ -1,0 +1,1 @@
+"""What tools/from_log is made of: events.py."""

@@ -1,0 +1,1 @@
+"""What tools/sarif is made of: results.py."""
