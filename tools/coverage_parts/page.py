@@ -10,6 +10,7 @@ table { border-collapse: collapse; } th, td { text-align: left; padding: 3px 10p
 th { color: #57606a; font-weight: 600; } td.number { text-align: right; }
 .meter { display: inline-block; width: 120px; height: 11px; background: #e4e9ee; border-radius: 3px; overflow: hidden; }
 .meter i { display: block; height: 100%; background: #0072b2; }
+td:nth-child(2) { white-space: nowrap; }
 .bins { display: flex; flex-wrap: wrap; gap: 2px; max-width: 560px; }
 .bins span { padding: 0 5px; border-radius: 3px; background: #cfe6f5; font-size: 12px; }
 .bins span.none, td.none { background: #f7e3b5; }
