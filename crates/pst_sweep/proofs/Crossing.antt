@@ -1,6 +1,6 @@
 -- What the seeds of a sweep are searched for may be shared by threads.
 use denote.RattleType.{RattleType}
-use denote.Param.Send.{IsSend, IsSync, shr_send, shr_sync, sendable}
+use denote.Param.Send.{IsSend, IsSync, shr_sync, sendable}
 use denote.Param.SendFields.{declared_send, declared_sync, as_row_send, as_row_sync}
 use denote.Struct.Field.{row_field}
 use denote.Struct.Tuple.{type_at, TupleAt}
