@@ -1,0 +1,128 @@
+//! The serial order of a plan's groups.
+//!
+//! Again and again the group with the least number is taken of those that aren't taken and of which
+//! no member waits for one that isn't. A plan orders whole groups, so a group's first member tells
+//! whether it waits: a table counts for each action those that must come before it and aren't taken.
+//! All rows of the square of `must` are counted up once and down once; the least group is looked for
+//! from the first action on.
+ghost use Rattle.std.specs.Prelude.{◌≡◌, ◌≢◌, ◌↔◌, ◌<◌, ℕ, length, get_or, IsTrue, IfOk, true, false};
+ghost use Rattle.pst_scen.specs.declared.scenario.Scenario.{Scenario};
+ghost use Rattle.pst_scen.specs.Plans.{IsPlanOf};
+ghost use Rattle.pst_book.specs.Tables.{AreNext};
+ghost use Rattle.pst_programs.specs.Serial.{IsSerial};
+ghost use Rattle.pst_static.specs.Taking.{AreOwed, CanBeTaken, IsFirst, IsTaken};
+
+use crate::tables::{all_awaited, marks};
+use pst_base::NoMemory;
+use pst_book::lower;
+use pst_order::must_keeps_groups;
+use pst_programs::programs_are_safe;
+use pst_scen::Plan;
+use std::alloc::Global;
+
+/// Whether the group of that number isn't taken, and its first member waits for nothing.
+fn can_be_taken(plan: &Plan, awaited: &[u32], taken: &[bool], group: u32) -> bool
+    requires group_in { group < length plan.now.groups }
+    requires many_awaited { length awaited.now ≡ length plan.now.groups }
+    requires many_taken { length taken.now ≡ length plan.now.groups }
+    ensures { IsTrue result ↔ CanBeTaken plan.now awaited.now taken.now group }
+{
+    if plan.group(group) != group {
+        return false;
+    }
+    if taken[group as usize] {
+        return false;
+    }
+    awaited[group as usize] == 0
+}
+
+/// The least number of such a group, or the number of actions.
+fn first_group(plan: &Plan, awaited: &[u32], taken: &[bool]) -> u32
+    requires many_awaited { length awaited.now ≡ length plan.now.groups }
+    requires many_taken { length taken.now ≡ length plan.now.groups }
+    ensures { IsFirst plan.now awaited.now taken.now result }
+{
+    let count = plan.len();
+    for group in 0..count {
+        if can_be_taken(plan, awaited, taken, group) {
+            return group;
+        }
+    }
+    count
+}
+
+/// Takes an action.
+fn take_one(plan: &Plan, awaited: &mut [u32], taken: &mut [bool], act: u32)
+    requires act_in { act < length plan.now.groups }
+    requires owed { AreOwed plan.now awaited.old taken.old }
+    requires fresh { get_or taken.old act false ≡ false }
+    ensures owed { AreOwed plan.now awaited.new taken.new }
+    ensures here { get_or taken.new act false ≡ true }
+    ensures others { (a : ℕ) → a ≢ act → get_or taken.new a false ≡ get_or taken.old a false }
+{
+    let must = plan.must_rows();
+    lower(awaited, must, act);
+    taken[act as usize] = true;
+}
+
+/// Takes the members of the group of that number.
+fn take_group(plan: &Plan, next: &[u32], awaited: &mut [u32], taken: &mut [bool], group: u32)
+    requires group_in { group < length plan.now.groups }
+    requires number { get_or plan.now.groups group 0 ≡ group }
+    requires next { AreNext plan.now.groups next.now }
+    requires owed { AreOwed plan.now awaited.old taken.old }
+    requires fresh { (a : ℕ) → a < length plan.now.groups → get_or plan.now.groups a 0 ≡ group → get_or taken.old a false ≡ false }
+    ensures owed { AreOwed plan.now awaited.new taken.new }
+    ensures taken { IsTaken plan.now group taken.old taken.new }
+{
+    let count = plan.len();
+    let mut act = group;
+    'members: while act < count {
+        take_one(plan, awaited, taken, act);
+        act = next[act as usize];
+    }
+}
+
+/// Takes one group after another, as long as one can be taken.
+fn take_all(
+    alloc: Global,
+    plan: &Plan,
+    next: &[u32],
+    awaited: &mut [u32],
+    taken: &mut [bool],
+) -> Result<Vec<u32>, NoMemory>
+    requires planned { (s : Scenario) × IsPlanOf s plan.now }
+    requires next { AreNext plan.now.groups next.now }
+    requires owed { AreOwed plan.now awaited.old taken.old }
+    requires none { (a : ℕ) → a < length plan.now.groups → get_or taken.old a false ≡ false }
+    ensures { IfOk result (λ order. IsSerial plan.now order.items) }
+{
+    programs_are_safe();
+    must_keeps_groups();
+    let count = plan.len();
+    let mut order = Vec::new(alloc);
+    let mut group = first_group(plan, awaited, taken);
+    'groups: while group < count {
+        take_group(plan, next, awaited, taken, group);
+        order.push(group)?;
+        group = first_group(plan, awaited, taken);
+    }
+    Ok(order)
+}
+
+/// The numbers of the groups in the serial order. The plan is a scenario's, and the table gives the
+/// next member of each action's group.
+pub(crate) fn serial_order(
+    alloc: Global,
+    plan: &Plan,
+    next: &[u32],
+) -> Result<Vec<u32>, NoMemory>
+    requires planned { (s : Scenario) × IsPlanOf s plan.now }
+    requires next { AreNext plan.now.groups next.now }
+    ensures { IfOk result (λ order. IsSerial plan.now order.items) }
+{
+    let count = plan.len();
+    let mut awaited = all_awaited(alloc, plan)?;
+    let mut taken = marks(alloc, count as usize)?;
+    take_all(alloc, plan, next, &mut awaited, &mut taken)
+}

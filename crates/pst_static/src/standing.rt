@@ -1,0 +1,132 @@
+//! Where the lanes of a machine stand, and the start of a group there.
+ghost use Rattle.std.specs.Prelude.{◌≡◌, ◌↔◌, ◌+◌, ◌<◌, ◌≤◌, ◌++◌, ◌∷◌, [], ℕ, length, get_or, IsTrue, MatchOption, vec_capacity};
+ghost use Rattle.pst_scen.specs.Plan.{members};
+ghost use Rattle.pst_book.specs.Tables.{AreNext};
+ghost use Rattle.pst_programs.specs.declared.program.Instruction.TheVariants.{Run};
+ghost use Rattle.pst_programs.specs.declared.program.Instruction.{Instruction};
+ghost use Rattle.pst_programs.specs.Machine.{IsAt};
+ghost use Rattle.pst_static.specs.Taking.{IsTaken};
+ghost use Rattle.pst_static.specs.Standing.{CanJoin, HasBegun};
+
+use pst_programs::{Instruction, Program};
+use pst_scen::{Event, Plan};
+
+/// The instruction at which the lane stands, if it is a lane and not at its end.
+pub(crate) fn instruction_at(
+    programs: &[Program],
+    places: &[usize],
+    lane: u32,
+) -> Option<Instruction>
+    requires { length places.now ≡ length programs.now }
+    ensures { MatchOption result ((i : Instruction) → IsAt programs.now places.now lane i → ⊥) (λ i. IsAt programs.now places.now lane i) }
+{
+    let at = lane as usize;
+    if at >= programs.len() {
+        return None;
+    }
+    let steps = programs[at].steps.as_slice();
+    let place = places[at];
+    if place < steps.len() {
+        Some(steps[place])
+    } else {
+        None
+    }
+}
+
+/// The lane that stands at the action's `Run`.
+fn lane_at(programs: &[Program], places: &[usize], act: u32) -> Option<u32>
+    requires many { length places.now ≡ length programs.now }
+    requires few { length programs.now ≤ 16 }
+    ensures { MatchOption result ((l : ℕ) → IsAt programs.now places.now l (Run act) → ⊥) (λ l. IsAt programs.now places.now l (Run act)) }
+{
+    for lane in 0..programs.len() as u32 {
+        if instruction_at(programs, places, lane) == Some(Instruction::Run { action: act }) {
+            return Some(lane);
+        }
+    }
+    None
+}
+
+/// Whether the lane of each member of the group stands at its `Run`, and none has started.
+pub(crate) fn can_begin(
+    plan: &Plan,
+    next: &[u32],
+    programs: &[Program],
+    places: &[usize],
+    started: &[bool],
+    group: u32,
+) -> bool
+    requires group_in { group < length plan.now.groups }
+    requires number { get_or plan.now.groups group 0 ≡ group }
+    requires next { AreNext plan.now.groups next.now }
+    requires many { length places.now ≡ length programs.now }
+    requires few { length programs.now ≤ 16 }
+    requires many_started { length started.now ≡ length plan.now.groups }
+    ensures { IsTrue result ↔ ((a : ℕ) → a < length plan.now.groups → get_or plan.now.groups a 0 ≡ group → CanJoin programs.now places.now started.now a) }
+{
+    let count = plan.len();
+    let mut act = group;
+    'members: while act < count {
+        if started[act as usize] {
+            return false;
+        }
+        if lane_at(programs, places, act).is_none() {
+            return false;
+        }
+        act = next[act as usize];
+    }
+    true
+}
+
+/// Writes an event, for which there is room.
+pub(crate) fn note(trace: &mut Vec<Event>, event: Event)
+    requires { length trace.old.items < vec_capacity trace.old }
+    ensures items { trace.new.items ≡ trace.old.items ++ event ∷ [] }
+    ensures capacity { vec_capacity trace.old ≤ vec_capacity trace.new }
+{
+    let _pushed = trace.push(event);
+}
+
+/// Starts the members of the group of that number, which can all begin, each on the lane that stands
+/// at its `Run`.
+pub(crate) fn start_members(
+    plan: &Plan,
+    next: &[u32],
+    programs: &[Program],
+    places: &[usize],
+    started: &mut [bool],
+    trace: &mut Vec<Event>,
+    group: u32,
+)
+    requires group_in { group < length plan.now.groups }
+    requires number { get_or plan.now.groups group 0 ≡ group }
+    requires next { AreNext plan.now.groups next.now }
+    requires many { length places.now ≡ length programs.now }
+    requires few { length programs.now ≤ 16 }
+    requires many_started { length started.old ≡ length plan.now.groups }
+    requires ready { (a : ℕ) → a < length plan.now.groups → get_or plan.now.groups a 0 ≡ group → CanJoin programs.now places.now started.old a }
+    requires room { length trace.old.items + length (members plan.now.groups group) ≤ vec_capacity trace.old }
+    ensures many { length started.new ≡ length started.old }
+    ensures started { IsTaken plan.now group started.old started.new }
+    ensures begun { HasBegun programs.now places.now (members plan.now.groups group) trace.old.items trace.new.items }
+    ensures capacity { vec_capacity trace.old ≤ vec_capacity trace.new }
+{
+    let count = plan.len();
+    let mut act = group;
+    'members: while act < count {
+        let following = next[act as usize];
+        match lane_at(programs, places, act) {
+            Some(lane) => note(
+                trace,
+                Event::Start {
+                    act,
+                    lane,
+                    more: following < count,
+                },
+            ),
+            None => {}
+        }
+        started[act as usize] = true;
+        act = following;
+    }
+}
