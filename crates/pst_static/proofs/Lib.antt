@@ -6,3 +6,4 @@ mod Counted
 mod News
 mod Signalled
 mod Moved
+mod Drafting

@@ -1,8 +1,9 @@
 -- What an action awaits is written one by one, the least first.
-use Rattle.std.proofs.Common.{◌≡◌, ◌≢◌, ◌⊎◌, ℕ, zero, suc, ◌+◌, ◌<◌, ◌≤◌, List, [], ◌∷◌, ◌++◌, length, get_or, map, set, slice_get, Some, refl, sym, ap, ◌∙◌, subst, inl, inr, ⊎_elim, arith, append_assoc}
-use Rattle.std.specs.Prelude.{Contains}
+use Rattle.std.proofs.Common.{◌≡◌, ◌≢◌, ◌⊎◌, ℕ, zero, suc, ◌+◌, ◌<◌, ◌≤◌, List, [], ◌∷◌, ◌++◌, length, get_or, map, set, slice_get, Some, Bool, true, false, refl, sym, ap, ◌∙◌, subst, inl, inr, ⊎_elim, arith, append_assoc}
+use Rattle.std.specs.Prelude.{◌↔◌, Option, None, MatchOption, Contains}
 use Rattle.std.specs.Global.{Vec}
 use Rattle.std.proofs.lemmas.List.{get_or-set_same, get_or-set_other, length-set}
+use Rattle.std.proofs.lemmas.List.Sums.{sum_by-set}
 use Rattle.std.proofs.lemmas.List.Elements.{Contains-append_left, Contains-push, Contains-push_cases}
 use Rattle.std.proofs.lemmas.Bool.{cases_eq, cases_lt, cases_order}
 use Rattle.pst_scen.specs.Plan.{Entries}
@@ -14,11 +15,22 @@ use Rattle.pst_programs.specs.Lanes.{Dealt}
 use Rattle.pst_programs.specs.Programs.{Counts, AreAwaited}
 use Rattle.pst_programs.proofs.Places.{some_one}
 use Rattle.pst_programs.proofs.Written.{of_get}
-use Rattle.pst_static.specs.Awaiting.{IsDealtAt, IsHeard, AreHeard, IsNews}
+use Rattle.pst_static.specs.Awaiting.{IsDealtAt, IsHeard, AreHeard, IsNews, IsFirstNews, IsNewsWritten}
 
 map_push : (xs : List ℕ) (x : ℕ) → map Await (xs ++ x ∷ []) ≡ map Await xs ++ Await x ∷ []
 map_push [] x = refl
 map_push (y ∷ xs) x = ap (λ v. Await y ∷ v) (map_push xs x)
+
+-- what was written and marked so far, of what is news at first
+pub record Turn (dealt : Dealt) (latest : List (Vec ℕ)) (first : List ℕ) (a l : ℕ) (before now : List Instruction) (heard : List ℕ) (old told : List Bool) : Type 0 where
+  pub written : List ℕ
+  pub now_is : now ≡ before ++ map Await written
+  pub ascending : Ascending written
+  pub from : (x : ℕ) → Contains written x → (m : ℕ) × IsNews dealt latest first a l m x × (IsNews dealt latest heard a l m x → ⊥)
+  pub back : (m x : ℕ) → IsNews dealt latest heard a l m x → IsNews dealt latest first a l m x
+  pub split : (m x : ℕ) → IsNews dealt latest first a l m x → Contains written x ⊎ (IsNews dealt latest heard a l m x × ((w : ℕ) → Contains written w → w < x))
+  pub many : length told ≡ length old
+  pub marked : (x : ℕ) → x < length old → (get_or told x false ≡ true) ↔ ((get_or old x false ≡ true) ⊎ Contains written x)
 
 module _ (dealt : Dealt) (latest : List (Vec ℕ)) (first : List ℕ) (a l : ℕ)
     (only : (x m o : ℕ) → Contains dealt (x, m) → Contains dealt (x, o) → m ≡ o) where
@@ -32,30 +44,35 @@ module _ (dealt : Dealt) (latest : List (Vec ℕ)) (first : List ℕ) (a l : ℕ
       let e : b.0 ≡ c.0 = omega (arith, i, j) in
       ap (λ (w : ℕ × ℕ). w.0) (some_one (x, m) (y, o) (sym b.2 ∙ ap (λ v. slice_get dealt v) e ∙ c.2))
 
-  -- what was written so far, of what is news at first
-  pub record Turn (before now : List Instruction) (heard : List ℕ) : Type 0 where
-    pub written : List ℕ
-    pub now_is : now ≡ before ++ map Await written
-    pub ascending : Ascending written
-    pub from : (x : ℕ) → Contains written x → (m : ℕ) × IsNews dealt latest first a l m x × (IsNews dealt latest heard a l m x → ⊥)
-    pub back : (m x : ℕ) → IsNews dealt latest heard a l m x → IsNews dealt latest first a l m x
-    pub split : (m x : ℕ) → IsNews dealt latest first a l m x → Contains written x ⊎ (IsNews dealt latest heard a l m x × ((w : ℕ) → Contains written w → w < x))
-
-  pub turn_first : (before now : List Instruction) → now ≡ before ++ [] → Turn before now first
-  turn_first before now e =
+  pub turn_first : (before : List Instruction) (told : List Bool) → Turn dealt latest first a l before before first told told
+  turn_first before told =
       record {
         written = [];
-        now_is = e;
+        now_is = sym (append_nil before);
         ascending = λ i j h k. absurd (omega (arith, k));
         from = λ x c. absurd (none_in x c);
         back = λ m x n. n;
         split = λ m x n. inr (n, λ w c. absurd (none_in w c));
+        many = refl;
+        marked = λ x b. ((λ t. inl t), (λ q. ⊎_elim (λ t. t) (λ c. absurd (none_in x c)) q));
       }
+    where
+      append_nil : (xs : List Instruction) → xs ++ [] ≡ xs
+      append_nil [] = refl
+      append_nil (x ∷ xs) = ap (λ v. x ∷ v) (append_nil xs)
 
-  module _ (before now : List Instruction) (heard : List ℕ) (t : Turn before now heard) where
+  module _ (before now : List Instruction) (heard : List ℕ) (old told : List Bool) (t : Turn dealt latest first a l before now heard old told) where
     -- where nothing is news any more all is written
-    pub turn_last : ((m x : ℕ) → IsNews dealt latest heard a l m x → ⊥) → (m x : ℕ) → IsNews dealt latest first a l m x → Contains t.written x
-    turn_last none m x n = ⊎_elim (λ c. c) (λ r. absurd (none m x r.0)) (t.split m x n)
+    pub turn_last : ((m x : ℕ) → IsNews dealt latest heard a l m x → ⊥) → IsNewsWritten dealt latest first a l before now old told
+    turn_last none =
+        record {
+          written = t.written;
+          after_is = t.now_is;
+          ascending = t.ascending;
+          those = λ x. ((λ c. let f = t.from x c in (f.0, f.1)), (λ n. ⊎_elim (λ c. c) (λ r. absurd (none n.0 x r.0)) (t.split n.0 x n.1)));
+          many = t.many;
+          marked = t.marked;
+        }
 
     module _ (m x : ℕ) (news : IsNews dealt latest heard a l m x) (least : (o y : ℕ) → IsNews dealt latest heard a l o y → x ≤ y) (after : List ℕ)
         (here : get_or after m 0 ≡ get_or news.row.items a 0) (others : (o : ℕ) → o ≢ m → get_or after o 0 ≡ get_or heard o 0) where
@@ -94,8 +111,8 @@ module _ (dealt : Dealt) (latest : List (Vec ℕ)) (first : List ℕ) (a l : ℕ
       all_less : (w : ℕ) → Contains t.written w → w < x
       all_less = ⊎_elim (λ c. absurd (not_written c)) (λ r. r.1) (t.split m x (t.back m x news))
 
-      pub turn_more : (new : List Instruction) → new ≡ now ++ Await x ∷ [] → Turn before new after
-      turn_more new is =
+      pub turn_more : (new : List Instruction) → new ≡ now ++ Await x ∷ [] → x < length old → Turn dealt latest first a l before new after old (set told x true)
+      turn_more new is x_in =
           record {
             written = t.written ++ x ∷ [];
             now_is = is ∙ ap (λ v. v ++ Await x ∷ []) t.now_is ∙ append_assoc before (map Await t.written) (Await x ∷ []) ∙ ap (λ v. before ++ v) (sym (map_push t.written x));
@@ -119,6 +136,16 @@ module _ (dealt : Dealt) (latest : List (Vec ℕ)) (first : List ℕ) (a l : ℕ
                 ))
                 (cases_eq o m))
                 (t.split o y n);
+            many = length-set told x true ∙ t.many;
+            marked = λ y b. (
+              (λ s. ⊎_elim (λ e. inr (subst (λ v. Contains (t.written ++ x ∷ []) v) (sym e) (Contains-push t.written x)))
+              (λ q. ⊎_elim (λ k. inl k) (λ c. inr (Contains-append_left t.written (x ∷ []) y c)) ((t.marked y b).0 (sym (get_or-set_other told x y true false q) ∙ s)))
+              (cases_eq y x)),
+              (λ s. ⊎_elim (λ e. subst (λ v. get_or (set told x true) v false ≡ true) (sym e) (get_or-set_same told x true false (let m = t.many in omega (arith, x_in, m))))
+              (λ q. get_or-set_other told x y true false q
+              ∙ (t.marked y b).1 (⊎_elim (λ k. inl k) (λ c. inr (⊎_elim (λ k. k) (λ e. absurd (q (sym e))) (Contains-push_cases t.written x y c))) s))
+              (cases_eq y x)),
+            );
           }
 
 -- the places of what is awaited, behind one more await
@@ -156,3 +183,40 @@ heard_more lanes dealt now new heard after m x place only once at less is long h
               absurd (n (only y o m (of_get dealt b.0 (y, o) b.2) (subst (λ v. Contains dealt (v, m)) s (of_get dealt at.0 (x, m) at.2)))))
               (Contains-push_cases now (Await x) (Await y) c);
         })
+
+-- ---- the least that is news
+
+module _ (dealt : Dealt) (latest : List (Vec ℕ)) (heard : List ℕ) (a l : ℕ) where
+  -- a lane has one action that is news
+  pub one_news : (m x y : ℕ) → IsNews dealt latest heard a l m x → IsNews dealt latest heard a l m y → x ≡ y
+  one_news m x y n o =
+      let r : n.row ≡ o.row = some_one n.row o.row (sym n.is_row ∙ o.is_row) in
+      let v : get_or n.row.items a 0 ≡ get_or o.row.items a 0 = ap (λ (w : Vec ℕ). get_or w.items a 0) r in
+      let i = n.at.1 in
+      let j = o.at.1 in
+      let e : n.at.0 ≡ o.at.0 = omega (arith, i, j, v) in
+      ap (λ (w : ℕ × ℕ). w.0) (some_one (x, m) (y, m) (sym n.at.2 ∙ ap (λ k. slice_get dealt k) e ∙ o.at.2))
+
+  -- one lane more, without news
+  pub none_more : (m : ℕ) (found : Option (ℕ × ℕ)) → ((x : ℕ) → IsNews dealt latest heard a l m x → ⊥) → IsFirstNews dealt latest heard a l m found → IsFirstNews dealt latest heard a l (m + 1) found
+  none_more m None none f = λ o x b n. ⊎_elim (λ e. none x (subst (λ v. IsNews dealt latest heard a l v x) e n)) (λ q. f o x (omega (arith, b, q)) n) (cases_eq o m)
+  none_more m (Some w) none f =
+      (f.0, λ o x b n. ⊎_elim (λ e. absurd (none x (subst (λ v. IsNews dealt latest heard a l v x) e n))) (λ q. f.1 o x (omega (arith, b, q)) n) (cases_eq o m))
+
+  -- and the first with news
+  pub first_more : (m x : ℕ) (found : Option (ℕ × ℕ)) → found ≡ None → IsNews dealt latest heard a l m x → IsFirstNews dealt latest heard a l m found → IsFirstNews dealt latest heard a l (m + 1) (Some (m, x))
+  first_more m x None is n f =
+      (n, λ o y b k. ⊎_elim (λ e. let q = one_news m x y n (subst (λ v. IsNews dealt latest heard a l v y) e k) in omega (arith, q)) (λ q. absurd (f o y (omega (arith, b, q)) k)) (cases_eq o m))
+  first_more m x (Some w) is n f = absurd cc
+
+  -- and another one, which is less than the least so far
+  pub less_more : (m x o y : ℕ) → x < y → IsNews dealt latest heard a l m x → IsFirstNews dealt latest heard a l m (Some (o, y)) → IsFirstNews dealt latest heard a l (m + 1) (Some (m, x))
+  less_more m x o y less n f =
+      (n, λ q z b k. ⊎_elim (λ e. let s = one_news m x z n (subst (λ v. IsNews dealt latest heard a l v z) e k) in omega (arith, s))
+      (λ e. let s = f.1 q z (omega (arith, b, e)) k in omega (arith, s, less)) (cases_eq q m))
+
+  -- or isn't
+  pub least_more : (m x o y : ℕ) → y ≤ x → IsNews dealt latest heard a l m x → IsFirstNews dealt latest heard a l m (Some (o, y)) → IsFirstNews dealt latest heard a l (m + 1) (Some (o, y))
+  least_more m x o y less n f =
+      (f.0, λ q z b k. ⊎_elim (λ e. let s = one_news m x z n (subst (λ v. IsNews dealt latest heard a l v z) e k) in omega (arith, s, less))
+      (λ e. f.1 q z (omega (arith, b, e)) k) (cases_eq q m))

@@ -1,5 +1,5 @@
 -- Groups that are taken one after another.
-use Rattle.std.proofs.Common.{◌≡◌, ◌≢◌, ℕ, zero, suc, ◌+◌, ◌<◌, ◌≤◌, List, [], ◌∷◌, ◌++◌, length, get_or, take, take_all, Bool, true, false, refl, sym, ap, ◌∙◌, subst, inl, inr, ⊎_elim, arith, length-append}
+use Rattle.std.proofs.Common.{◌≡◌, ◌≢◌, ℕ, zero, suc, ◌+◌, ◌/◌, ◌<◌, ◌≤◌, List, [], ◌∷◌, ◌++◌, length, get_or, set, take, take_all, length-set, get_or-set_same, get_or-set_other, Bool, true, false, refl, sym, ap, ◌∙◌, subst, inl, inr, ⊎_elim, arith, length-append}
 use Rattle.std.specs.Prelude.{◌↔◌, Contains}
 use Rattle.std.proofs.lemmas.List.Elements.{Contains-append_left, Contains-push, Contains-push_cases}
 use Rattle.std.proofs.lemmas.Bool.{cases_Bool, cases_eq, cases_lt}
@@ -16,7 +16,7 @@ use Rattle.pst_book.proofs.Ties.{has_or}
 use Rattle.pst_book.proofs.Numbers.{none_has, is_none, the_same, none_of_them, one_more_has, one_less_has, some_has, at_most_bound}
 use Rattle.pst_programs.specs.Serial.{group_of, IsOpen, IsNext, IsSerial}
 use Rattle.pst_programs.specs.Laws.{OrderGoesOn}
-use Rattle.pst_static.specs.Taking.{IsOwed, AreOwed, CanBeTaken, IsFirst, IsTaken}
+use Rattle.pst_static.specs.Taking.{IsOwed, AreOwed, AreHinted, CanBeTaken, IsFirst, IsTaken}
 
 pub no_both : {b : Bool} → b ≡ true → b ≡ false → ⊥
 no_both e f = let both : true ≡ false = sym e ∙ f in cc
@@ -56,6 +56,38 @@ module _ (p : Entries) (awaited lowered : List ℕ) (taken new : List Bool) (act
           let e = owed.many_awaited in
           subst (λ k. AreSoManyOf (IsOwed p new a) k) (sym (low.same a (omega (arith, l, e)) n))
           (the_same {P = IsOwed p taken a} {Q = IsOwed p new a} (λ b q. (q.0, q.1, others b (λ e. n (subst (λ v. Has p.must v a) e q.1)) ∙ q.2)) (λ b q. (left a b q).0) (owed.each a l))
+
+-- ---- marks of blocks
+
+-- an action's row marks the blocks of all that no longer wait for it
+pub hinted_on : (p : Entries) (awaited lowered : List ℕ) (taken new hints marked : List Bool) (act : ℕ) → length awaited ≡ length p.groups → AreHinted p awaited taken hints
+    → length marked ≡ length hints → ((b : ℕ) → get_or hints b false ≡ true → get_or marked b false ≡ true) → ((m : ℕ) → m < length p.groups → Has p.must act m → get_or marked (m / 64) false ≡ true)
+    → AreLowered p.must act awaited lowered → get_or new act false ≡ true → ((a : ℕ) → a ≢ act → get_or new a false ≡ get_or taken a false) → AreHinted p lowered new marked
+hinted_on p awaited lowered taken new hints marked act many h long kept marks low here others =
+    record {
+      many = long ∙ h.many;
+      marked = λ g l can. ⊎_elim (λ has. marks g l has)
+          (λ n. let other : g ≢ act = λ e. no_both here (subst (λ v. get_or new v false ≡ false) e can.fresh) in
+          kept (g / 64) (h.marked g l (record {
+            number = can.number;
+            fresh = sym (others g other) ∙ can.fresh;
+            ready = sym (low.same g (omega (arith, l, many)) n) ∙ can.ready;
+          })))
+          (has_or p.must act g);
+    }
+
+-- a block in which no group can be taken needs no mark
+pub hinted_off : (p : Entries) (awaited : List ℕ) (taken hints : List Bool) (place : ℕ) → AreHinted p awaited taken hints → ((g : ℕ) → g / 64 ≡ place → g < length p.groups → CanBeTaken p awaited taken g → ⊥)
+    → AreHinted p awaited taken (set hints place false)
+hinted_off p awaited taken hints place h none =
+    record {
+      many = length-set hints place false ∙ h.many;
+      marked = λ g l can. ⊎_elim (λ e. absurd (none g e l can)) (λ n. get_or-set_other hints place (g / 64) false false n ∙ h.marked g l can) (cases_eq (g / 64) place);
+    }
+
+-- a block without a mark has none
+pub none_hinted : (p : Entries) (awaited : List ℕ) (taken hints : List Bool) (place : ℕ) → AreHinted p awaited taken hints → get_or hints place false ≡ false → (g : ℕ) → g / 64 ≡ place → g < length p.groups → CanBeTaken p awaited taken g → ⊥
+none_hinted p awaited taken hints place h off g e l can = no_both (subst (λ v. get_or hints v false ≡ true) e (h.marked g l can)) off
 
 -- ---- one group after another
 

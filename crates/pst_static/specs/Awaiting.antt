@@ -1,5 +1,5 @@
 -- Tables by which it is found what an action awaits.
-use Rattle.std.specs.Prelude.{◌≡◌, ◌≢◌, ◌⊎◌, ◌↔◌, ◌≤◌, ◌<◌, ℕ, suc, List, [], ◌++◌, length, get_or, map, Bool, true, false, Some, slice_get, Contains}
+use Rattle.std.specs.Prelude.{◌≡◌, ◌≢◌, ◌⊎◌, ◌↔◌, ◌≤◌, ◌<◌, ℕ, suc, List, [], ◌++◌, length, get_or, map, Bool, true, false, Option, Some, slice_get, MatchOption, Contains}
 use Rattle.std.specs.Global.{Vec}
 use Rattle.pst_scen.specs.Rows.{Has}
 use Rattle.pst_scen.specs.Plan.{Entries}
@@ -39,6 +39,12 @@ pub record IsNews (dealt : Dealt) (latest : List (Vec ℕ)) (heard : List ℕ) (
   pub is_row : slice_get latest m ≡ Some row
   pub later : get_or heard m 0 < get_or row.items a 0
   pub at : IsDealtAt dealt (get_or row.items a 0) x m
+
+-- the least action that is news of the lanes below a bound, with its lane, or none where there is none
+abbrev pub IsFirstNews : Dealt → List (Vec ℕ) → List ℕ → ℕ → ℕ → ℕ → Option (ℕ × ℕ) → Type 0
+IsFirstNews dealt latest heard a l bound found =
+    MatchOption found ((m x : ℕ) → m < bound → IsNews dealt latest heard a l m x → ⊥)
+    (λ w. IsNews dealt latest heard a l w.0 w.1 × ((m x : ℕ) → m < bound → IsNews dealt latest heard a l m x → w.1 ≤ x))
 
 -- the actions that are news were written, ascending, and marked
 pub record IsNewsWritten (dealt : Dealt) (latest : List (Vec ℕ)) (heard : List ℕ) (a l : ℕ) (before after : List Instruction) (old new : List Bool) : Type 0 where

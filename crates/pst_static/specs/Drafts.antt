@@ -1,5 +1,5 @@
 -- Programs without signals, from which the programs are made.
-use Rattle.std.specs.Prelude.{◌≡◌, ◌↔◌, ◌<◌, ℕ, List, [], ◌∷◌, ◌++◌, length, get_or, map, take, if◌then◌else◌, Bool, true, false, Some, slice_get, Contains}
+use Rattle.std.specs.Prelude.{◌≡◌, ◌↔◌, ◌<◌, ℕ, List, [], ◌∷◌, ◌++◌, length, get_or, map, replicate, take, if◌then◌else◌, Bool, true, false, Some, slice_get, Contains}
 use Rattle.std.specs.Global.{Vec}
 use Rattle.pst_scen.specs.Plan.{Entries}
 use Rattle.pst_programs.specs.declared.program.Instruction.{Instruction}
@@ -8,6 +8,16 @@ use Rattle.pst_programs.specs.Serial.{IsSerial}
 use Rattle.pst_programs.specs.Lanes.{Dealt, on_lane, Deals}
 use Rattle.pst_programs.specs.Programs.{AreAwaited}
 use Rattle.pst_static.specs.Awaiting.{AreLatest, AreHeard}
+
+-- for each lane a table of so many zeros
+pub record AreTables (lanes count : ℕ) (tables : List (Vec ℕ)) : Type 0 where
+  pub many : length tables ≡ lanes
+  pub zeros : (l : ℕ) (row : Vec ℕ) → slice_get tables l ≡ Some row → row.items ≡ replicate count 0
+
+-- for each lane a draft without instructions
+pub record AreEmpty (lanes : ℕ) (drafts : List (Vec Instruction)) : Type 0 where
+  pub many : length drafts ≡ lanes
+  pub empty : (l : ℕ) (draft : Vec Instruction) → slice_get drafts l ≡ Some draft → draft.items ≡ []
 
 -- what a lane's draft is, once its actions from here on stand behind what was written
 pub data Drafts (p : Entries) (order : List ℕ) (dealt : Dealt) (l : ℕ) : List Instruction → List ℕ → List Instruction → Type 0 where

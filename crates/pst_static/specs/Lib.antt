@@ -5,4 +5,5 @@ pub mod Awaiting
 pub mod Drafts
 pub mod Standing
 pub mod Views
+pub mod Runs
 pub mod Kept

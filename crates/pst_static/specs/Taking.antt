@@ -1,6 +1,6 @@
 -- Tables by which the serial order is made.
-use Rattle.std.specs.Prelude.{◌≡◌, ℕ, ◌<◌, ◌≤◌, List, length, get_or, Bool, true, false}
-use Rattle.pst_scen.specs.Rows.{Has}
+use Rattle.std.specs.Prelude.{◌≡◌, ℕ, ◌/◌, ◌<◌, ◌≤◌, List, length, get_or, Bool, true, false}
+use Rattle.pst_scen.specs.Rows.{Has, row_words}
 use Rattle.pst_scen.specs.Plan.{Entries}
 use Rattle.pst_book.specs.Tables.{AreSoManyOf}
 
@@ -25,6 +25,17 @@ pub record IsFirst (p : Entries) (awaited : List ℕ) (taken : List Bool) (group
   pub inside : group ≤ length p.groups
   pub can : group < length p.groups → CanBeTaken p awaited taken group
   pub least : (other : ℕ) → other < group → CanBeTaken p awaited taken other → ⊥
+
+-- the least of these numbers from a bound on
+pub record IsFirstFrom (p : Entries) (awaited : List ℕ) (taken : List Bool) (bound group : ℕ) : Type 0 where
+  pub inside : group < length p.groups
+  pub can : CanBeTaken p awaited taken group
+  pub least : (other : ℕ) → bound ≤ other → other < group → CanBeTaken p awaited taken other → ⊥
+
+-- the block of 64 actions in which such a number lies is marked
+pub record AreHinted (p : Entries) (awaited : List ℕ) (taken hints : List Bool) : Type 0 where
+  pub many : length hints ≡ row_words (length p.groups)
+  pub marked : (group : ℕ) → group < length p.groups → CanBeTaken p awaited taken group → get_or hints (group / 64) false ≡ true
 
 -- the members of the group are taken, and the others as before
 pub record IsTaken (p : Entries) (group : ℕ) (old new : List Bool) : Type 0 where

@@ -2,10 +2,10 @@
 //!
 //! An action awaits what is news to its lane: of each other lane the latest action that it needs,
 //! where that was dealt behind all of that lane that is awaited so far. The least is written first,
-//! and then it is no news any more.
-ghost use Rattle.std.specs.Prelude.{◌≡◌, ◌<◌, ◌≤◌, ℕ, length, get_or, Some, slice_get, OnOk, MatchOption};
+//! and then it is no news any more. Each time all lanes are looked at, of which there are 16 at most.
+ghost use Rattle.std.specs.Prelude.{◌≡◌, ◌+◌, ◌<◌, ◌≤◌, ℕ, length, get_or, Option, Some, slice_get, OnOk, MatchOption};
 ghost use Rattle.std.specs.Global.{Vec};
-ghost use Rattle.pst_static.specs.Awaiting.{AreOnce, HavePlaces, IsNews, IsNewsWritten, AreHeard};
+ghost use Rattle.pst_static.specs.Awaiting.{AreOnce, HavePlaces, IsNews, IsFirstNews, IsNewsWritten, AreHeard};
 
 use pst_base::NoMemory;
 use pst_programs::Instruction;
@@ -20,29 +20,75 @@ fn place_at(dealt: &[(u32, u32)], latest: &[Vec<u32>], lane: usize, act: u32) ->
     latest[lane][act as usize]
 }
 
-/// The lane of the least action that is news.
+/// The action of the other lane that is news, if there is one.
+fn news_at(
+    dealt: &[(u32, u32)],
+    latest: &[Vec<u32>],
+    heard: &[u32],
+    act: u32,
+    lane: usize,
+    other: usize,
+) -> Option<u32>
+    requires places { HavePlaces dealt.now latest.now act }
+    requires many { length heard.now ≡ length latest.now }
+    requires other_in { other < length latest.now }
+    ensures { MatchOption result ((x : ℕ) → IsNews dealt.now latest.now heard.now act lane other x → ⊥) (λ x. IsNews dealt.now latest.now heard.now act lane other x) }
+{
+    if other == lane {
+        return None;
+    }
+    let place = place_at(dealt, latest, other, act);
+    if place <= heard[other] {
+        return None;
+    }
+    let (action, _lane) = dealt[place as usize - 1];
+    Some(action)
+}
+
+/// The least action that is news of the lanes up to the given one, and its lane, where that of the
+/// lanes before is known.
+fn with_news(
+    dealt: &[(u32, u32)],
+    latest: &[Vec<u32>],
+    heard: &[u32],
+    act: u32,
+    lane: usize,
+    other: usize,
+    found: Option<(usize, u32)>,
+) -> Option<(usize, u32)>
+    requires places { HavePlaces dealt.now latest.now act }
+    requires many { length heard.now ≡ length latest.now }
+    requires other_in { other < length latest.now }
+    requires so_far { IsFirstNews dealt.now latest.now heard.now act lane other found }
+    ensures { IsFirstNews dealt.now latest.now heard.now act lane (other + 1) result }
+{
+    let Some(action) = news_at(dealt, latest, heard, act, lane, other) else {
+        return found;
+    };
+    let Some((_lane, least)) = found else {
+        return Some((other, action));
+    };
+    if action < least {
+        return Some((other, action));
+    }
+    found
+}
+
+/// The least action that is news, and its lane.
 fn next_news(
     dealt: &[(u32, u32)],
     latest: &[Vec<u32>],
     heard: &[u32],
     act: u32,
     lane: usize,
-) -> Option<usize>
+) -> Option<(usize, u32)>
     requires places { HavePlaces dealt.now latest.now act }
     requires many { length heard.now ≡ length latest.now }
-    ensures { MatchOption result ((m x : ℕ) → IsNews dealt.now latest.now heard.now act lane m x → ⊥) (λ m. (x : ℕ) × IsNews dealt.now latest.now heard.now act lane m x × ((o y : ℕ) → IsNews dealt.now latest.now heard.now act lane o y → x ≤ y)) }
+    ensures { IsFirstNews dealt.now latest.now heard.now act lane (length latest.now) result }
 {
     let mut found = None;
-    let mut least = 0;
     for other in 0..latest.len() {
-        let place = place_at(dealt, latest, other, act);
-        if other != lane && place > heard[other] {
-            let action = dealt[place as usize - 1].0;
-            if found.is_none() || action < least {
-                found = Some(other);
-                least = action;
-            }
-        }
+        found = with_news(dealt, latest, heard, act, lane, other, found);
     }
     found
 }
@@ -63,17 +109,13 @@ pub(crate) fn write_awaits(
     ensures written { OnOk result (IsNewsWritten dealt.now latest.now heard.old act lane draft.old.items draft.new.items told.old told.new) }
     ensures heard { OnOk result (AreHeard (length latest.now) dealt.now draft.new.items heard.new) }
 {
-    for _turn in 0..latest.len() {
-        match next_news(dealt, latest, heard, act, lane) {
-            None => return Ok(()),
-            Some(other) => {
-                let place = place_at(dealt, latest, other, act);
-                let action = dealt[place as usize - 1].0;
-                draft.push(Instruction::Await { action })?;
-                told[action as usize] = true;
-                heard[other] = place;
-            }
-        }
+    'turns: loop {
+        let Some((other, action)) = next_news(dealt, latest, heard, act, lane) else {
+            return Ok(());
+        };
+        let place = place_at(dealt, latest, other, act);
+        draft.push(Instruction::Await { action })?;
+        told[action as usize] = true;
+        heard[other] = place;
     }
-    Ok(())
 }

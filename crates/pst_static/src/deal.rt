@@ -2,7 +2,7 @@
 //!
 //! Along the serial order the members of each group, ascending, get the lanes with the fewest actions
 //! so far, ascending by that number and then by lane.
-ghost use Rattle.std.specs.Prelude.{◌≡◌, ◌≤◌, ◌<◌, ℕ, length, get_or, [], IfOk, OnOk, IsTrue, ◌↔◌, ◌⊎◌, false};
+ghost use Rattle.std.specs.Prelude.{◌≡◌, ◌+◌, ◌≤◌, ◌<◌, ℕ, length, get_or, [], IfOk, OnOk, IsTrue, ◌↔◌, ◌⊎◌, false};
 ghost use Rattle.pst_scen.specs.Plan.{widest, members};
 ghost use Rattle.pst_book.specs.Tables.{AreNext};
 ghost use Rattle.pst_programs.specs.Serial.{IsSerial};
@@ -27,6 +27,23 @@ fn is_better(loads: &[usize], used: &[bool], lane: usize, best: usize) -> bool
     best == used.len() || loads[lane] < loads[best]
 }
 
+/// The better of a lane and the best of the lanes before.
+fn better_of(loads: &[usize], used: &[bool], lane: usize, best: usize) -> usize
+    requires many { length loads.now ≡ length used.now }
+    requires lane_in { lane < length used.now }
+    requires best_in { best ≤ length used.now }
+    requires low { best < length used.now → best < lane }
+    requires first { IsFirstFree loads.now used.now lane best }
+    ensures inside { result ≤ length used.now }
+    ensures low { result < length used.now → result < lane + 1 }
+    ensures first { IsFirstFree loads.now used.now (lane + 1) result }
+{
+    if is_better(loads, used, lane, best) {
+        return lane;
+    }
+    best
+}
+
 /// The lane with the fewest actions of those that aren't used, the least of these, or the number of
 /// lanes where all are used.
 fn first_free(loads: &[usize], used: &[bool]) -> usize
@@ -37,9 +54,7 @@ fn first_free(loads: &[usize], used: &[bool]) -> usize
     let lanes = used.len();
     let mut best = lanes;
     for lane in 0..lanes {
-        if is_better(loads, used, lane, best) {
-            best = lane;
-        }
+        best = better_of(loads, used, lane, best);
     }
     best
 }

@@ -6,10 +6,13 @@
 
 mod awaits;
 mod deal;
+mod drafts;
 mod latest;
 mod machine;
 mod order;
 mod programs;
+mod rows;
+mod run;
 mod standing;
 mod tables;
 

@@ -1,21 +1,18 @@
 //! A machine that runs the programs of lanes.
-ghost use Rattle.std.specs.Prelude.{◌≡◌, ◌↔◌, ◌*◌, ◌<◌, ◌≤◌, ◌++◌, ◌∷◌, [], ℕ, length, get_or, IfOk, IsTrue, MatchOption, vec_capacity};
+ghost use Rattle.std.specs.Prelude.{◌≡◌, ◌↔◌, ◌<◌, ◌≤◌, ℕ, length, IfOk, IsTrue, replicate};
 ghost use Rattle.std.specs.Bool.{OnTrue, OnFalse};
 ghost use Rattle.pst_scen.specs.declared.scenario.Scenario.{Scenario};
-ghost use Rattle.pst_scen.specs.Trace.{Prefix, Runs};
-ghost use Rattle.pst_scen.specs.Plan.{widest, members};
+ghost use Rattle.pst_scen.specs.Trace.{Prefix};
+ghost use Rattle.pst_scen.specs.Plan.{widest};
 ghost use Rattle.pst_scen.specs.Plans.{IsPlanOf};
 ghost use Rattle.pst_order.specs.Facts.{LinksStates};
-ghost use Rattle.pst_programs.specs.declared.program.Instruction.{Instruction};
-ghost use Rattle.pst_programs.specs.declared.program.Instruction.TheVariants.{Run, Signal, Await};
 ghost use Rattle.pst_programs.specs.Programs.{ArePrograms};
-ghost use Rattle.pst_programs.specs.Machine.{State, Steps, HasEnded, IsAt, at_first};
+ghost use Rattle.pst_programs.specs.Machine.{State, Steps, HasEnded, at_first};
 
-use crate::standing::{can_begin, instruction_at, note, start_members};
+use crate::run::{all_ended, begin, end, pass, Progress};
 use crate::tables::{marks, next_members};
 use pst_base::NoMemory;
-use pst_order::{prefix_is_by_rule, rule_fits};
-use pst_programs::{machine_is_safe, programs_are_safe, Instruction, Move, Program};
+use pst_programs::{machine_is_safe, programs_are_safe, Move, Program};
 use pst_scen::{Event, Plan};
 use std::alloc::Global;
 use std::marker::Model;
@@ -27,17 +24,7 @@ use std::marker::Model;
 pub struct Machine<'a> {
     plan: &'a Plan,
     programs: &'a [Program],
-    /// The next action of the same group, or the number of actions, for each action.
-    next: Vec<u32>,
-    /// The instruction at which each lane stands.
-    places: Vec<usize>,
-    /// The actions of which lanes told that they have ended, in this order.
-    signals: Vec<u32>,
-    trace: Vec<Event>,
-    /// Whether the action is among the signals.
-    told: Vec<bool>,
-    /// Whether the action has started.
-    started: Vec<bool>,
+    run: Progress,
 }
 
 impl<'a> Model for Machine<'a> {
@@ -53,17 +40,10 @@ impl<'a> Model for Machine<'a> {
 }
 
 /// Each lane's first place.
-fn first_places(alloc: Global, count: usize) -> Result<Vec<usize>, NoMemory> {
-    Ok(Vec::from_elem(alloc, 0usize, count)?)
-}
-
-/// Writes a signal, for which there is room.
-fn tell(signals: &mut Vec<u32>, act: u32)
-    requires { length signals.old.items < vec_capacity signals.old }
-    ensures items { signals.new.items ≡ signals.old.items ++ act ∷ [] }
-    ensures capacity { vec_capacity signals.old ≤ vec_capacity signals.new }
+fn first_places(alloc: Global, count: usize) -> Result<Vec<usize>, NoMemory>
+    ensures { IfOk result (λ v. v.items ≡ replicate count 0) }
 {
-    let _pushed = signals.push(act);
+    Ok(Vec::from_elem(alloc, 0usize, count)?)
 }
 
 impl<'a> Machine<'a> {
@@ -88,15 +68,18 @@ impl<'a> Machine<'a> {
         let trace = Vec::with_capacity(alloc, 2 * count)?;
         let told = marks(alloc, count)?;
         let started = marks(alloc, count)?;
-        Ok(Machine {
-            plan,
-            programs,
+        let run = Progress {
             next,
             places,
             signals,
             trace,
             told,
             started,
+        };
+        Ok(Machine {
+            plan,
+            programs,
+            run,
         })
     }
 
@@ -108,107 +91,14 @@ impl<'a> Machine<'a> {
     {
         machine_is_safe();
         programs_are_safe();
-        &self.trace
+        &self.run.trace
     }
 
     /// Whether every lane is at its program's end.
     pub fn ended(&self) -> bool
         ensures { IsTrue result ↔ HasEnded self.now.programs self.now.state }
     {
-        for lane in 0..self.programs.len() {
-            if self.places[lane] < self.programs[lane].steps.as_slice().len() {
-                return false;
-            }
-        }
-        true
-    }
-
-    /// A lane at a `Signal`, or at an `Await` of an action that was told of, goes on.
-    fn pass(&mut self, lane: u32) -> bool
-        ensures plan { self.new.plan ≡ self.old.plan }
-        ensures programs { self.new.programs ≡ self.old.programs }
-        ensures yes { OnTrue result (Steps self.old.plan self.old.programs self.old.state (Move.Pass lane) self.new.state) }
-        ensures no { OnFalse result (self.new ≡ self.old) }
-        ensures impossible { OnFalse result ((state : State) → Steps self.old.plan self.old.programs self.old.state (Move.Pass lane) state → ⊥) }
-    {
-        match instruction_at(self.programs, &self.places, lane) {
-            Some(Instruction::Signal { action }) => {
-                self.told[action as usize] = true;
-                tell(&mut self.signals, action);
-                self.places[lane as usize] += 1;
-                true
-            }
-            Some(Instruction::Await { action }) => {
-                if !self.told[action as usize] {
-                    return false;
-                }
-                self.places[lane as usize] += 1;
-                true
-            }
-            Some(Instruction::Run { .. }) => false,
-            None => false,
-        }
-    }
-
-    /// The group starts at whose `Run` the lane stands, where each member's lane stands at its `Run`.
-    fn begin(&mut self, lane: u32) -> bool
-        ensures plan { self.new.plan ≡ self.old.plan }
-        ensures programs { self.new.programs ≡ self.old.programs }
-        ensures yes { OnTrue result (Steps self.old.plan self.old.programs self.old.state (Move.Begin lane) self.new.state) }
-        ensures no { OnFalse result (self.new ≡ self.old) }
-        ensures impossible { OnFalse result ((state : State) → Steps self.old.plan self.old.programs self.old.state (Move.Begin lane) state → ⊥) }
-    {
-        match instruction_at(self.programs, &self.places, lane) {
-            Some(Instruction::Run { action }) => {
-                let group = self.plan.group(action);
-                if !can_begin(
-                    self.plan,
-                    &self.next,
-                    self.programs,
-                    &self.places,
-                    &self.started,
-                    group,
-                ) {
-                    return false;
-                }
-                start_members(
-                    self.plan,
-                    &self.next,
-                    self.programs,
-                    &self.places,
-                    &mut self.started,
-                    &mut self.trace,
-                    group,
-                );
-                true
-            }
-            Some(Instruction::Signal { .. }) => false,
-            Some(Instruction::Await { .. }) => false,
-            None => false,
-        }
-    }
-
-    /// The action at whose `Run` the lane stands ends, where it has started.
-    fn end(&mut self, lane: u32) -> bool
-        ensures plan { self.new.plan ≡ self.old.plan }
-        ensures programs { self.new.programs ≡ self.old.programs }
-        ensures yes { OnTrue result (Steps self.old.plan self.old.programs self.old.state (Move.End lane) self.new.state) }
-        ensures no { OnFalse result (self.new ≡ self.old) }
-        ensures impossible { OnFalse result ((state : State) → Steps self.old.plan self.old.programs self.old.state (Move.End lane) state → ⊥) }
-    {
-        match instruction_at(self.programs, &self.places, lane) {
-            Some(Instruction::Run { action }) => {
-                if !self.started[action as usize] {
-                    return false;
-                }
-                note(&mut self.trace, Event::End { act: action });
-                self.places[lane as usize] += 1;
-                true
-            }
-            Some(Instruction::Signal { .. }) => false,
-            Some(Instruction::Await { .. }) => false,
-            None => false,
-        }
+        all_ended(self.programs, &self.run.places)
     }
 
     /// Makes a move. It answers false exactly where the move isn't possible, and then nothing changes.
@@ -220,9 +110,9 @@ impl<'a> Machine<'a> {
         ensures impossible { OnFalse result ((state : State) → Steps self.old.plan self.old.programs self.old.state chosen state → ⊥) }
     {
         match chosen {
-            Move::Pass { lane } => self.pass(lane),
-            Move::Begin { lane } => self.begin(lane),
-            Move::End { lane } => self.end(lane),
+            Move::Pass { lane } => pass(self.plan, self.programs, &mut self.run, lane),
+            Move::Begin { lane } => begin(self.plan, self.programs, &mut self.run, lane),
+            Move::End { lane } => end(self.plan, self.programs, &mut self.run, lane),
         }
     }
 }

@@ -1,12 +1,12 @@
 //! Where the lanes of a machine stand, and the start of a group there.
-ghost use Rattle.std.specs.Prelude.{◌≡◌, ◌↔◌, ◌+◌, ◌<◌, ◌≤◌, ◌++◌, ◌∷◌, [], ℕ, length, get_or, IsTrue, MatchOption, vec_capacity};
+ghost use Rattle.std.specs.Prelude.{◌≡◌, ◌↔◌, ◌+◌, ◌^◌, ◌<◌, ◌≤◌, ◌++◌, ◌∷◌, [], ℕ, length, get_or, IsTrue, IsSome, MatchOption, vec_capacity};
 ghost use Rattle.pst_scen.specs.Plan.{members};
 ghost use Rattle.pst_book.specs.Tables.{AreNext};
 ghost use Rattle.pst_programs.specs.declared.program.Instruction.TheVariants.{Run};
 ghost use Rattle.pst_programs.specs.declared.program.Instruction.{Instruction};
 ghost use Rattle.pst_programs.specs.Machine.{IsAt};
 ghost use Rattle.pst_static.specs.Taking.{IsTaken};
-ghost use Rattle.pst_static.specs.Standing.{CanJoin, HasBegun};
+ghost use Rattle.pst_static.specs.Standing.{AllCanJoin, HasBegun};
 
 use pst_programs::{Instruction, Program};
 use pst_scen::{Event, Plan};
@@ -18,7 +18,8 @@ pub(crate) fn instruction_at(
     lane: u32,
 ) -> Option<Instruction>
     requires { length places.now ≡ length programs.now }
-    ensures { MatchOption result ((i : Instruction) → IsAt programs.now places.now lane i → ⊥) (λ i. IsAt programs.now places.now lane i) }
+    ensures at { MatchOption result ((i : Instruction) → IsAt programs.now places.now lane i → ⊥) (λ i. IsAt programs.now places.now lane i) }
+    ensures room { IsSome result → get_or places.now lane 0 + 1 < 2 ^ 64 }
 {
     let at = lane as usize;
     if at >= programs.len() {
@@ -62,7 +63,7 @@ pub(crate) fn can_begin(
     requires many { length places.now ≡ length programs.now }
     requires few { length programs.now ≤ 16 }
     requires many_started { length started.now ≡ length plan.now.groups }
-    ensures { IsTrue result ↔ ((a : ℕ) → a < length plan.now.groups → get_or plan.now.groups a 0 ≡ group → CanJoin programs.now places.now started.now a) }
+    ensures { IsTrue result ↔ AllCanJoin plan.now programs.now places.now started.now group }
 {
     let count = plan.len();
     let mut act = group;
@@ -94,7 +95,7 @@ pub(crate) fn start_members(
     next: &[u32],
     programs: &[Program],
     places: &[usize],
-    started: &mut [bool],
+    started: &mut Vec<bool>,
     trace: &mut Vec<Event>,
     group: u32,
 )
@@ -103,11 +104,11 @@ pub(crate) fn start_members(
     requires next { AreNext plan.now.groups next.now }
     requires many { length places.now ≡ length programs.now }
     requires few { length programs.now ≤ 16 }
-    requires many_started { length started.old ≡ length plan.now.groups }
-    requires ready { (a : ℕ) → a < length plan.now.groups → get_or plan.now.groups a 0 ≡ group → CanJoin programs.now places.now started.old a }
+    requires many_started { length started.old.items ≡ length plan.now.groups }
+    requires ready { AllCanJoin plan.now programs.now places.now started.old.items group }
     requires room { length trace.old.items + length (members plan.now.groups group) ≤ vec_capacity trace.old }
-    ensures many { length started.new ≡ length started.old }
-    ensures started { IsTaken plan.now group started.old started.new }
+    ensures many { length started.new.items ≡ length started.old.items }
+    ensures started { IsTaken plan.now group started.old.items started.new.items }
     ensures begun { HasBegun programs.now places.now (members plan.now.groups group) trace.old.items trace.new.items }
     ensures capacity { vec_capacity trace.old ≤ vec_capacity trace.new }
 {

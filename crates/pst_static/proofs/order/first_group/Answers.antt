@@ -1,8 +1,11 @@
-use Rattle.std.proofs.Common.{◌<◌, ℕ}
-use Rattle.pst_static.specs.Taking.{CanBeTaken}
-use Rattle.pst_book.proofs.Loops.{one_more, not_true}
+use Rattle.std.proofs.Common.{◌*◌, ⊎_elim, arith}
+use Rattle.std.proofs.lemmas.Bool.{cases_lt}
+use Rattle.pst_book.proofs.Marking.{not_found}
 use Rattle.pst_static.proofs.order.first_group.Goals as goal
 
-pub loop-group-preserved : goal.loop-group-preserved
-loop-group-preserved c =
-    one_more (λ g. CanBeTaken c.args.plan.now c.args.awaited.now c.args.taken.now g → ⊥) c.loop-group.group c.loop-group.invariant (not_true c.can_be_taken.result c.can_be_taken.ensures.1 c.if-can_be_taken.false)
+pub loop-place-preserved : goal.loop-place-preserved
+loop-place-preserved c = record {
+  hinted = c.look_at.ensures.hinted;
+  none = λ g l k can. ⊎_elim (λ b. c.loop-place.invariant.none g b k can)
+      (λ b. not_found c.look_at.result _ _ c.look_at.ensures.found c.in_default.not-Some g (omega (arith, b, l)) k can) (cases_lt g (c.loop-place.place * 64));
+}

@@ -9,6 +9,7 @@ members-init c =
     record {
       here = λ l. c.requires.number;
       owed = c.requires.owed;
+      hinted = c.requires.hinted;
       done = λ a l e. let k = numbered.least a (omega (arith, l, g)) in absurd (omega (arith, k, e, l));
       rest = λ a l. refl;
       others = λ a n. refl;
@@ -39,6 +40,7 @@ members-preserved c =
     record {
       here = λ m. next.same m ∙ i.here l;
       owed = o.owed;
+      hinted = o.hinted;
       done = λ a m e. ⊎_elim (λ k. o.others a (λ q. omega (arith, q, k)) ∙ i.done a k e)
           (λ k. ⊎_elim (λ q. subst (λ v. get_or c.take_one.new.taken v false ≡ true) (sym q) o.here)
           (λ q. absurd (next.none_between a (omega (arith, k, q)) m (e ∙ sym (i.here l)))) (cases_eq a act)) (cases_lt a act);
@@ -53,5 +55,6 @@ returns c =
     let n = c.len-count.ensures.is in
     record {
       owed = i.owed;
+      hinted = i.hinted;
       taken = record { members = λ a l e. i.done a (omega (arith, l, f, n)) e; others = i.others };
     }

@@ -2,7 +2,7 @@ use Rattle.std.proofs.Common.{◌<◌, ◌∙◌, ℕ, List, subst, sym, refl, a
 use Rattle.pst_scen.specs.declared.rows.Rows.{Rows}
 use Rattle.pst_scen.specs.Rows.{Has}
 use Rattle.pst_book.specs.Tables.{AreLowered}
-use Rattle.pst_static.proofs.Taken.{awaited_some, owed_less}
+use Rattle.pst_static.proofs.Taken.{awaited_some, owed_less, hinted_on}
 use Rattle.pst_static.proofs.order.take_one.Goals as goal
 
 pub lower-requires-clause-a_in : goal.lower-requires-clause-a_in

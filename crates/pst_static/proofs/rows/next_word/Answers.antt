@@ -1,7 +1,7 @@
 use Rattle.std.proofs.Common.{◌/◌, ◌%◌, ⊎_elim, arith}
 use Rattle.std.proofs.lemmas.Bool.{cases_eq}
 use Rattle.pst_book.proofs.Parting.{no_bit}
-use Rattle.pst_static.proofs.latest.next_word.Goals as goal
+use Rattle.pst_static.proofs.rows.next_word.Goals as goal
 
 pub loop-place-preserved : goal.loop-place-preserved
 loop-place-preserved c =
