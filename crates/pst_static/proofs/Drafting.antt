@@ -1,8 +1,9 @@
 -- Actions that are drafted one after another.
-use Rattle.std.proofs.Common.{◌≡◌, ◌≢◌, ◌⊎◌, ℕ, zero, suc, ◌+◌, ◌<◌, ◌≤◌, List, [], ◌∷◌, ◌++◌, length, length-set, get_or, map, set, take, slice_get, Some, Bool, true, false, refl, sym, ap, ◌∙◌, subst, inl, inr, ⊎_elim, arith, append_assoc}
+use Rattle.std.proofs.Common.{◌≡◌, ◌≢◌, ◌⊎◌, ℕ, zero, suc, ◌+◌, ◌<◌, ◌≤◌, List, [], ◌∷◌, ◌++◌, length, length-set, get_or, map, replicate, set, take, take_all, slice_get, Some, Bool, true, false, refl, sym, ap, ◌∙◌, subst, inl, inr, ⊎_elim, arith, append_assoc}
 use Rattle.std.specs.Prelude.{◌↔◌, Contains, nat_eq, if◌then◌else◌}
 use Rattle.std.specs.Global.{Vec}
 use Rattle.std.proofs.lemmas.List.Elements.{Contains-append_left, Contains-append_right, Contains-append_cases, Contains-push, Contains-push_cases}
+use Rattle.std.proofs.lemmas.List.{get_or-replicate, length-replicate}
 use Rattle.std.proofs.lemmas.Bool.{cases_eq, cases_order, eq-eqb, eqb-true, eqb-false}
 use Rattle.pst_scen.specs.declared.scenario.Scenario.{Scenario}
 use Rattle.pst_scen.specs.Rows.{Has}
@@ -21,9 +22,10 @@ use Rattle.pst_programs.proofs.Ranks.{index_of, rank, lesser}
 use Rattle.pst_programs.proofs.Dealing.{Rising, IsDealt, whole_dealt, on_more}
 use Rattle.pst_programs.proofs.Written.{get_below, get_of, of_get, of_awaits, to_awaits}
 use Rattle.pst_programs.proofs.Holding.{ascends}
-use Rattle.pst_static.specs.Awaiting.{IsDealtAt, IsLatest, AreLatest, IsHeard, AreHeard, IsNews, IsNewsWritten, AreOnce}
-use Rattle.pst_static.specs.Drafts.{Drafts, AreDrafts}
+use Rattle.pst_static.specs.Awaiting.{IsDealtAt, IsLatest, AreLatest, IsHeard, AreHeard, IsNews, IsNewsWritten, AreOnce, HavePlaces}
+use Rattle.pst_static.specs.Drafts.{Drafts, Drafted, AreDrafts, IsDrafting, IsDrafted, AreTables, AreEmpty}
 use Rattle.pst_static.specs.Stamps.{AreStampedByPlan, IsChangedAt}
+use Rattle.pst_static.proofs.Taken.{no_both}
 use Rattle.pst_static.proofs.Ranked.{Ordered, ranks_rise}
 use Rattle.pst_static.proofs.Counted.{lane_rises, counts_at, counts_only}
 use Rattle.pst_static.proofs.Signalled.{draft_more}
@@ -346,3 +348,102 @@ module _ (p : Entries) (lanes : ℕ) (order : List ℕ) (serial : IsSerial p ord
         subst (λ v. AreHeard lanes dealt v r.items) (sym (drafted.here draft d is_draft g')) (heard_run awaited r.items (changed.here row r is_row e')))
         (λ n. old m r d (sym (changed.others m n) ∙ e) (sym (drafted.others m n) ∙ g))
         (cases_eq m l)
+
+-- where an action was dealt that an action of the given place needs
+pub have_places : (p : Entries) (lanes : ℕ) (dealt : Dealt) (at a : ℕ) (latest : List (Vec ℕ)) → at ≤ length dealt → a < length p.groups → AreLatest p lanes dealt at latest → HavePlaces dealt latest a
+have_places p lanes dealt at a latest at_in a_in are =
+    record {
+      wide = λ m row e. let w = (are.each m row e).0 in omega (arith, a_in, w);
+      within = λ m row e. let w = ((are.each m row e).1 a a_in).within in omega (arith, w, at_in);
+      is = λ m row e pos. let w = ((are.each m row e).1 a a_in).is pos in (w.0, w.1);
+    }
+
+-- ---- one draft more
+
+module _ (s : Scenario) (p : Entries) (plan : IsPlanOf s p) (clash : WholeHasNoClash) (those : MembersAreThose) (whole : PlanGroupsAreWhole)
+    (lanes : ℕ) (dealt : Dealt) (at : ℕ) (latest heard : List (Vec ℕ)) (drafts : List (Vec Instruction)) (old_told : List Bool)
+    (d : IsDrafting p lanes dealt at latest heard drafts old_told) (a l : ℕ) (is : slice_get dealt at ≡ Some (a, l)) where
+  abbrev known : Facts p lanes d.order d.serial dealt
+  known = facts s p plan clash those whole lanes d.order d.serial dealt d.deals
+
+  pub lane_in : l < lanes
+  lane_in = lane_below p lanes d.order d.serial dealt known a l at is
+
+  pub a_in : a < length p.groups
+  a_in = act_in p lanes d.order d.serial dealt known a l at is
+
+  pub once_told : AreOnce dealt (length old_told)
+  once_told = subst (λ k. AreOnce dealt k) (sym d.are.many_told) (once p lanes d.order d.serial dealt known)
+
+  pub drafting_on : (row : Vec ℕ) → slice_get heard l ≡ Some row → (draft : Vec Instruction) → slice_get drafts l ≡ Some draft → (awaited : Vec Instruction) (told : List Bool)
+      → IsNewsWritten dealt latest row.items a l draft.items awaited.items old_told told → (new_row : Vec ℕ) → AreHeard lanes dealt awaited.items new_row.items
+      → (new_latest : List (Vec ℕ)) (new : List (Vec Instruction)) → IsChangedAt (Vec ℕ) (λ x y. AreStampedByPlan p a (at + 1) x.items y.items) l latest new_latest
+      → IsChangedAt (Vec Instruction) (λ x y. y.items ≡ x.items ++ Run a ∷ []) l (set drafts l awaited) new
+      → IsDrafting p lanes dealt (at + 1) new_latest (set heard l new_row) new told
+  drafting_on row is_row draft is_draft awaited told written new_row new_row_is new_latest new stamped drafted =
+      record {
+        order = d.order;
+        serial = d.serial;
+        deals = d.deals;
+        are = drafts_more p lanes d.order d.serial dealt known a l at is latest drafts new old_told told d.latest_are d.are row draft is_draft row_is awaited.items written changed;
+        latest_are = latest_more p lanes d.order d.serial dealt known a l at is latest new_latest d.latest_are stamped;
+        many_heard = length-set heard l new_row ∙ d.many_heard;
+        heard_are = heard_more p lanes d.order d.serial dealt known a l at is heard (set heard l new_row) drafts new row is_row draft is_draft awaited.items changed d.heard_are
+            (changed_at (λ (x y : Vec ℕ). AreHeard lanes dealt awaited.items y.items) heard l row new_row (let h = d.many_heard in let low = lane_in in omega (arith, h, low)) is_row new_row_is);
+      }
+    where
+      row_is : AreHeard lanes dealt draft.items row.items
+      row_is = d.heard_are l row draft is_row is_draft
+
+      draft_in : l < length drafts
+      draft_in = let h = d.are.many in let low = lane_in in omega (arith, h, low)
+
+      changed : IsChangedAt (Vec Instruction) (λ x y. y.items ≡ awaited.items ++ Run a ∷ []) l drafts new
+      changed =
+          changed_again (λ (x y : Vec Instruction). y ≡ awaited) (λ (x y : Vec Instruction). y.items ≡ x.items ++ Run a ∷ []) (λ (x y : Vec Instruction). y.items ≡ awaited.items ++ Run a ∷ []) l drafts (set drafts l awaited) new
+          (let n = length-set drafts l awaited in let low = draft_in in omega (arith, n, low))
+          (λ x y z e f. f ∙ ap (λ (v : Vec Instruction). v.items ++ Run a ∷ []) e)
+          (changed_at (λ (x y : Vec Instruction). y ≡ awaited) drafts l draft awaited draft_in is_draft refl) drafted
+
+-- ---- before the first
+
+pub drafting_first : (p : Entries) (lanes : ℕ) (dealt : Dealt) (order : List ℕ) → IsSerial p order → Deals p lanes [] order dealt → (latest heard : List (Vec ℕ)) (drafts : List (Vec Instruction)) (told : List Bool)
+    → AreTables lanes (length p.groups) latest → AreTables lanes lanes heard → AreEmpty lanes drafts → told ≡ replicate (length p.groups) false → IsDrafting p lanes dealt 0 latest heard drafts told
+drafting_first p lanes dealt order serial deals latest heard drafts told tables rows empty none =
+    record {
+      order = order;
+      serial = serial;
+      deals = deals;
+      are = record {
+          many = empty.many;
+          each = λ l d e. subst (λ v. Drafts p order dealt l [] [] v) (sym (empty.empty l d e)) (Drafted []);
+          many_told = ap (λ (v : List Bool). length v) none ∙ length-replicate (length p.groups) false;
+          told_is = λ a l. (
+            λ t. absurd (no_both t (ap (λ v. get_or v a false) none ∙ get_or-replicate (length p.groups) a false false l)),
+            λ q. absurd (none_in (Await a) (subst (λ v. Contains v (Await a)) (empty.empty q.0 q.1 q.2) q.3)),
+          );
+        };
+      latest_are = record {
+          many = tables.many;
+          each = λ m row e. (
+            ap (λ (v : List ℕ). length v) (tables.zeros m row e) ∙ length-replicate (length p.groups) 0,
+            λ a l. subst (λ v. IsLatest p dealt 0 m a v) (sym (ap (λ v. get_or v a 0) (tables.zeros m row e) ∙ get_or-replicate (length p.groups) a 0 0 l)) (none_latest m a),
+          );
+        };
+      many_heard = rows.many;
+      heard_are = λ l row d e f. record {
+        many = ap (λ (v : List ℕ). length v) (rows.zeros l row e) ∙ length-replicate lanes 0;
+        each = λ m h. subst (λ v. IsHeard dealt d.items m v) (sym (ap (λ v. get_or v m 0) (rows.zeros l row e) ∙ get_or-replicate lanes m 0 0 h))
+            (record { is = λ o. absurd (omega (arith, o)); last = λ i x b c. absurd (none_in (Await x) (subst (λ v. Contains v (Await x)) (empty.empty l d f) c)) });
+      };
+    }
+  where
+    none_latest : (m a : ℕ) → IsLatest p dealt 0 m a 0
+    none_latest m a = record { within = omega arith; is = λ o. absurd (omega (arith, o)); last = λ i x b e q. let f = e.1 in omega (arith, b, f) }
+
+-- ---- behind the last
+
+pub drafted_all : (p : Entries) (lanes : ℕ) (dealt : Dealt) (at : ℕ) (latest heard : List (Vec ℕ)) (drafts : List (Vec Instruction)) (told : List Bool) → length dealt ≤ at
+    → IsDrafting p lanes dealt at latest heard drafts told → IsDrafted p lanes dealt drafts told
+drafted_all p lanes dealt at latest heard drafts told past d =
+    record { order = d.order; serial = d.serial; deals = d.deals; are = subst (λ v. AreDrafts p d.order dealt lanes v drafts told) (take_all at dealt past) d.are }

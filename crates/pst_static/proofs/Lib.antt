@@ -7,3 +7,4 @@ mod News
 mod Signalled
 mod Moved
 mod Drafting
+mod Tied

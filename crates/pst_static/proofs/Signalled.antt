@@ -13,7 +13,7 @@ use Rattle.pst_programs.specs.Serial.{IsSerial}
 use Rattle.pst_programs.specs.Lanes.{Dealt, on_lane, Deals}
 use Rattle.pst_programs.specs.Programs.{program_at, AreAwaited, IsAwaited, SignalOf, Told, Untold, Writes, Written, ArePrograms}
 use Rattle.pst_programs.specs.Programs as text
-use Rattle.pst_programs.proofs.Places.{run_await, signal_await}
+use Rattle.pst_programs.proofs.Places.{run_one, run_await, signal_await}
 use Rattle.pst_programs.proofs.Dealing.{on_contains, contains_on}
 use Rattle.pst_programs.proofs.Written.{of_awaits}
 use Rattle.pst_programs.proofs.OnlyOne.{SameAwaits, counts_same, back}
@@ -101,6 +101,19 @@ module _ (p : Entries) (order : List ℕ) (dealt : Dealt) (l : ℕ) where
     where
       await_is : (a b : ℕ) → Await a ≡ Await b → a ≡ b
       await_is a b e = cc e
+
+  -- what runs in a draft is one of its actions
+  pub draft_runs : (before whole : List Instruction) (acts : List ℕ) → Drafts p order dealt l before acts whole → (a : ℕ) → Contains whole (Run a) → Contains before (Run a) ⊎ Contains acts a
+  draft_runs _ _ _ (Drafted steps) a c = inl c
+  draft_runs _ _ _ (draft.Then before whole b more awaited are rest) a c =
+      ⊎_elim
+      (λ k. ⊎_elim (λ q. inl q)
+      (λ q. ⊎_elim (λ r. let w = of_awaits awaited (Run a) r in absurd (run_await a w.0 w.1))
+      (λ r. ⊎_elim (λ e. inr (subst (λ v. Contains (b ∷ more) v) (run_one b a e) (cons_first b more))) (λ n. absurd (none_in (Run a) n)) (cons_cases (Run b) (Run a) [] r))
+      (Contains-append_cases (map Await awaited) (Run b ∷ []) (Run a) q))
+      (Contains-append_cases before (map Await awaited ++ Run b ∷ []) (Run a) k))
+      (λ k. inr (cons_rest b a more k))
+      (draft_runs (before ++ (map Await awaited ++ Run b ∷ [])) whole more rest a c)
 
   module _ (programs : List Program) (told : List Bool) where
     signal_of : (a : ℕ) → (get_or told a false ≡ true) ↔ IsAwaited programs l a → SignalOf programs l a (signal told a)

@@ -34,5 +34,5 @@ pub record IsTied (view : View) (next : List ℕ) (started told : List Bool) (ro
   pub many_told : length told ≡ length view.plan.groups
   pub started_is : (a : ℕ) → a < length view.plan.groups → (get_or started a false ≡ true) ↔ Started view.state.trace a
   pub told_is : (a : ℕ) → a < length view.plan.groups → (get_or told a false ≡ true) ↔ Contains view.state.signals a
-  pub room : 2 * length view.plan.groups ≤ room
-  pub told_room : length view.plan.groups ≤ told_room
+  pub has_room : 2 * length view.plan.groups ≤ room
+  pub has_told_room : length view.plan.groups ≤ told_room

@@ -6,6 +6,7 @@ ghost use Rattle.std.specs.Prelude.{◌≡◌, ◌↔◌, ◌+◌, ◌^◌, ◌<
 ghost use Rattle.std.specs.Bool.{OnTrue, OnFalse};
 ghost use Rattle.pst_scen.specs.Trace.{Runs};
 ghost use Rattle.pst_programs.specs.declared.program.Instruction.TheVariants.{Run, Signal, Await};
+ghost use Rattle.pst_programs.specs.declared.program.Move.TheVariants.{Pass, Begin, End};
 ghost use Rattle.pst_programs.specs.Machine.{State, Steps, HasEnded, IsAt, moved_on};
 ghost use Rattle.pst_static.specs.Standing.{AllCanJoin, AreAtEnd};
 ghost use Rattle.pst_static.specs.Runs.{state_of, IsRun};
@@ -65,7 +66,7 @@ fn give(plan: &Plan, programs: &[Program], run: &mut Progress, lane: u32, action
     requires at { IsAt programs.now run.old.places.items lane (Signal action) }
     requires room { get_or run.old.places.items lane 0 + 1 < 2 ^ 64 }
     ensures run { IsRun plan.now programs.now run.new }
-    ensures step { Steps plan.now programs.now (state_of run.old) (Move.Pass lane) (state_of run.new) }
+    ensures step { Steps plan.now programs.now (state_of run.old) (Pass lane) (state_of run.new) }
 {
     groups_are_whole();
     members_are_those();
@@ -84,7 +85,7 @@ fn hear(plan: &Plan, programs: &[Program], run: &mut Progress, lane: u32, action
     requires told { Contains run.old.signals.items action }
     requires room { get_or run.old.places.items lane 0 + 1 < 2 ^ 64 }
     ensures run { IsRun plan.now programs.now run.new }
-    ensures step { Steps plan.now programs.now (state_of run.old) (Move.Pass lane) (state_of run.new) }
+    ensures step { Steps plan.now programs.now (state_of run.old) (Pass lane) (state_of run.new) }
 {
     advance(&mut run.places, lane);
 }
@@ -95,7 +96,7 @@ fn start(plan: &Plan, programs: &[Program], run: &mut Progress, lane: u32, actio
     requires at { IsAt programs.now run.old.places.items lane (Run action) }
     requires ready { AllCanJoin plan.now programs.now run.old.places.items run.old.started.items (get_or plan.now.groups action 0) }
     ensures run { IsRun plan.now programs.now run.new }
-    ensures step { Steps plan.now programs.now (state_of run.old) (Move.Begin lane) (state_of run.new) }
+    ensures step { Steps plan.now programs.now (state_of run.old) (Begin lane) (state_of run.new) }
 {
     groups_are_whole();
     members_are_those();
@@ -123,7 +124,7 @@ fn finish(plan: &Plan, programs: &[Program], run: &mut Progress, lane: u32, acti
     requires runs { Runs run.old.trace.items action }
     requires room { get_or run.old.places.items lane 0 + 1 < 2 ^ 64 }
     ensures run { IsRun plan.now programs.now run.new }
-    ensures step { Steps plan.now programs.now (state_of run.old) (Move.End lane) (state_of run.new) }
+    ensures step { Steps plan.now programs.now (state_of run.old) (End lane) (state_of run.new) }
 {
     groups_are_whole();
     members_are_those();
@@ -140,9 +141,9 @@ fn finish(plan: &Plan, programs: &[Program], run: &mut Progress, lane: u32, acti
 pub(crate) fn pass(plan: &Plan, programs: &[Program], run: &mut Progress, lane: u32) -> bool
     requires { IsRun plan.now programs.now run.old }
     ensures run { IsRun plan.now programs.now run.new }
-    ensures yes { OnTrue result (Steps plan.now programs.now (state_of run.old) (Move.Pass lane) (state_of run.new)) }
+    ensures yes { OnTrue result (Steps plan.now programs.now (state_of run.old) (Pass lane) (state_of run.new)) }
     ensures no { OnFalse result (run.new ≡ run.old) }
-    ensures impossible { OnFalse result ((state : State) → Steps plan.now programs.now (state_of run.old) (Move.Pass lane) state → ⊥) }
+    ensures impossible { OnFalse result ((state : State) → Steps plan.now programs.now (state_of run.old) (Pass lane) state → ⊥) }
 {
     programs_are_safe();
     match instruction_at(programs, &run.places, lane) {
@@ -166,9 +167,9 @@ pub(crate) fn pass(plan: &Plan, programs: &[Program], run: &mut Progress, lane: 
 pub(crate) fn begin(plan: &Plan, programs: &[Program], run: &mut Progress, lane: u32) -> bool
     requires { IsRun plan.now programs.now run.old }
     ensures run { IsRun plan.now programs.now run.new }
-    ensures yes { OnTrue result (Steps plan.now programs.now (state_of run.old) (Move.Begin lane) (state_of run.new)) }
+    ensures yes { OnTrue result (Steps plan.now programs.now (state_of run.old) (Begin lane) (state_of run.new)) }
     ensures no { OnFalse result (run.new ≡ run.old) }
-    ensures impossible { OnFalse result ((state : State) → Steps plan.now programs.now (state_of run.old) (Move.Begin lane) state → ⊥) }
+    ensures impossible { OnFalse result ((state : State) → Steps plan.now programs.now (state_of run.old) (Begin lane) state → ⊥) }
 {
     members_are_those();
     programs_are_safe();
@@ -198,9 +199,9 @@ pub(crate) fn begin(plan: &Plan, programs: &[Program], run: &mut Progress, lane:
 pub(crate) fn end(plan: &Plan, programs: &[Program], run: &mut Progress, lane: u32) -> bool
     requires { IsRun plan.now programs.now run.old }
     ensures run { IsRun plan.now programs.now run.new }
-    ensures yes { OnTrue result (Steps plan.now programs.now (state_of run.old) (Move.End lane) (state_of run.new)) }
+    ensures yes { OnTrue result (Steps plan.now programs.now (state_of run.old) (End lane) (state_of run.new)) }
     ensures no { OnFalse result (run.new ≡ run.old) }
-    ensures impossible { OnFalse result ((state : State) → Steps plan.now programs.now (state_of run.old) (Move.End lane) state → ⊥) }
+    ensures impossible { OnFalse result ((state : State) → Steps plan.now programs.now (state_of run.old) (End lane) state → ⊥) }
 {
     groups_are_whole();
     members_are_those();

@@ -1,4 +1,4 @@
-use Rattle.std.proofs.Common.{◌<◌, ◌∙◌, ℕ, List, subst, sym, refl, arith, length-set, get_or-set_same, get_or-set_other, true, false}
+use Rattle.std.proofs.Common.{◌<◌, ◌∙◌, ℕ, List, length, subst, sym, refl, arith, length-set, get_or-set_same, get_or-set_other, set, true, false}
 use Rattle.pst_scen.specs.declared.rows.Rows.{Rows}
 use Rattle.pst_scen.specs.Rows.{Has}
 use Rattle.pst_book.specs.Tables.{AreLowered}
@@ -16,3 +16,22 @@ lower-requires-clause-some c =
     let size = c.must_rows-must.ensures.size in
     λ m l h. awaited_some c.args.plan.now c.args.awaited.now c.args.awaited.now c.args.taken.now c.args.taken.now c.args.act c.requires.act_in c.requires.owed c.requires.fresh m (omega (arith, l, size))
     (subst (λ (rows : Rows). Has rows c.args.act m) c.must_rows-must.ensures.is h)
+
+pub returns : goal.returns
+returns c =
+    let p = c.args.plan.now in
+    let act = c.args.act in
+    let size = c.must_rows-must.ensures.size in
+    let n = c.requires.owed.many_taken in
+    let a_in = c.requires.act_in in
+    let low : AreLowered p.must act c.args.awaited.now c.lower.new.counts = subst (λ (rows : Rows). AreLowered rows act c.args.awaited.now c.lower.new.counts) c.must_rows-must.ensures.is c.lower.ensures in
+    let here = get_or-set_same c.args.taken.now act true false (omega (arith, a_in, n)) in
+    record {
+      owed = owed_less p c.args.awaited.now c.lower.new.counts c.args.taken.now (set c.args.taken.now act true) act a_in c.requires.owed c.requires.fresh (length-set c.args.taken.now act true) here
+          (λ a k. get_or-set_other c.args.taken.now act a true false k) low;
+      hinted = hinted_on p c.args.awaited.now c.lower.new.counts c.args.taken.now (set c.args.taken.now act true) c.args.hints.now c.mark_blocks.new.marks act c.requires.owed.many_awaited c.requires.hinted
+          c.mark_blocks.auto.marks c.mark_blocks.ensures.kept
+          (λ m l h. c.mark_blocks.ensures.marked m (omega (arith, l, size)) (subst (λ (rows : Rows). Has rows act m) (sym c.must_rows-must.ensures.is) h)) low here (λ a k. get_or-set_other c.args.taken.now act a true false k);
+      here = here;
+      others = λ a k. get_or-set_other c.args.taken.now act a true false k;
+    }
