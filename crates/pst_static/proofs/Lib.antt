@@ -8,3 +8,4 @@ mod Signalled
 mod Moved
 mod Drafting
 mod Tied
+mod Beginning

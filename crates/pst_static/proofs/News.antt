@@ -1,6 +1,6 @@
 -- What an action awaits is written one by one, the least first.
-use Rattle.std.proofs.Common.{◌≡◌, ◌≢◌, ◌⊎◌, ℕ, zero, suc, ◌+◌, ◌<◌, ◌≤◌, List, [], ◌∷◌, ◌++◌, length, get_or, map, set, slice_get, Some, Bool, true, false, refl, sym, ap, ◌∙◌, subst, inl, inr, ⊎_elim, arith, append_assoc}
-use Rattle.std.specs.Prelude.{◌↔◌, Option, None, MatchOption, Contains}
+use Rattle.std.proofs.Common.{◌≡◌, ◌≢◌, ◌⊎◌, ℕ, zero, suc, ◌+◌, ◌-◌, ◌<◌, ◌≤◌, List, [], ◌∷◌, ◌++◌, length, get_or, map, set, slice_get, Some, Bool, true, false, refl, sym, ap, ◌∙◌, subst, inl, inr, ⊎_elim, arith, append_assoc}
+use Rattle.std.specs.Prelude.{◌↔◌, Option, None, MatchOption, Contains, sum_by}
 use Rattle.std.specs.Global.{Vec}
 use Rattle.std.proofs.lemmas.List.{get_or-set_same, get_or-set_other, length-set}
 use Rattle.std.proofs.lemmas.List.Sums.{sum_by-set}
@@ -15,7 +15,7 @@ use Rattle.pst_programs.specs.Lanes.{Dealt}
 use Rattle.pst_programs.specs.Programs.{Counts, AreAwaited}
 use Rattle.pst_programs.proofs.Places.{some_one}
 use Rattle.pst_programs.proofs.Written.{of_get}
-use Rattle.pst_static.specs.Awaiting.{IsDealtAt, IsHeard, AreHeard, IsNews, IsFirstNews, IsNewsWritten}
+use Rattle.pst_static.specs.Awaiting.{IsDealtAt, IsHeard, AreHeard, HavePlaces, IsNews, IsFirstNews, IsLeastOf, IsNewsWritten}
 
 map_push : (xs : List ℕ) (x : ℕ) → map Await (xs ++ x ∷ []) ≡ map Await xs ++ Await x ∷ []
 map_push [] x = refl
@@ -203,20 +203,55 @@ module _ (dealt : Dealt) (latest : List (Vec ℕ)) (heard : List ℕ) (a l : ℕ
   none_more m (Some w) none f =
       (f.0, λ o x b n. ⊎_elim (λ e. absurd (none x (subst (λ v. IsNews dealt latest heard a l v x) e n))) (λ q. f.1 o x (omega (arith, b, q)) n) (cases_eq o m))
 
-  -- and the first with news
-  pub first_more : (m x : ℕ) (found : Option (ℕ × ℕ)) → found ≡ None → IsNews dealt latest heard a l m x → IsFirstNews dealt latest heard a l m found → IsFirstNews dealt latest heard a l (m + 1) (Some (m, x))
-  first_more m x None is n f =
-      (n, λ o y b k. ⊎_elim (λ e. let q = one_news m x y n (subst (λ v. IsNews dealt latest heard a l v y) e k) in omega (arith, q)) (λ q. absurd (f o y (omega (arith, b, q)) k)) (cases_eq o m))
-  first_more m x (Some w) is n f = absurd cc
+  -- and with news
+  pub news_more : (m x : ℕ) (found result : Option (ℕ × ℕ)) → IsLeastOf found m x result → IsNews dealt latest heard a l m x → IsFirstNews dealt latest heard a l m found → IsFirstNews dealt latest heard a l (m + 1) result
+  news_more m x None result is n f =
+      subst (λ v. IsFirstNews dealt latest heard a l (m + 1) v) (sym is) (
+        n,
+        λ o y b k. ⊎_elim (λ e. let q = one_news m x y n (subst (λ v. IsNews dealt latest heard a l v y) e k) in omega (arith, q)) (λ q. absurd (f o y (omega (arith, b, q)) k)) (cases_eq o m),
+      )
+  news_more m x (Some w) result is n f = ⊎_elim (λ q. subst (λ v. IsFirstNews dealt latest heard a l (m + 1) v) (sym q.1) (less q.0)) (λ q. subst (λ v. IsFirstNews dealt latest heard a l (m + 1) v) (sym q.1) (more q.0)) is
+    where
+      less : x < w.1 → IsFirstNews dealt latest heard a l (m + 1) (Some (m, x))
+      less h = (
+        n,
+        λ q z b k. ⊎_elim (λ e. let s = one_news m x z n (subst (λ v. IsNews dealt latest heard a l v z) e k) in omega (arith, s))
+            (λ e. let s = f.1 q z (omega (arith, b, e)) k in omega (arith, s, h)) (cases_eq q m),
+      )
 
-  -- and another one, which is less than the least so far
-  pub less_more : (m x o y : ℕ) → x < y → IsNews dealt latest heard a l m x → IsFirstNews dealt latest heard a l m (Some (o, y)) → IsFirstNews dealt latest heard a l (m + 1) (Some (m, x))
-  less_more m x o y less n f =
-      (n, λ q z b k. ⊎_elim (λ e. let s = one_news m x z n (subst (λ v. IsNews dealt latest heard a l v z) e k) in omega (arith, s))
-      (λ e. let s = f.1 q z (omega (arith, b, e)) k in omega (arith, s, less)) (cases_eq q m))
+      more : w.1 ≤ x → IsFirstNews dealt latest heard a l (m + 1) (Some w)
+      more h = (
+        f.0,
+        λ q z b k. ⊎_elim (λ e. let s = one_news m x z n (subst (λ v. IsNews dealt latest heard a l v z) e k) in omega (arith, s, h))
+            (λ e. f.1 q z (omega (arith, b, e)) k) (cases_eq q m),
+      )
 
-  -- or isn't
-  pub least_more : (m x o y : ℕ) → y ≤ x → IsNews dealt latest heard a l m x → IsFirstNews dealt latest heard a l m (Some (o, y)) → IsFirstNews dealt latest heard a l (m + 1) (Some (o, y))
-  least_more m x o y less n f =
-      (f.0, λ q z b k. ⊎_elim (λ e. let s = one_news m x z n (subst (λ v. IsNews dealt latest heard a l v z) e k) in omega (arith, s, less))
-      (λ e. f.1 q z (omega (arith, b, e)) k) (cases_eq q m))
+  -- a place that isn't behind what is awaited
+  pub news_past : (m place : ℕ) → ((row : Vec ℕ) → slice_get latest m ≡ Some row → place ≡ get_or row.items a 0) → place ≤ get_or heard m 0 → (x : ℕ) → IsNews dealt latest heard a l m x → ⊥
+  news_past m place is past x n = let e = is n.row n.is_row in let h = n.later in omega (arith, e, h, past)
+
+  -- and one that is
+  pub news_here : (m place x : ℕ) → HavePlaces dealt latest a → m < length latest → m ≢ l → ((row : Vec ℕ) → slice_get latest m ≡ Some row → place ≡ get_or row.items a 0) → get_or heard m 0 < place
+      → ((y o : ℕ) → IsDealtAt dealt place y o → x ≡ y) → IsNews dealt latest heard a l m x
+  news_here m place x have m_in other is later one =
+      let row = get_some latest m m_in in
+      let e : place ≡ get_or row.0.items a 0 = is row.0 row.1 in
+      let at = have.is m row.0 row.1 (omega (arith, e, later)) in
+      let q : x ≡ at.0 = one at.0 m (subst (λ v. IsDealtAt dealt v at.0 m) (sym e) at.1) in
+      record {
+        other = other;
+        row = row.0;
+        is_row = row.1;
+        later = omega (arith, e, later);
+        at = subst (λ v. IsDealtAt dealt (get_or row.0.items a 0) v m) (sym q) at.1;
+      }
+    where
+      get_some : {X : Type 0} (xs : List X) (k : ℕ) → k < length xs → (x : X) × (slice_get xs k ≡ Some x)
+      get_some [] k l = absurd (omega (arith, l))
+      get_some (x ∷ xs) zero l = (x, refl)
+      get_some (x ∷ xs) (suc k) l = get_some xs k (omega (arith, l))
+
+-- ---- how far it is to the last place
+
+pub less_left : (n : ℕ) (heard : List ℕ) (m place : ℕ) → m < length heard → get_or heard m 0 < place → place ≤ n → sum_by (λ h. n - h) (set heard m place) < sum_by (λ h. n - h) heard
+less_left n heard m place l h within = let e = sum_by-set (λ h. n - h) heard m place 0 l in omega (arith, e, h, within)

@@ -6,7 +6,9 @@ use Rattle.pst_scen.specs.declared.rows.Rows.{Rows}
 use Rattle.pst_scen.specs.Rows.{Has}
 use Rattle.pst_book.specs.Parts.{AreChanged, AreWordChanged, IsMarked}
 use Rattle.pst_book.proofs.Parting.{Bits, AreWordsChanged}
-use Rattle.pst_static.specs.Stamps.{IsStamped}
+use Rattle.pst_scen.specs.Plan.{Entries}
+use Rattle.pst_book.proofs.Ties.{has_or}
+use Rattle.pst_static.specs.Stamps.{IsStamped, AreStamped, AreStampedByPlan}
 
 -- a relation that asks for a property goes over to one that asks for another which is as true
 stamped_map : (value : ℕ) (P Q : ℕ → Type 0) (m old new : ℕ) → (P m → Q m) → (Q m → P m) → IsStamped value P m old new → IsStamped value Q m old new
@@ -49,3 +51,14 @@ module _ (rows : Rows) (a value word place : ℕ) (bits : (m : ℕ) → m / 64 �
         (λ n. subst (λ x. IsStamped value (Has rows a) m (get_or old m 0) x) (sym (w.outside m n)) (c.done m l (omega (arith, k, n)))) (cases_eq (m / 64) place);
     rest = λ m l. w.outside m (λ e. omega (arith, e, l)) ∙ c.rest m (omega (arith, l));
   }
+
+-- both squares
+pub stamped_both : (p : Entries) (a value : ℕ) (old now new : List ℕ) → AreStamped p.must a value old now → AreStamped p.conflict a value now new → AreStampedByPlan p a value old new
+stamped_both p a value old now new first second =
+    let n = first.many in
+    record {
+      many = second.many ∙ first.many;
+      stamped = λ m l q. ⊎_elim (λ h. second.stamped m (omega (arith, l, n)) h)
+          (λ none. second.same m (omega (arith, l, n)) none ∙ first.stamped m l (⊎_elim (λ h. h) (λ h. absurd (none h)) q)) (has_or p.conflict a m);
+      same = λ m l none. second.same m (omega (arith, l, n)) (λ h. none (inr h)) ∙ first.same m l (λ h. none (inl h));
+    }

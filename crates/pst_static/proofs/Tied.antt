@@ -1,6 +1,6 @@
 -- What a run keeps over its moves.
 use Rattle.std.proofs.Common.{◌≡◌, ◌≢◌, ◌⊎◌, ◌↔◌, ℕ, zero, suc, ◌+◌, ◌*◌, ◌<◌, ◌≤◌, List, [], ◌∷◌, ◌++◌, length, get_or, set, slice_get, Some, Bool, true, false, refl, sym, ap, ◌∙◌, subst, inl, inr, ⊎_elim, arith, length-append, length-set, get_or-set_same, get_or-set_other}
-use Rattle.std.specs.Prelude.{Contains, IsTrue}
+use Rattle.std.specs.Prelude.{Contains, vec_capacity}
 use Rattle.std.proofs.lemmas.List.Elements.{Contains-append_left, Contains-push, Contains-push_cases}
 use Rattle.std.proofs.lemmas.Bool.{cases_Bool, cases_eq, cases_lt}
 use Rattle.pst_scen.specs.declared.scenario.Scenario.{Scenario}
@@ -25,7 +25,9 @@ use Rattle.pst_programs.proofs.Events.{started_cases, started_more, started_new,
 use Rattle.pst_programs.proofs.Places.{some_one, run_one, run_signal, run_await, signal_await, lane_in, many_first, many_moved, as_many, of_member}
 use Rattle.pst_programs.proofs.Kept.{Kept}
 use Rattle.pst_programs.proofs.Moves.{reached_kept}
-use Rattle.pst_static.specs.Views.{View, IsTied}
+use Rattle.pst_static.specs.declared.run.Progress.{Progress}
+use Rattle.pst_static.specs.Views.{IsTied}
+use Rattle.pst_static.specs.Runs.{state_of, IsRun}
 use Rattle.pst_static.specs.Standing.{CanJoin, AllCanJoin, HasBegun}
 use Rattle.pst_static.specs.Taking.{IsTaken}
 use Rattle.pst_static.proofs.Taken.{no_both}
@@ -107,8 +109,25 @@ reached_many p programs _ _ (machine.Then moves m old new reached step) = by_ste
     by_step _ _ (Begins lane a used at ats fresh) e = e
     by_step _ _ (Ends lane a at runs) e = many_moved old.places lane ∙ e
 
-module _ (p : Entries) (programs : List Program) (state : State) (next : List ℕ) (started told : List Bool) (room told_room : ℕ)
-    (t : IsTied (record { plan = p; programs = programs; state = state }) next started told room told_room) where
+module _ (p : Entries) (programs : List Program) (run : Progress) (t : IsRun p programs run) where
+  abbrev state : State
+  state = state_of run
+
+  abbrev next : List ℕ
+  next = run.next.items
+
+  abbrev started : List Bool
+  started = run.started.items
+
+  abbrev told : List Bool
+  told = run.told.items
+
+  abbrev room : ℕ
+  room = vec_capacity run.trace
+
+  abbrev told_room : ℕ
+  told_room = vec_capacity run.signals
+
   pub many : length state.places ≡ length programs
   many = reached_many p programs t.reached.0 state t.reached.1
 

@@ -46,6 +46,10 @@ IsFirstNews dealt latest heard a l bound found =
     MatchOption found ((m x : ℕ) → m < bound → IsNews dealt latest heard a l m x → ⊥)
     (λ w. IsNews dealt latest heard a l w.0 w.1 × ((m x : ℕ) → m < bound → IsNews dealt latest heard a l m x → w.1 ≤ x))
 
+-- the lesser of what was found so far, if anything was, and another action, with its lane
+abbrev pub IsLeastOf : Option (ℕ × ℕ) → ℕ → ℕ → Option (ℕ × ℕ) → Type 0
+IsLeastOf found m x result = MatchOption found (result ≡ Some (m, x)) (λ w. ((x < w.1) × (result ≡ Some (m, x))) ⊎ ((w.1 ≤ x) × (result ≡ Some w)))
+
 -- the actions that are news were written, ascending, and marked
 pub record IsNewsWritten (dealt : Dealt) (latest : List (Vec ℕ)) (heard : List ℕ) (a l : ℕ) (before after : List Instruction) (old new : List Bool) : Type 0 where
   pub written : List ℕ

@@ -3,9 +3,9 @@
 //! An action awaits what is news to its lane: of each other lane the latest action that it needs,
 //! where that was dealt behind all of that lane that is awaited so far. The least is written first,
 //! and then it is no news any more. Each time all lanes are looked at, of which there are 16 at most.
-ghost use Rattle.std.specs.Prelude.{◌≡◌, ◌+◌, ◌<◌, ◌≤◌, ℕ, length, get_or, Option, Some, slice_get, OnOk, MatchOption};
+ghost use Rattle.std.specs.Prelude.{◌≡◌, ◌⊎◌, ◌+◌, ◌<◌, ◌≤◌, ℕ, length, get_or, Some, slice_get, OnOk, MatchOption};
 ghost use Rattle.std.specs.Global.{Vec};
-ghost use Rattle.pst_static.specs.Awaiting.{AreOnce, HavePlaces, IsNews, IsFirstNews, IsNewsWritten, AreHeard};
+ghost use Rattle.pst_static.specs.Awaiting.{AreOnce, IsDealtAt, HavePlaces, IsNews, IsFirstNews, IsLeastOf, IsNewsWritten, AreHeard};
 
 use pst_base::NoMemory;
 use pst_programs::Instruction;
@@ -18,6 +18,15 @@ fn place_at(dealt: &[(u32, u32)], latest: &[Vec<u32>], lane: usize, act: u32) ->
     ensures within { result ≤ length dealt.now }
 {
     latest[lane][act as usize]
+}
+
+/// The action that was dealt at a place, counted from 1.
+fn action_at(dealt: &[(u32, u32)], place: u32) -> u32
+    requires some { 0 < place }
+    requires within { place ≤ length dealt.now }
+    ensures { (x m : ℕ) → IsDealtAt dealt.now place x m → result ≡ x }
+{
+    dealt[place as usize - 1].0
 }
 
 /// The action of the other lane that is news, if there is one.
@@ -38,11 +47,27 @@ fn news_at(
         return None;
     }
     let place = place_at(dealt, latest, other, act);
-    if place <= heard[other] {
+    let before = heard[other];
+    if place <= before {
         return None;
     }
-    let (action, _lane) = dealt[place as usize - 1];
-    Some(action)
+    Some(action_at(dealt, place))
+}
+
+/// The lesser of what was found so far, if anything was, and another action, with its lane.
+fn least_of(found: Option<(usize, u32)>, other: usize, action: u32) -> Option<(usize, u32)>
+    ensures { IsLeastOf found other action result }
+{
+    match found {
+        None => Some((other, action)),
+        Some((lane, least)) => {
+            if action < least {
+                Some((other, action))
+            } else {
+                Some((lane, least))
+            }
+        }
+    }
 }
 
 /// The least action that is news of the lanes up to the given one, and its lane, where that of the
@@ -62,16 +87,10 @@ fn with_news(
     requires so_far { IsFirstNews dealt.now latest.now heard.now act lane other found }
     ensures { IsFirstNews dealt.now latest.now heard.now act lane (other + 1) result }
 {
-    let Some(action) = news_at(dealt, latest, heard, act, lane, other) else {
-        return found;
-    };
-    let Some((_lane, least)) = found else {
-        return Some((other, action));
-    };
-    if action < least {
-        return Some((other, action));
+    match news_at(dealt, latest, heard, act, lane, other) {
+        None => found,
+        Some(action) => least_of(found, other, action),
     }
-    found
 }
 
 /// The least action that is news, and its lane.
@@ -97,7 +116,7 @@ fn next_news(
 pub(crate) fn write_awaits(
     dealt: &[(u32, u32)],
     latest: &[Vec<u32>],
-    heard: &mut [u32],
+    heard: &mut Vec<u32>,
     act: u32,
     lane: usize,
     told: &mut [bool],
@@ -105,17 +124,19 @@ pub(crate) fn write_awaits(
 ) -> Result<(), NoMemory>
     requires once { AreOnce dealt.now (length told.old) }
     requires places { HavePlaces dealt.now latest.now act }
-    requires heard { AreHeard (length latest.now) dealt.now draft.old.items heard.old }
-    ensures written { OnOk result (IsNewsWritten dealt.now latest.now heard.old act lane draft.old.items draft.new.items told.old told.new) }
-    ensures heard { OnOk result (AreHeard (length latest.now) dealt.now draft.new.items heard.new) }
+    requires heard { AreHeard (length latest.now) dealt.now draft.old.items heard.old.items }
+    ensures written { OnOk result (IsNewsWritten dealt.now latest.now heard.old.items act lane draft.old.items draft.new.items told.old told.new) }
+    ensures heard { OnOk result (AreHeard (length latest.now) dealt.now draft.new.items heard.new.items) }
 {
     'turns: loop {
-        let Some((other, action)) = next_news(dealt, latest, heard, act, lane) else {
-            return Ok(());
-        };
-        let place = place_at(dealt, latest, other, act);
-        draft.push(Instruction::Await { action })?;
-        told[action as usize] = true;
-        heard[other] = place;
+        match next_news(dealt, latest, heard, act, lane) {
+            None => return Ok(()),
+            Some((other, action)) => {
+                let place = place_at(dealt, latest, other, act);
+                draft.push(Instruction::Await { action })?;
+                told[action as usize] = true;
+                heard[other] = place;
+            }
+        }
     }
 }

@@ -71,8 +71,8 @@ fn draft_one(
     groups_are_whole();
     members_are_those();
     whole_is_sound();
-    let (action, to) = dealt[at];
-    let lane = to as usize;
+    let action = dealt[at].0;
+    let lane = dealt[at].1 as usize;
     write_awaits(
         dealt,
         latest,

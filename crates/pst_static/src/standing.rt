@@ -6,7 +6,7 @@ ghost use Rattle.pst_programs.specs.declared.program.Instruction.TheVariants.{Ru
 ghost use Rattle.pst_programs.specs.declared.program.Instruction.{Instruction};
 ghost use Rattle.pst_programs.specs.Machine.{IsAt};
 ghost use Rattle.pst_static.specs.Taking.{IsTaken};
-ghost use Rattle.pst_static.specs.Standing.{AllCanJoin, HasBegun};
+ghost use Rattle.pst_static.specs.Standing.{AllCanJoin, CanJoin, HasBegun};
 
 use pst_programs::{Instruction, Program};
 use pst_scen::{Event, Plan};
@@ -34,18 +34,57 @@ pub(crate) fn instruction_at(
     }
 }
 
-/// The lane that stands at the action's `Run`.
+/// Whether the lane stands at the action's `Run`.
+fn is_at_run(programs: &[Program], places: &[usize], lane: u32, act: u32) -> bool
+    requires { length places.now ≡ length programs.now }
+    ensures { IsTrue result ↔ IsAt programs.now places.now lane (Run act) }
+{
+    match instruction_at(programs, places, lane) {
+        Some(Instruction::Run { action }) => action == act,
+        Some(Instruction::Signal { .. }) => false,
+        Some(Instruction::Await { .. }) => false,
+        None => false,
+    }
+}
+
+/// The lane that stands at the action's `Run`, if there is one.
 fn lane_at(programs: &[Program], places: &[usize], act: u32) -> Option<u32>
     requires many { length places.now ≡ length programs.now }
     requires few { length programs.now ≤ 16 }
     ensures { MatchOption result ((l : ℕ) → IsAt programs.now places.now l (Run act) → ⊥) (λ l. IsAt programs.now places.now l (Run act)) }
 {
     for lane in 0..programs.len() as u32 {
-        if instruction_at(programs, places, lane) == Some(Instruction::Run { action: act }) {
+        if is_at_run(programs, places, lane, act) {
             return Some(lane);
         }
     }
     None
+}
+
+/// The lane that stands at the action's `Run`, which there is.
+fn lane_of(programs: &[Program], places: &[usize], act: u32) -> u32
+    requires many { length places.now ≡ length programs.now }
+    requires few { length programs.now ≤ 16 }
+    requires there { (l : ℕ) × IsAt programs.now places.now l (Run act) }
+    ensures { IsAt programs.now places.now result (Run act) }
+{
+    match lane_at(programs, places, act) {
+        Some(lane) => lane,
+        None => 0,
+    }
+}
+
+/// Whether a lane stands at the action's `Run`, and the action hasn't started.
+fn can_join(programs: &[Program], places: &[usize], started: &[bool], act: u32) -> bool
+    requires many { length places.now ≡ length programs.now }
+    requires few { length programs.now ≤ 16 }
+    requires act_in { act < length started.now }
+    ensures { IsTrue result ↔ CanJoin programs.now places.now started.now act }
+{
+    if started[act as usize] {
+        return false;
+    }
+    lane_at(programs, places, act).is_some()
 }
 
 /// Whether the lane of each member of the group stands at its `Run`, and none has started.
@@ -68,10 +107,7 @@ pub(crate) fn can_begin(
     let count = plan.len();
     let mut act = group;
     'members: while act < count {
-        if started[act as usize] {
-            return false;
-        }
-        if lane_at(programs, places, act).is_none() {
+        if !can_join(programs, places, started, act) {
             return false;
         }
         act = next[act as usize];
@@ -116,17 +152,9 @@ pub(crate) fn start_members(
     let mut act = group;
     'members: while act < count {
         let following = next[act as usize];
-        match lane_at(programs, places, act) {
-            Some(lane) => note(
-                trace,
-                Event::Start {
-                    act,
-                    lane,
-                    more: following < count,
-                },
-            ),
-            None => {}
-        }
+        let lane = lane_of(programs, places, act);
+        let more = following < count;
+        note(trace, Event::Start { act, lane, more });
         started[act as usize] = true;
         act = following;
     }
