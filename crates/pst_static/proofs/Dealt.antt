@@ -1,5 +1,5 @@
 -- Members that get lanes one after another.
-use Rattle.std.proofs.Common.{◌≡◌, ◌≢◌, ◌⊎◌, ℕ, zero, suc, ◌+◌, ◌<◌, ◌≤◌, List, [], ◌∷◌, ◌++◌, length, get_or, drop, Bool, true, false, refl, sym, ap, ap₂, ◌∙◌, subst, inl, inr, ⊎_elim, arith, length-append, append_assoc}
+use Rattle.std.proofs.Common.{◌≡◌, ◌≢◌, ◌⊎◌, ℕ, zero, suc, ◌+◌, ◌<◌, ◌≤◌, List, [], ◌∷◌, ◌++◌, length, get_or, drop, take, Bool, true, false, refl, sym, ap, ap₂, ◌∙◌, subst, inl, inr, ⊎_elim, arith, length-append, append_assoc}
 use Rattle.std.specs.Prelude.{◌↔◌, Contains, nat_eq, cond, zip, max, count_by}
 use Rattle.std.proofs.lemmas.List.{get_or-set_same, get_or-set_other, length-set, get_or-replicate}
 use Rattle.std.proofs.lemmas.List.Sums.{sum_by_push, count_by-le-length}
@@ -298,3 +298,11 @@ deals_more p lanes _ _ _ after group (Done dealt) d =
     Then dealt after group [] d.used d.fewest (subst (λ v. Deals p lanes v [] after) d.new_is (Done after))
 deals_more p lanes _ _ _ after group (Then dealt now other more used fewest deals) d =
     Then dealt after other (more ++ group ∷ []) used fewest (deals_more p lanes _ more now after group deals d)
+
+pub take_next : (xs : List ℕ) (k : ℕ) → k < length xs → take (k + 1) xs ≡ take k xs ++ get_or xs k 0 ∷ []
+take_next xs k l = let s : k + 1 ≡ suc k = omega arith in ap (λ i. take i xs) s ∙ taken xs k l
+  where
+    taken : (xs : List ℕ) (k : ℕ) → k < length xs → take (suc k) xs ≡ take k xs ++ get_or xs k 0 ∷ []
+    taken [] k l = absurd (omega (arith, l))
+    taken (y ∷ xs) zero l = refl
+    taken (y ∷ xs) (suc k) l = ap (λ v. y ∷ v) (taken xs k (omega (arith, l)))

@@ -1,11 +1,12 @@
 -- Groups that are taken one after another.
-use Rattle.std.proofs.Common.{◌≡◌, ◌≢◌, ℕ, zero, suc, ◌+◌, ◌/◌, ◌<◌, ◌≤◌, List, [], ◌∷◌, ◌++◌, length, get_or, set, take, take_all, length-set, get_or-set_same, get_or-set_other, Bool, true, false, refl, sym, ap, ◌∙◌, subst, inl, inr, ⊎_elim, arith, length-append}
+use Rattle.std.proofs.Common.{◌≡◌, ◌≢◌, ◌⊎◌, ℕ, zero, suc, ◌+◌, ◌/◌, ◌<◌, ◌≤◌, List, [], ◌∷◌, ◌++◌, length, get_or, set, replicate, take, take_all, length-set, get_or-set_same, get_or-set_other, Bool, true, false, refl, sym, ap, ◌∙◌, subst, inl, inr, ⊎_elim, arith, length-append}
 use Rattle.std.specs.Prelude.{◌↔◌, Contains}
 use Rattle.std.proofs.lemmas.List.Elements.{Contains-append_left, Contains-push, Contains-push_cases}
+use Rattle.std.proofs.lemmas.List.{get_or-replicate, length-replicate}
 use Rattle.std.proofs.lemmas.Bool.{cases_Bool, cases_eq, cases_lt}
 use Rattle.pst_scen.specs.declared.scenario.Scenario.{Scenario}
 use Rattle.pst_scen.specs.Order.{Must, Together}
-use Rattle.pst_scen.specs.Rows.{Has}
+use Rattle.pst_scen.specs.Rows.{Has, row_words}
 use Rattle.pst_scen.specs.Plan.{Entries}
 use Rattle.pst_scen.specs.Plans.{IsPlanOf}
 use Rattle.pst_order.specs.Laws.{MustKeepsGroups}
@@ -58,6 +59,14 @@ module _ (p : Entries) (awaited lowered : List ℕ) (taken new : List Bool) (act
           (the_same {P = IsOwed p taken a} {Q = IsOwed p new a} (λ b q. (q.0, q.1, others b (λ e. n (subst (λ v. Has p.must v a) e q.1)) ∙ q.2)) (λ b q. (left a b q).0) (owed.each a l))
 
 -- ---- marks of blocks
+
+-- at first all blocks are marked
+pub hinted_first : (p : Entries) (awaited : List ℕ) (taken hints : List Bool) (count : ℕ) → count ≡ length p.groups → hints ≡ replicate (row_words count) true → AreHinted p awaited taken hints
+hinted_first p awaited taken hints count n e =
+    record {
+      many = ap (λ (v : List Bool). length v) e ∙ length-replicate (row_words count) true ∙ ap row_words n;
+      marked = λ g l can. ap (λ (v : List Bool). get_or v (g / 64) false) e ∙ get_or-replicate (row_words count) (g / 64) true false (omega (arith, l, n));
+    }
 
 -- an action's row marks the blocks of all that no longer wait for it
 pub hinted_on : (p : Entries) (awaited lowered : List ℕ) (taken new hints marked : List Bool) (act : ℕ) → length awaited ≡ length p.groups → AreHinted p awaited taken hints

@@ -2,7 +2,7 @@
 //!
 //! Along the serial order the members of each group, ascending, get the lanes with the fewest actions
 //! so far, ascending by that number and then by lane.
-ghost use Rattle.std.specs.Prelude.{◌≡◌, ◌+◌, ◌≤◌, ◌<◌, ℕ, length, get_or, [], IfOk, OnOk, IsTrue, ◌↔◌, ◌⊎◌, false};
+ghost use Rattle.std.specs.Prelude.{◌≡◌, ◌↔◌, ◌⊎◌, ◌+◌, ◌^◌, ◌≤◌, ◌<◌, ℕ, length, get_or, slice_set, [], IfOk, OnOk, IsTrue, true, false};
 ghost use Rattle.pst_scen.specs.Plan.{widest, members};
 ghost use Rattle.pst_book.specs.Tables.{AreNext};
 ghost use Rattle.pst_programs.specs.Serial.{IsSerial};
@@ -69,6 +69,18 @@ fn clear(used: &mut [bool])
     }
 }
 
+/// Gives a lane one action more.
+fn lend(loads: &mut [usize], used: &mut [bool], lane: usize)
+    requires lane_in { lane < length used.old }
+    requires many { length loads.old ≡ length used.old }
+    requires room { get_or loads.old lane 0 + 1 < 2 ^ 64 }
+    ensures loads { loads.new ≡ slice_set loads.old lane (get_or loads.old lane 0 + 1) }
+    ensures used { used.new ≡ slice_set used.old lane true }
+{
+    loads[lane] += 1;
+    used[lane] = true;
+}
+
 /// Deals out the members of the group of that number.
 fn deal_group(
     plan: &Plan,
@@ -94,8 +106,7 @@ fn deal_group(
     'members: while act < count {
         let lane = first_free(loads, used);
         dealt.push((act, lane as u32))?;
-        loads[lane] += 1;
-        used[lane] = true;
+        lend(loads, used, lane);
         act = next[act as usize];
     }
     Ok(())

@@ -1,10 +1,11 @@
-use Rattle.std.proofs.Common.{◌<◌, ◌+◌, ◌-◌, ◌≡◌, ◌∷◌, [], ◌++◌, ℕ, List, length, ap, ◌∙◌, length-append, arith}
-use Rattle.pst_static.proofs.Taken.{follows_first, members_fresh, fewer, follows_on, follows_last}
+use Rattle.std.proofs.Common.{◌<◌, ◌+◌, ◌-◌, ◌≡◌, ◌∷◌, [], ◌++◌, ℕ, List, length, ap, sym, subst, ◌∙◌, length-append, arith}
+use Rattle.pst_static.proofs.Taken.{Follows, follows_first, members_fresh, fewer, follows_on, follows_last}
 use Rattle.pst_static.proofs.order.take_all.Goals as goal
 
 pub groups-init : goal.groups-init
 groups-init c = record {
-  follows = follows_first c.args.plan.now c.args.awaited.now c.args.taken.now c.requires.owed c.requires.none;
+  follows = subst (λ (v : List ℕ). Follows c.args.plan.now v c.args.awaited.now c.args.taken.now) (sym c.new-order.ensures.items)
+      (follows_first c.args.plan.now c.args.awaited.now c.args.taken.now c.requires.owed c.requires.none);
   hinted = c.first_group-group.ensures.hinted;
   first = c.first_group-group.ensures.first;
 }
