@@ -1,6 +1,6 @@
 -- Members that get lanes one after another.
 use Rattle.std.proofs.Common.{◌≡◌, ◌≢◌, ◌⊎◌, ℕ, zero, suc, ◌+◌, ◌<◌, ◌≤◌, List, [], ◌∷◌, ◌++◌, length, get_or, drop, take, Bool, true, false, refl, sym, ap, ap₂, ◌∙◌, subst, inl, inr, ⊎_elim, arith, length-append, append_assoc}
-use Rattle.std.specs.Prelude.{◌↔◌, Contains, nat_eq, cond, zip, max, count_by}
+use Rattle.std.specs.Prelude.{◌↔◌, Contains, nat_eq, if◌then◌else◌, cond, zip, max, count_by}
 use Rattle.std.proofs.lemmas.List.{get_or-set_same, get_or-set_other, length-set, get_or-replicate}
 use Rattle.std.proofs.lemmas.List.Sums.{sum_by_push, count_by-le-length}
 use Rattle.std.proofs.lemmas.List.Recursion.{is_count_by}
@@ -241,7 +241,7 @@ module _ (p : Entries) (lanes group act : ℕ) (old now : Dealt) (loads : List �
                 ⊎_elim (λ k. Contains-append_left sh.lent (lane ∷ []) l (sh.fewest.fewest l m h k b))
                 (λ e. let q = subst (λ v. ComesBefore old l v) (sym e) b in
                 ⊎_elim (λ k. Contains-append_left sh.lent (lane ∷ []) l k)
-                (λ n. ⊎_elim (λ s. absurd (comes_never old l lane q (subst (λ v. ComesBefore old v l) s q)))
+                (λ n. ⊎_elim (λ s. let r = subst (λ v. ComesBefore old l v) (sym s) q in absurd (comes_never old l l r r))
                 (λ s. absurd (comes_never old l lane q (later l h s n))) (cases_eq l lane))
                 (contains_or sh.lent l))
                 (Contains-push_cases sh.lent lane m c);
@@ -299,10 +299,10 @@ deals_more p lanes _ _ _ after group (Done dealt) d =
 deals_more p lanes _ _ _ after group (Then dealt now other more used fewest deals) d =
     Then dealt after other (more ++ group ∷ []) used fewest (deals_more p lanes _ more now after group deals d)
 
-pub take_next : (xs : List ℕ) (k : ℕ) → k < length xs → take (k + 1) xs ≡ take k xs ++ get_or xs k 0 ∷ []
-take_next xs k l = let s : k + 1 ≡ suc k = omega arith in ap (λ i. take i xs) s ∙ taken xs k l
+pub take_next : {X : Type 0} (xs : List X) (k : ℕ) (d : X) → k < length xs → take (k + 1) xs ≡ take k xs ++ get_or xs k d ∷ []
+take_next {X = X} xs k d l = let s : k + 1 ≡ suc k = omega arith in ap (λ i. take i xs) s ∙ taken xs k l
   where
-    taken : (xs : List ℕ) (k : ℕ) → k < length xs → take (suc k) xs ≡ take k xs ++ get_or xs k 0 ∷ []
+    taken : (xs : List X) (k : ℕ) → k < length xs → take (suc k) xs ≡ take k xs ++ get_or xs k d ∷ []
     taken [] k l = absurd (omega (arith, l))
     taken (y ∷ xs) zero l = refl
     taken (y ∷ xs) (suc k) l = ap (λ v. y ∷ v) (taken xs k (omega (arith, l)))

@@ -10,13 +10,16 @@ use Rattle.pst_scen.specs.Rows.{Has}
 use Rattle.pst_scen.specs.Plan.{Entries}
 use Rattle.pst_scen.specs.Plans.{IsPlanOf}
 use Rattle.pst_order.specs.Laws.{WholeHasNoClash, MembersAreThose, PlanGroupsAreWhole}
-use Rattle.pst_book.proofs.Elements.{none_in, cons_cases, cons_first}
+use Rattle.pst_book.specs.Tables.{AreSoManyOf}
+use Rattle.pst_book.proofs.Numbers.{at_most_bound}
+use Rattle.pst_book.proofs.Elements.{none_in, cons_cases, cons_first, cons_rest}
 use Rattle.pst_book.proofs.Ties.{has_or}
 use Rattle.pst_programs.specs.declared.program.Instruction.{Instruction}
 use Rattle.pst_programs.specs.declared.program.Instruction.TheVariants.{Run, Await}
 use Rattle.pst_programs.specs.Serial.{group_of, IsSerial}
 use Rattle.pst_programs.specs.Lanes.{Dealt, on_lane, Deals}
-use Rattle.pst_programs.specs.Programs.{Counts, AreAwaited}
+use Rattle.pst_programs.specs.declared.program.Program.{Program}
+use Rattle.pst_programs.specs.Programs.{program_at, Counts, AreAwaited}
 use Rattle.pst_programs.proofs.Places.{some_one, run_await}
 use Rattle.pst_programs.proofs.Ranks.{index_of, rank, lesser}
 use Rattle.pst_programs.proofs.Dealing.{Rising, IsDealt, whole_dealt, on_more}
@@ -81,6 +84,48 @@ once p lanes order serial dealt f =
           (λ h. let r = lane_rises (rank p order serial) dealt m (f.along m) x x c.0 b.0 c.2 b.2 h in absurd (omega (arith, r))) o)
           (cases_order b.0 c.0);
     }
+
+-- and no more were dealt than there are
+pub dealt_few : (dealt : Dealt) (n : ℕ) → AreOnce dealt n → length dealt ≤ n
+dealt_few dealt n o = let b = at_most_bound {P = λ x. Contains (acts dealt) x} n (λ x c. let w = of_acts dealt x c in o.inside x w.0 w.1) many in let e = many_acts dealt in omega (arith, b, e)
+  where
+    acts : Dealt → List ℕ
+    acts [] = []
+    acts (d ∷ more) = d.0 ∷ acts more
+
+    many_acts : (dealt : Dealt) → length (acts dealt) ≡ length dealt
+    unfolding acts
+    many_acts [] = refl
+    many_acts (d ∷ more) = ap suc (many_acts more)
+
+    of_acts : (dealt : Dealt) (x : ℕ) → Contains (acts dealt) x → (m : ℕ) × Contains dealt (x, m)
+    unfolding acts
+    of_acts [] x c = absurd (none_in x c)
+    of_acts (d ∷ more) x c =
+        ⊎_elim (λ e. (d.1, subst (λ v. Contains (d ∷ more) (v, d.1)) e (cons_first d more))) (λ k. let w = of_acts more x k in (w.0, cons_rest d (x, w.0) more w.1)) (cons_cases d.0 x (acts more) c)
+
+    act_at : (dealt : Dealt) (i : ℕ) → i < length dealt → (m : ℕ) × (slice_get dealt i ≡ Some (get_or (acts dealt) i 0, m))
+    unfolding acts
+    act_at [] i l = absurd (omega (arith, l))
+    act_at (d ∷ more) zero l = (d.1, refl)
+    act_at (d ∷ more) (suc i) l = act_at more i (omega (arith, l))
+
+    many : AreSoManyOf (λ x. Contains (acts dealt) x) (length (acts dealt))
+    many =
+        record {
+          list = acts dealt;
+          different = λ i j l m e.
+              let n = many_acts dealt in
+              let b = act_at dealt i (omega (arith, l, m, n)) in
+              let c = act_at dealt j (omega (arith, m, n)) in
+              let x = get_or (acts dealt) i 0 in
+              let c' : slice_get dealt j ≡ Some (x, c.0) = subst (λ v. slice_get dealt j ≡ Some (v, c.0)) (sym e) c.1 in
+              let same : b.0 ≡ c.0 = o.only x b.0 c.0 (of_get dealt i (x, b.0) b.1) (of_get dealt j (x, c.0) c') in
+              let q = o.once x b.0 (suc i) (suc j) (i, refl, b.1) (j, refl, subst (λ v. slice_get dealt j ≡ Some (x, v)) (sym same) c') in
+              absurd (omega (arith, q, l));
+          are = λ x. ((λ c. c), (λ c. c));
+          many = refl;
+        }
 
 -- ---- lists
 
@@ -385,10 +430,10 @@ module _ (s : Scenario) (p : Entries) (plan : IsPlanOf s p) (clash : WholeHasNoC
         order = d.order;
         serial = d.serial;
         deals = d.deals;
-        are = drafts_more p lanes d.order d.serial dealt known a l at is latest drafts new old_told told d.latest_are d.are row draft is_draft row_is awaited.items written changed;
+        are = drafts_more p lanes d.order d.serial dealt known a l at is latest heard (set heard l new_row) drafts new old_told told d.latest_are d.are row is_row draft is_draft row_is awaited.items written changed;
         latest_are = latest_more p lanes d.order d.serial dealt known a l at is latest new_latest d.latest_are stamped;
         many_heard = length-set heard l new_row ∙ d.many_heard;
-        heard_are = heard_more p lanes d.order d.serial dealt known a l at is heard (set heard l new_row) drafts new row is_row draft is_draft awaited.items changed d.heard_are
+        heard_are = heard_more p lanes d.order d.serial dealt known a l at is latest heard (set heard l new_row) drafts new old_told told d.latest_are d.are row is_row draft is_draft row_is awaited.items written changed d.heard_are
             (changed_at (λ (x y : Vec ℕ). AreHeard lanes dealt awaited.items y.items) heard l row new_row (let h = d.many_heard in let low = lane_in in omega (arith, h, low)) is_row new_row_is);
       }
     where
@@ -447,3 +492,17 @@ pub drafted_all : (p : Entries) (lanes : ℕ) (dealt : Dealt) (at : ℕ) (latest
     → IsDrafting p lanes dealt at latest heard drafts told → IsDrafted p lanes dealt drafts told
 drafted_all p lanes dealt at latest heard drafts told past d =
     record { order = d.order; serial = d.serial; deals = d.deals; are = subst (λ v. AreDrafts p d.order dealt lanes v drafts told) (take_all at dealt past) d.are }
+
+-- ---- programs one after another
+
+pub program_before : (programs : List Program) (program : Program) (m : ℕ) → m < length programs → program_at (programs ++ program ∷ []) m ≡ program_at programs m
+program_before [] program m l = absurd (omega (arith, l))
+program_before (x ∷ programs) program zero l = refl
+program_before (x ∷ programs) program (suc m) l = program_before programs program m (omega (arith, l))
+
+pub program_last : (programs : List Program) (program : Program) (m : ℕ) → m ≡ length programs → program_at (programs ++ program ∷ []) m ≡ program.steps
+program_last programs program m e = ap (λ v. program_at (programs ++ program ∷ []) v) e ∙ at_last programs
+  where
+    at_last : (programs : List Program) → program_at (programs ++ program ∷ []) (length programs) ≡ program.steps
+    at_last [] = refl
+    at_last (x ∷ programs) = at_last programs

@@ -1,14 +1,18 @@
 -- What a run keeps over its moves.
-use Rattle.std.proofs.Common.{◌≡◌, ◌≢◌, ◌⊎◌, ◌↔◌, ℕ, zero, suc, ◌+◌, ◌*◌, ◌<◌, ◌≤◌, List, [], ◌∷◌, ◌++◌, length, get_or, set, slice_get, Some, Bool, true, false, refl, sym, ap, ◌∙◌, subst, inl, inr, ⊎_elim, arith, length-append, length-set, get_or-set_same, get_or-set_other}
+use Rattle.std.proofs.Common.{◌≡◌, ◌≢◌, ◌⊎◌, ◌↔◌, ℕ, zero, suc, ◌+◌, ◌*◌, ◌<◌, ◌≤◌, List, [], ◌∷◌, ◌++◌, length, get_or, replicate, set, slice_get, Some, Bool, true, false, refl, sym, ap, ◌∙◌, subst, inl, inr, ⊎_elim, arith, length-append, length-set, get_or-set_same, get_or-set_other}
 use Rattle.std.specs.Prelude.{Contains, vec_capacity}
 use Rattle.std.proofs.lemmas.List.Elements.{Contains-append_left, Contains-push, Contains-push_cases}
+use Rattle.std.proofs.lemmas.List.{get_or-replicate, length-replicate}
 use Rattle.std.proofs.lemmas.Bool.{cases_Bool, cases_eq, cases_lt}
 use Rattle.pst_scen.specs.declared.scenario.Scenario.{Scenario}
 use Rattle.pst_scen.specs.declared.event.Event.{Event}
 use Rattle.pst_scen.specs.declared.event.Event.TheVariants as event
 use Rattle.pst_scen.specs.Trace.{Started, Ended, Runs, starts_of}
-use Rattle.pst_scen.specs.Plan.{Entries, members}
+use Rattle.pst_scen.specs.Plan.{Entries, members, widest}
 use Rattle.pst_scen.specs.Plans.{IsPlanOf}
+use Rattle.pst_order.specs.Facts.{LinksStates}
+use Rattle.pst_book.specs.Tables.{AreNext}
+use Rattle.pst_programs.specs.Programs.{ArePrograms}
 use Rattle.pst_order.specs.Laws.{WholeHasNoClash, MustIsInside, MembersAreThose, PlanGroupsAreWhole, PrefixIsByRule, RuleFits}
 use Rattle.pst_book.proofs.Elements.{none_in, cons_cases, cons_first, cons_rest}
 use Rattle.pst_programs.specs.declared.program.Instruction.{Instruction}
@@ -336,3 +340,35 @@ module _ (p : Entries) (programs : List Program) (run : Progress) (t : IsRun p p
           let k = length_starts ms u.0 in
           let e = as_many programs state.places ms u.0 u.1 in
           omega (arith, f, n, k, e)
+
+-- ---- at first
+
+pub run_first : (p : Entries) (programs : List Program) (run : Progress) → ((s : Scenario) × LinksStates s × IsPlanOf s p) → ArePrograms p (length programs) programs → length programs ≤ 16 → widest p.groups ≤ length programs
+    → AreNext p.groups run.next.items → run.places.items ≡ replicate (length programs) 0 → run.signals.items ≡ [] → run.trace.items ≡ []
+    → run.told.items ≡ replicate (length p.groups) false → run.started.items ≡ replicate (length p.groups) false → 2 * length p.groups ≤ vec_capacity run.trace → length p.groups ≤ vec_capacity run.signals → IsRun p programs run
+run_first p programs run planned are few wide next_is places signals trace told started room told_room =
+    record {
+      planned = planned;
+      are = are;
+      few = few;
+      wide = wide;
+      reached = (
+        [],
+        subst (λ v. Reaches p programs [] (record { places = v; signals = run.signals.items; trace = run.trace.items })) (sym places)
+        (subst (λ v. Reaches p programs [] (record { places = replicate (length programs) 0; signals = v; trace = run.trace.items })) (sym signals)
+        (subst (λ v. Reaches p programs [] (record { places = replicate (length programs) 0; signals = []; trace = v })) (sym trace) machine.First)),
+      );
+      next_is = next_is;
+      many_started = ap (λ (v : List Bool). length v) started ∙ length-replicate (length p.groups) false;
+      many_told = ap (λ (v : List Bool). length v) told ∙ length-replicate (length p.groups) false;
+      started_is = λ a l. (
+        (λ t. absurd (no_both t (ap (λ (v : List Bool). get_or v a false) started ∙ get_or-replicate (length p.groups) a false false l))),
+        (λ h. absurd (none_in (event.Start a h.0 h.1.0) (subst (λ v. Contains v (event.Start a h.0 h.1.0)) trace h.1.1))),
+      );
+      told_is = λ a l. (
+        (λ t. absurd (no_both t (ap (λ (v : List Bool). get_or v a false) told ∙ get_or-replicate (length p.groups) a false false l))),
+        (λ c. absurd (none_in a (subst (λ v. Contains v a) signals c))),
+      );
+      has_room = room;
+      has_told_room = told_room;
+    }

@@ -71,6 +71,7 @@ fn draft_one(
     groups_are_whole();
     members_are_those();
     whole_is_sound();
+    let _count = plan.len();
     let action = dealt[at].0;
     let lane = dealt[at].1 as usize;
     write_awaits(

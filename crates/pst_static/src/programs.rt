@@ -69,7 +69,8 @@ fn programs_of(
     whole_is_sound();
     let mut programs = Vec::with_capacity(alloc, drafts.len())?;
     for lane in 0..drafts.len() {
-        programs.push(program_of(alloc, &drafts[lane], told)?)?;
+        let program = program_of(alloc, &drafts[lane], told)?;
+        programs.push(program)?;
     }
     Ok(programs)
 }

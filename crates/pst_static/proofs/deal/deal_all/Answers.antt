@@ -1,5 +1,6 @@
-use Rattle.std.proofs.Common.{◌≡◌, ◌+◌, ◌<◌, ◌≤◌, ◌∙◌, ◌∷◌, ◌++◌, [], ℕ, List, length, get_or, take, refl, ap, subst, sym, arith}
+use Rattle.std.proofs.Common.{◌≡◌, ◌+◌, ◌<◌, ◌≤◌, ◌∙◌, ◌∷◌, ◌++◌, [], ℕ, List, length, get_or, take, take_all, refl, ap, subst, sym, arith}
 use Rattle.pst_programs.specs.Lanes.{Dealt, Deals, Done}
+use Rattle.pst_static.specs.Loads.{AreLoads, IsDealtOut}
 use Rattle.pst_static.proofs.Dealt.{group_fits, deals_more, take_next}
 use Rattle.pst_static.proofs.deal.deal_all.Goals as goal
 
@@ -27,10 +28,21 @@ deal_group-requires-clause-wide c =
     omega (arith, m, w)
 
 pub deal_group-requires-clause-loads : goal.deal_group-requires-clause-loads
-deal_group-requires-clause-loads c = ?
+deal_group-requires-clause-loads c = subst (λ k. AreLoads k c.loop-place.dealt.items c.loop-place.loads) (sym c.loop-place.invariant.many) c.loop-place.invariant.loads
 
 pub loop-place-preserved : goal.loop-place-preserved
-loop-place-preserved c = ?
+loop-place-preserved c =
+    let i = c.loop-place.invariant in
+    let order = c.args.order.now in
+    let place = c.loop-place.place in
+    let out = subst (λ k. IsDealtOut c.args.plan.now k (get_or order place 0) c.loop-place.dealt.items c.deal_group.new.dealt.items) i.many c.in_ok-deal_group.ensures.dealt in
+    record {
+      many = c.in_ok-deal_group.ensures.many ∙ i.many;
+      loads = subst (λ k. AreLoads k c.deal_group.new.dealt.items c.deal_group.new.loads) i.many c.in_ok-deal_group.ensures.loads;
+      deals = subst (λ v. Deals c.args.plan.now (length c.args.used.now) [] v c.deal_group.new.dealt.items) (sym (take_next order place 0 c.loop-place-test.true))
+          (deals_more c.args.plan.now (length c.args.used.now) [] (take place order) c.loop-place.dealt.items c.deal_group.new.dealt.items (get_or order place 0) i.deals out);
+    }
 
 pub returns : goal.returns
-returns c = ?
+returns c =
+    subst (λ v. Deals c.args.plan.now (length c.args.used.now) [] v c.loop-place.dealt.items) (take_all c.loop-place.place c.args.order.now c.loop-place-test.false) c.loop-place.invariant.deals

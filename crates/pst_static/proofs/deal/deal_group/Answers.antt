@@ -11,7 +11,7 @@ members-init c = record {
 }
 
 pub first_free-lane-requires : goal.first_free-lane-requires
-first_free-lane-requires c = let s = c.members.invariant.sharing in s.loads_are.many ∙ sym s.many_used
+first_free-lane-requires c = let s = c.members.invariant.sharing in record { many = s.loads_are.many ∙ sym s.many_used }
 
 pub lend-requires-clause-lane_in : goal.lend-requires-clause-lane_in
 lend-requires-clause-lane_in c =
@@ -31,7 +31,24 @@ pub lend-requires-clause-many : goal.lend-requires-clause-many
 lend-requires-clause-many c = let s = c.members.invariant.sharing in s.loads_are.many ∙ sym s.many_used
 
 pub lend-requires-clause-room : goal.lend-requires-clause-room
-lend-requires-clause-room c = ?
+lend-requires-clause-room c =
+    let p = c.args.plan.now in
+    let act = c.members.act in
+    let t = c.members-test.true in
+    let n = c.len-count.ensures.is in
+    let l : act < length p.groups = omega (arith, t, n) in
+    let i = c.members.invariant in
+    let next = get_or c.args.next.now act 0 in
+    let lane = c.first_free-lane.result in
+    let v = c.members.dealt in
+    let k = some_free p (length c.args.used.now) c.args.group act c.args.dealt.now.items v.items c.members.loads c.members.used i.sharing next
+    (places_next p.groups act next c.args.group l (i.here l) (c.requires.next.each act l)) lane c.requires.wide c.first_free-lane.ensures.first in
+    let e = i.sharing.loads_are.each lane k in
+    let b = load_le v.items lane in
+    let o = v.ok.0 in
+    let q = v.ok.1 in
+    let s = v.small in
+    omega (arith, e, b, o, q, s)
 
 pub members-preserved : goal.members-preserved
 members-preserved c =
