@@ -107,8 +107,7 @@ pub beginning_last : (p : Entries) (programs : List Program) (places : List ℕ)
     → Beginning p programs places group act old now room before started → HasBegun programs places (members p.groups group) old now × IsTaken p group before started
 beginning_last p programs places group act old now room before started past b =
     let none = places_end p.groups act group past in
-    let e : members p.groups group ≡ b.done = b.members_are ∙ ap (λ v. b.done ++ v) none ∙ append_nil b.done in
-    (
+    let e : members p.groups group ≡ b.done = b.members_are ∙ ap (λ v. b.done ++ v) none ∙ append_nil b.done in (
       record {
         used = b.used;
         are_at = subst (λ v. AreAt programs places v b.used) (sym e) b.are_at;

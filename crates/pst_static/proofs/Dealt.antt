@@ -148,11 +148,11 @@ sharing_first p lanes group old loads used e many none are =
       long = refl;
       now_is = sym (append_nil old);
       fewest = record {
-          as_many = refl;
-          below = λ l c. absurd (none_in l c);
-          ascending = λ i j l m. absurd (omega (arith, m));
-          fewest = λ l m b c. absurd (none_in m c);
-        };
+        as_many = refl;
+        below = λ l c. absurd (none_in l c);
+        ascending = λ i j l m. absurd (omega (arith, m));
+        fewest = λ l m b c. absurd (none_in m c);
+      };
       many_used = many;
       used_is = λ l m. ((λ t. absurd (no_both t (none l m))), (λ c. absurd (none_in l c)));
       loads_are = are;
@@ -268,11 +268,11 @@ module _ (p : Entries) (lanes group act : ℕ) (old now : Dealt) (loads : List �
                 ))
                 (cases_eq l lane);
             loads_are = record {
-                many = many ∙ sh.loads_are.many;
-                each = λ l h. ⊎_elim
-                    (λ e. subst (λ v. get_or loads' v 0 ≡ load now' v) (sym e) (here ∙ ap (λ v. v + 1) (sh.loads_are.each lane lane_in) ∙ sym (load_here now act lane)))
-                    (λ n. others l n ∙ sh.loads_are.each l h ∙ sym (load_other now act lane l n)) (cases_eq l lane);
-              };
+              many = many ∙ sh.loads_are.many;
+              each = λ l h. ⊎_elim
+                  (λ e. subst (λ v. get_or loads' v 0 ≡ load now' v) (sym e) (here ∙ ap (λ v. v + 1) (sh.loads_are.each lane lane_in) ∙ sym (load_here now act lane)))
+                  (λ n. others l n ∙ sh.loads_are.each l h ∙ sym (load_other now act lane l n)) (cases_eq l lane);
+            };
             same = λ l n. load_other now act lane l (λ e. n (subst (λ v. Contains lent' v) (sym e) (Contains-push sh.lent lane))) ∙ sh.same l (λ c. n (Contains-append_left sh.lent (lane ∷ []) l c));
           })
 

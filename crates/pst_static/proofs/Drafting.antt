@@ -85,47 +85,48 @@ once p lanes order serial dealt f =
           (cases_order b.0 c.0);
     }
 
--- and no more were dealt than there are
+-- ---- no more were dealt than there are
+
+abbrev acts : Dealt → List ℕ
+acts [] = []
+acts (d ∷ more) = d.0 ∷ acts more
+
+many_acts : (dealt : Dealt) → length (acts dealt) ≡ length dealt
+many_acts [] = refl
+many_acts (d ∷ more) = ap suc (many_acts more)
+
+of_acts : (dealt : Dealt) (x : ℕ) → Contains (acts dealt) x → (m : ℕ) × Contains dealt (x, m)
+of_acts [] x c = absurd (none_in x c)
+of_acts (d ∷ more) x c =
+    ⊎_elim (λ e. (d.1, subst (λ v. Contains (d ∷ more) (v, d.1)) e (cons_first d more))) (λ k. let w = of_acts more x k in (w.0, cons_rest d (x, w.0) more w.1)) (cons_cases d.0 x (acts more) c)
+
+act_at : (dealt : Dealt) (i : ℕ) → i < length dealt → (m : ℕ) × (slice_get dealt i ≡ Some (get_or (acts dealt) i 0, m))
+act_at [] i l = absurd (omega (arith, l))
+act_at (d ∷ more) zero l = (d.1, refl)
+act_at (d ∷ more) (suc i) l = act_at more i (omega (arith, l))
+
+so_many : (dealt : Dealt) (n : ℕ) → AreOnce dealt n → AreSoManyOf (λ x. Contains (acts dealt) x) (length (acts dealt))
+so_many dealt n o =
+    record {
+      list = acts dealt;
+      different = λ i j l m e.
+          let k = many_acts dealt in
+          let b = act_at dealt i (omega (arith, l, m, k)) in
+          let c = act_at dealt j (omega (arith, m, k)) in
+          let x = get_or (acts dealt) i 0 in
+          let c' : slice_get dealt j ≡ Some (x, c.0) = subst (λ v. slice_get dealt j ≡ Some (v, c.0)) (sym e) c.1 in
+          let same : b.0 ≡ c.0 = o.only x b.0 c.0 (of_get dealt i (x, b.0) b.1) (of_get dealt j (x, c.0) c') in
+          let q = o.once x b.0 (suc i) (suc j) (i, refl, b.1) (j, refl, subst (λ v. slice_get dealt j ≡ Some (x, v)) (sym same) c') in
+          absurd (omega (arith, q, l));
+      are = λ x. ((λ c. c), (λ c. c));
+      many = refl;
+    }
+
 pub dealt_few : (dealt : Dealt) (n : ℕ) → AreOnce dealt n → length dealt ≤ n
-dealt_few dealt n o = let b = at_most_bound {P = λ x. Contains (acts dealt) x} n (λ x c. let w = of_acts dealt x c in o.inside x w.0 w.1) many in let e = many_acts dealt in omega (arith, b, e)
-  where
-    acts : Dealt → List ℕ
-    acts [] = []
-    acts (d ∷ more) = d.0 ∷ acts more
-
-    many_acts : (dealt : Dealt) → length (acts dealt) ≡ length dealt
-    unfolding acts
-    many_acts [] = refl
-    many_acts (d ∷ more) = ap suc (many_acts more)
-
-    of_acts : (dealt : Dealt) (x : ℕ) → Contains (acts dealt) x → (m : ℕ) × Contains dealt (x, m)
-    unfolding acts
-    of_acts [] x c = absurd (none_in x c)
-    of_acts (d ∷ more) x c =
-        ⊎_elim (λ e. (d.1, subst (λ v. Contains (d ∷ more) (v, d.1)) e (cons_first d more))) (λ k. let w = of_acts more x k in (w.0, cons_rest d (x, w.0) more w.1)) (cons_cases d.0 x (acts more) c)
-
-    act_at : (dealt : Dealt) (i : ℕ) → i < length dealt → (m : ℕ) × (slice_get dealt i ≡ Some (get_or (acts dealt) i 0, m))
-    unfolding acts
-    act_at [] i l = absurd (omega (arith, l))
-    act_at (d ∷ more) zero l = (d.1, refl)
-    act_at (d ∷ more) (suc i) l = act_at more i (omega (arith, l))
-
-    many : AreSoManyOf (λ x. Contains (acts dealt) x) (length (acts dealt))
-    many =
-        record {
-          list = acts dealt;
-          different = λ i j l m e.
-              let n = many_acts dealt in
-              let b = act_at dealt i (omega (arith, l, m, n)) in
-              let c = act_at dealt j (omega (arith, m, n)) in
-              let x = get_or (acts dealt) i 0 in
-              let c' : slice_get dealt j ≡ Some (x, c.0) = subst (λ v. slice_get dealt j ≡ Some (v, c.0)) (sym e) c.1 in
-              let same : b.0 ≡ c.0 = o.only x b.0 c.0 (of_get dealt i (x, b.0) b.1) (of_get dealt j (x, c.0) c') in
-              let q = o.once x b.0 (suc i) (suc j) (i, refl, b.1) (j, refl, subst (λ v. slice_get dealt j ≡ Some (x, v)) (sym same) c') in
-              absurd (omega (arith, q, l));
-          are = λ x. ((λ c. c), (λ c. c));
-          many = refl;
-        }
+dealt_few dealt n o =
+    let b = at_most_bound {P = λ x. Contains (acts dealt) x} n (λ x c. let w = of_acts dealt x c in o.inside x w.0 w.1) (so_many dealt n o) in
+    let e = many_acts dealt in
+    omega (arith, b, e)
 
 -- ---- lists
 
@@ -364,13 +365,22 @@ module _ (p : Entries) (lanes : ℕ) (order : List ℕ) (serial : IsSerial p ord
             ⊎_elim
             (λ o. let q = (are.told_is b b_in).0 o in
             ⊎_elim
-            (λ e. let same : q.1 ≡ draft = some_one q.1 draft (sym q.2 ∙ ap (λ v. slice_get drafts v) e ∙ is_draft) in
-            (l, new_at.0, new_at.1, subst (λ v. Contains v (Await b)) (sym (new_is new_at.0 new_at.1))
-            (Contains-append_left draft.items added (Await b) (subst (λ (v : Vec Instruction). Contains v.items (Await b)) same q.3))))
+            (λ e. let same : q.1 ≡ draft = some_one q.1 draft (sym q.2 ∙ ap (λ v. slice_get drafts v) e ∙ is_draft) in (
+              l,
+              new_at.0,
+              new_at.1,
+              subst (λ v. Contains v (Await b)) (sym (new_is new_at.0 new_at.1))
+                  (Contains-append_left draft.items added (Await b) (subst (λ (v : Vec Instruction). Contains v.items (Await b)) same q.3)),
+            ))
             (λ n. (q.0, q.1, drafted.others q.0 n ∙ q.2, q.3))
             (cases_eq q.0 l))
-            (λ c. (l, new_at.0, new_at.1, subst (λ v. Contains v (Await b)) (sym (new_is new_at.0 new_at.1))
-            (Contains-append_right draft.items added (Await b) (Contains-append_left (map Await written.written) (Run a ∷ []) (Await b) (to_awaits written.written b c)))))
+            (λ c. (
+              l,
+              new_at.0,
+              new_at.1,
+              subst (λ v. Contains v (Await b)) (sym (new_is new_at.0 new_at.1))
+                  (Contains-append_right draft.items added (Await b) (Contains-append_left (map Await written.written) (Run a ∷ []) (Await b) (to_awaits written.written b c))),
+            ))
             ((written.marked b (omega (arith, b_in, many))).0 t)
 
         told_from : (b : ℕ) → b < length p.groups → (m : ℕ) × (d : Vec Instruction) × (slice_get new m ≡ Some d) × Contains d.items (Await b) → get_or told b false ≡ true
@@ -460,21 +470,21 @@ drafting_first p lanes dealt order serial deals latest heard drafts told tables 
       serial = serial;
       deals = deals;
       are = record {
-          many = empty.many;
-          each = λ l d e. subst (λ v. Drafts p order dealt l [] [] v) (sym (empty.empty l d e)) (Drafted []);
-          many_told = ap (λ (v : List Bool). length v) none ∙ length-replicate (length p.groups) false;
-          told_is = λ a l. (
-            λ t. absurd (no_both t (ap (λ v. get_or v a false) none ∙ get_or-replicate (length p.groups) a false false l)),
-            λ q. absurd (none_in (Await a) (subst (λ v. Contains v (Await a)) (empty.empty q.0 q.1 q.2) q.3)),
-          );
-        };
+        many = empty.many;
+        each = λ l d e. subst (λ v. Drafts p order dealt l [] [] v) (sym (empty.empty l d e)) (Drafted []);
+        many_told = ap (λ (v : List Bool). length v) none ∙ length-replicate (length p.groups) false;
+        told_is = λ a l. (
+          λ t. absurd (no_both t (ap (λ v. get_or v a false) none ∙ get_or-replicate (length p.groups) a false false l)),
+          λ q. absurd (none_in (Await a) (subst (λ v. Contains v (Await a)) (empty.empty q.0 q.1 q.2) q.3)),
+        );
+      };
       latest_are = record {
-          many = tables.many;
-          each = λ m row e. (
-            ap (λ (v : List ℕ). length v) (tables.zeros m row e) ∙ length-replicate (length p.groups) 0,
-            λ a l. subst (λ v. IsLatest p dealt 0 m a v) (sym (ap (λ v. get_or v a 0) (tables.zeros m row e) ∙ get_or-replicate (length p.groups) a 0 0 l)) (none_latest m a),
-          );
-        };
+        many = tables.many;
+        each = λ m row e. (
+          ap (λ (v : List ℕ). length v) (tables.zeros m row e) ∙ length-replicate (length p.groups) 0,
+          λ a l. subst (λ v. IsLatest p dealt 0 m a v) (sym (ap (λ v. get_or v a 0) (tables.zeros m row e) ∙ get_or-replicate (length p.groups) a 0 0 l)) (none_latest m a),
+        );
+      };
       many_heard = rows.many;
       heard_are = λ l row d e f. record {
         many = ap (λ (v : List ℕ). length v) (rows.zeros l row e) ∙ length-replicate lanes 0;

@@ -139,12 +139,12 @@ module _ (dealt : Dealt) (latest : List (Vec ℕ)) (first : List ℕ) (a l : ℕ
             many = length-set told x true ∙ t.many;
             marked = λ y b. (
               (λ s. ⊎_elim (λ e. inr (subst (λ v. Contains (t.written ++ x ∷ []) v) (sym e) (Contains-push t.written x)))
-              (λ q. ⊎_elim (λ k. inl k) (λ c. inr (Contains-append_left t.written (x ∷ []) y c)) ((t.marked y b).0 (sym (get_or-set_other told x y true false q) ∙ s)))
-              (cases_eq y x)),
+                  (λ q. ⊎_elim (λ k. inl k) (λ c. inr (Contains-append_left t.written (x ∷ []) y c)) ((t.marked y b).0 (sym (get_or-set_other told x y true false q) ∙ s)))
+                  (cases_eq y x)),
               (λ s. ⊎_elim (λ e. subst (λ v. get_or (set told x true) v false ≡ true) (sym e) (get_or-set_same told x true false (let m = t.many in omega (arith, x_in, m))))
-              (λ q. get_or-set_other told x y true false q
-              ∙ (t.marked y b).1 (⊎_elim (λ k. inl k) (λ c. inr (⊎_elim (λ k. k) (λ e. absurd (q (sym e))) (Contains-push_cases t.written x y c))) s))
-              (cases_eq y x)),
+                  (λ q. get_or-set_other told x y true false q
+                  ∙ (t.marked y b).1 (⊎_elim (λ k. inl k) (λ c. inr (⊎_elim (λ k. k) (λ e. absurd (q (sym e))) (Contains-push_cases t.written x y c))) s))
+                  (cases_eq y x)),
             );
           }
 

@@ -9,10 +9,10 @@ ghost use Rattle.pst_order.specs.Facts.{LinksStates};
 ghost use Rattle.pst_programs.specs.Programs.{ArePrograms};
 ghost use Rattle.pst_programs.specs.Machine.{State, Steps, HasEnded, at_first};
 
-use crate::run::{all_ended, begin, end, pass, Progress};
+use crate::run::{Progress, all_ended, begin, end, pass};
 use crate::tables::{marks, next_members};
 use pst_base::NoMemory;
-use pst_programs::{machine_is_safe, programs_are_safe, Move, Program};
+use pst_programs::{Move, Program, machine_is_safe, programs_are_safe};
 use pst_scen::{Event, Plan};
 use std::alloc::Global;
 use std::marker::Model;

@@ -49,13 +49,7 @@ fn can_be_taken(plan: &Plan, awaited: &[u32], taken: &[bool], group: u32) -> boo
 }
 
 /// The least number of such a group from a number on, before another one.
-fn least_in(
-    plan: &Plan,
-    awaited: &[u32],
-    taken: &[bool],
-    first: u32,
-    end: u32,
-) -> Option<u32>
+fn least_in(plan: &Plan, awaited: &[u32], taken: &[bool], first: u32, end: u32) -> Option<u32>
     requires inside { (first ≤ end) × (end ≤ length plan.now.groups) }
     requires many_awaited { length awaited.now ≡ length plan.now.groups }
     requires many_taken { length taken.now ≡ length plan.now.groups }
@@ -114,13 +108,7 @@ fn first_group(plan: &Plan, awaited: &[u32], taken: &[bool], hints: &mut [bool])
 }
 
 /// Takes an action.
-fn take_one(
-    plan: &Plan,
-    awaited: &mut [u32],
-    taken: &mut [bool],
-    hints: &mut [bool],
-    act: u32,
-)
+fn take_one(plan: &Plan, awaited: &mut [u32], taken: &mut [bool], hints: &mut [bool], act: u32)
     requires act_in { act < length plan.now.groups }
     requires owed { AreOwed plan.now awaited.old taken.old }
     requires hinted { AreHinted plan.now awaited.old taken.old hints.old }
@@ -194,11 +182,7 @@ fn take_all(
 
 /// The numbers of the groups in the serial order. The plan is a scenario's, and the table gives the
 /// next member of each action's group.
-pub(crate) fn serial_order(
-    alloc: Global,
-    plan: &Plan,
-    next: &[u32],
-) -> Result<Vec<u32>, NoMemory>
+pub(crate) fn serial_order(alloc: Global, plan: &Plan, next: &[u32]) -> Result<Vec<u32>, NoMemory>
     requires planned { (s : Scenario) × IsPlanOf s plan.now }
     requires next { AreNext plan.now.groups next.now }
     ensures { IfOk result (λ order. IsSerial plan.now order.items) }

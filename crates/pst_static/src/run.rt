@@ -15,7 +15,7 @@ use crate::standing::{can_begin, instruction_at, note, start_members};
 use pst_order::{
     groups_are_whole, members_are_those, prefix_is_by_rule, rule_fits, whole_is_sound,
 };
-use pst_programs::{machine_is_safe, programs_are_safe, Instruction, Program};
+use pst_programs::{Instruction, Program, machine_is_safe, programs_are_safe};
 use pst_scen::{Event, Plan};
 
 /// What a run keeps.
@@ -176,14 +176,7 @@ pub(crate) fn begin(plan: &Plan, programs: &[Program], run: &mut Progress, lane:
     match instruction_at(programs, &run.places, lane) {
         Some(Instruction::Run { action }) => {
             let group = plan.group(action);
-            if !can_begin(
-                plan,
-                &run.next,
-                programs,
-                &run.places,
-                &run.started,
-                group,
-            ) {
+            if !can_begin(plan, &run.next, programs, &run.places, &run.started, group) {
                 return false;
             }
             start(plan, programs, run, lane, action);
