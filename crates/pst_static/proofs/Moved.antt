@@ -3,6 +3,7 @@ use Rattle.std.proofs.Common.{◌≡◌, ◌≢◌, ◌⊎◌, ℕ, zero, suc, �
 use Rattle.std.specs.Prelude.{◌↔◌, Contains}
 use Rattle.std.proofs.lemmas.List.{get_or-set_same, get_or-set_other, length-set}
 use Rattle.std.proofs.lemmas.List.Elements.{Contains-append_left, Contains-push, Contains-push_cases}
+use Rattle.std.proofs.lemmas.Option.{slice_get-get_or}
 use Rattle.std.proofs.lemmas.Bool.{cases_Bool, cases_eq, cases_lt}
 use Rattle.pst_scen.specs.declared.scenario.Scenario.{Scenario}
 use Rattle.pst_scen.specs.Plan.{Entries}
@@ -21,7 +22,9 @@ use Rattle.pst_programs.specs.Machine as machine
 use Rattle.pst_programs.specs.Safe.{Stands, AreSafe}
 use Rattle.pst_programs.proofs.Kept.{Kept}
 use Rattle.pst_programs.proofs.Moves.{reached_kept}
+use Rattle.pst_programs.specs.Programs.{program_at}
 use Rattle.pst_programs.proofs.Places.{some_one}
+use Rattle.pst_programs.proofs.Written.{get_below}
 
 -- one lane's place is raised by one
 pub moved_set : (places : List ℕ) (lane : ℕ) → lane < length places → set places lane (get_or places lane 0 + 1) ≡ moved_on places lane
@@ -32,6 +35,33 @@ moved_set (x ∷ places) (suc lane) l = ap (λ v. x ∷ v) (moved_set places lan
 -- a lane stands at one instruction
 pub stands_at_one : (programs : List Program) (places : List ℕ) (lane : ℕ) (i j : Instruction) → IsAt programs places lane i → IsAt programs places lane j → i ≡ j
 stands_at_one programs places lane i j a b = some_one i j (sym a ∙ b)
+
+-- ---- programs by their lanes
+
+pub program_read : (programs : List Program) (lane : ℕ) (d : Program) → lane < length programs → program_at programs lane ≡ (get_or programs lane d).steps
+program_read [] lane d l = absurd (omega (arith, l))
+program_read (x ∷ programs) zero d l = refl
+program_read (x ∷ programs) (suc lane) d l = program_read programs lane d (omega (arith, l))
+
+pub program_beyond : (programs : List Program) (lane : ℕ) → length programs ≤ lane → program_at programs lane ≡ []
+program_beyond [] lane l = refl
+program_beyond (x ∷ programs) zero l = absurd (omega (arith, l))
+program_beyond (x ∷ programs) (suc lane) l = program_beyond programs lane (omega (arith, l))
+
+-- beyond its program no lane stands at an instruction
+pub none_past : (programs : List Program) (places : List ℕ) (lane : ℕ) → length (program_at programs lane) ≤ get_or places lane 0 → (i : Instruction) → IsAt programs places lane i → ⊥
+none_past programs places lane past i at = let l = get_below (program_at programs lane) (get_or places lane 0) i at in omega (arith, l, past)
+
+-- nor does one that isn't there
+pub none_beyond : (programs : List Program) (places : List ℕ) (lane : ℕ) → length programs ≤ lane → (i : Instruction) → IsAt programs places lane i → ⊥
+none_beyond programs places lane past i at = let e : length (program_at programs lane) ≡ 0 = ap (λ (v : List Instruction). length v) (program_beyond programs lane past) in none_past programs places lane (omega (arith, e)) i at
+
+-- the instruction that is read there
+pub at_read : (programs : List Program) (places : List ℕ) (lane : ℕ) (d : Program) (e : Instruction) → lane < length programs → get_or places lane 0 < length (get_or programs lane d).steps
+    → IsAt programs places lane (get_or (get_or programs lane d).steps (get_or places lane 0) e)
+at_read programs places lane d e l k =
+    subst (λ (v : List Instruction). slice_get v (get_or places lane 0) ≡ Some (get_or (get_or programs lane d).steps (get_or places lane 0) e)) (sym (program_read programs lane d l))
+    (slice_get-get_or (get_or programs lane d).steps (get_or places lane 0) e k)
 
 -- ---- a signal is given once
 
