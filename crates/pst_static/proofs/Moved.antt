@@ -57,11 +57,12 @@ pub none_beyond : (programs : List Program) (places : List ℕ) (lane : ℕ) →
 none_beyond programs places lane past i at = let e : length (program_at programs lane) ≡ 0 = ap (λ (v : List Instruction). length v) (program_beyond programs lane past) in none_past programs places lane (omega (arith, e)) i at
 
 -- the instruction that is read there
-pub at_read : (programs : List Program) (places : List ℕ) (lane : ℕ) (d : Program) (e : Instruction) → lane < length programs → get_or places lane 0 < length (get_or programs lane d).steps
-    → IsAt programs places lane (get_or (get_or programs lane d).steps (get_or places lane 0) e)
-at_read programs places lane d e l k =
-    subst (λ (v : List Instruction). slice_get v (get_or places lane 0) ≡ Some (get_or (get_or programs lane d).steps (get_or places lane 0) e)) (sym (program_read programs lane d l))
-    (slice_get-get_or (get_or programs lane d).steps (get_or places lane 0) e k)
+pub at_read : (programs : List Program) (places : List ℕ) (lane : ℕ) (steps : List Instruction) (d : Instruction) → program_at programs lane ≡ steps → get_or places lane 0 < length steps → IsAt programs places lane (get_or steps (get_or places lane 0) d)
+at_read programs places lane steps d e k = subst (λ (v : List Instruction). slice_get v (get_or places lane 0) ≡ Some (get_or steps (get_or places lane 0) d)) (sym e) (slice_get-get_or steps (get_or places lane 0) d k)
+
+-- a lane's program as it is read
+pub read_is : (programs : List Program) (lane : ℕ) (x : Program) (steps : List Instruction) → lane < length programs → x ≡ get_or programs lane x → steps ≡ x.steps → program_at programs lane ≡ steps
+read_is programs lane x steps l e f = program_read programs lane x l ∙ sym (ap (λ (v : Program). v.steps) e) ∙ sym f
 
 -- ---- a signal is given once
 

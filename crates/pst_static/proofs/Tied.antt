@@ -247,23 +247,20 @@ module _ (p : Entries) (programs : List Program) (run : Progress) (t : IsRun p p
         (λ b b_in. subst (λ v. (get_or started' b false ≡ true) ↔ Started v b) (sym begun.new_is) (now b b_in)) t.told_is up (omega arith),
       )
     where
-      abbrev ms : List ℕ
-      ms = members p.groups (group_of p a)
-
-      fresh : (b : ℕ) → Contains ms b → Started state.trace b → ⊥
+      fresh : (b : ℕ) → Contains (members p.groups (group_of p a)) b → Started state.trace b → ⊥
       fresh b c h = let m = (those p.groups (group_of p a) b).0 c in no_both ((t.started_is b m.0).1 h) (all b m.0 m.1).fresh
 
-      now : (b : ℕ) → b < length p.groups → (get_or started' b false ≡ true) ↔ Started (state.trace ++ starts_of ms begun.used) b
+      now : (b : ℕ) → b < length p.groups → (get_or started' b false ≡ true) ↔ Started (state.trace ++ starts_of (members p.groups (group_of p a)) begun.used) b
       now b b_in =
           ⊎_elim
           (λ q. (
-            (λ s. started_new state.trace (starts_of ms begun.used) b (member_starts ms begun.used b (as_many programs state.places ms begun.used begun.are_at) ((those p.groups (group_of p a) b).1 (b_in, q)))),
+            (λ s. started_new state.trace (starts_of (members p.groups (group_of p a)) begun.used) b (member_starts (members p.groups (group_of p a)) begun.used b (as_many programs state.places (members p.groups (group_of p a)) begun.used begun.are_at) ((those p.groups (group_of p a) b).1 (b_in, q)))),
             (λ h. taken.members b b_in q),
           ))
           (λ n. (
-            (λ s. started_more state.trace (starts_of ms begun.used) b ((t.started_is b b_in).0 (sym (taken.others b n) ∙ s))),
+            (λ s. started_more state.trace (starts_of (members p.groups (group_of p a)) begun.used) b ((t.started_is b b_in).0 (sym (taken.others b n) ∙ s))),
             (λ h. taken.others b n
-            ∙ (t.started_is b b_in).1 (⊎_elim (λ k. k) (λ k. absurd (n ((those p.groups (group_of p a) b).0 (starts_member ms begun.used b k)).1)) (started_cases state.trace (starts_of ms begun.used) b h))),
+            ∙ (t.started_is b b_in).1 (⊎_elim (λ k. k) (λ k. absurd (n ((those p.groups (group_of p a) b).0 (starts_member (members p.groups (group_of p a)) begun.used b k)).1)) (started_cases state.trace (starts_of (members p.groups (group_of p a)) begun.used) b h))),
           ))
           (cases_eq (group_of p b) (group_of p a))
 

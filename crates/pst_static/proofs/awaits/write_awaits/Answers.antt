@@ -38,9 +38,9 @@ turns-preserved c =
     record {
       turn = turn_more dealt latest c.args.heard.now.items act lane c.requires.once.only c.args.draft.now.items c.turns.draft.items heard c.args.told.now c.turns.told i.turn m x news
           (λ o y n. c.in-Some.ensures.1 o y (get_below latest o n.row n.is_row) (subst (λ (h : List ℕ). IsNews dealt latest h act lane o y) (sym c.deref.ensures.value) n)) (set heard m place) (get_or-set_same heard m place 0 m_in ∙ is) (λ o n. get_or-set_other heard m o place 0 n)
-          c.push.new.self.items c.in_ok-push.ensures.items x_in;
+          c.push.new.self.items c.in_ok-push-in-Some.ensures.items x_in;
       heard = heard_more (length latest) dealt c.turns.draft.items c.push.new.self.items heard (set heard m place) m x place c.requires.once.only (λ one other a b. c.requires.once.once x m one other a b) at (omega (arith, later, is))
-          c.in_ok-push.ensures.items (length-set heard m place) (get_or-set_same heard m place 0 m_in) (λ o n. get_or-set_other heard m o place 0 n) i.heard;
+          c.in_ok-push-in-Some.ensures.items (length-set heard m place) (get_or-set_same heard m place 0 m_in) (λ o n. get_or-set_other heard m o place 0 n) i.heard;
     }
 
 pub turns-smaller : goal.turns-smaller

@@ -94,8 +94,8 @@ overflow_cast-at c =
     let few = dealt_few dealt (length c.args.told.now) (once_told c.requires.planned.0 p c.requires.planned.1 c.whole_is_sound.ensures.clash c.members_are_those.ensures c.groups_are_whole.ensures.whole lanes dealt at c.args.latest.now c.args.heard.now c.args.drafts.now c.args.told.now d x.0 x.1 is) in
     let n = d.are.many_told in
     let l = c.requires.at_in in
-    let e = c.len-_count.ensures.is in
-    let f = c.len-_count.type_inv in
+    let e = c.len-count.ensures.is in
+    let f = c.len-count.type_inv in
     record { fits = let m : at < 4294967296 = omega (arith, few, n, l, e, f) in m }
 
 pub overflow_add-at : goal.overflow_add-at
@@ -110,8 +110,8 @@ overflow_add-at c =
     let few = dealt_few dealt (length c.args.told.now) (once_told c.requires.planned.0 p c.requires.planned.1 c.whole_is_sound.ensures.clash c.members_are_those.ensures c.groups_are_whole.ensures.whole lanes dealt at c.args.latest.now c.args.heard.now c.args.drafts.now c.args.told.now d x.0 x.1 is) in
     let n = d.are.many_told in
     let l = c.requires.at_in in
-    let e = c.len-_count.ensures.is in
-    let f = c.len-_count.type_inv in
+    let e = c.len-count.ensures.is in
+    let f = c.len-count.type_inv in
     record { fits = let m : at + 1 < 4294967296 = omega (arith, few, n, l, e, f) in m }
 
 pub stamp_lane-requires-clause-lane_in : goal.stamp_lane-requires-clause-lane_in

@@ -4,9 +4,3 @@ use Rattle.pst_static.proofs.run.start.Goals as goal
 
 pub group-requires : goal.group-requires
 group-requires c = run_in c.args.plan.now c.args.programs.now c.args.run.now c.requires.run c.programs_are_safe.ensures.safe c.args.lane c.args.action c.requires.at
-
-pub start_members-requires : goal.start_members-requires
-start_members-requires c = ?
-
-pub returns : goal.returns
-returns c = ?
