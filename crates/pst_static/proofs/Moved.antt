@@ -61,8 +61,8 @@ pub at_read : (programs : List Program) (places : List ℕ) (lane : ℕ) (steps 
 at_read programs places lane steps d e k = subst (λ (v : List Instruction). slice_get v (get_or places lane 0) ≡ Some (get_or steps (get_or places lane 0) d)) (sym e) (slice_get-get_or steps (get_or places lane 0) d k)
 
 -- a lane's program as it is read
-pub read_is : (programs : List Program) (lane : ℕ) (x : Program) (steps : List Instruction) → lane < length programs → x ≡ get_or programs lane x → steps ≡ x.steps → program_at programs lane ≡ steps
-read_is programs lane x steps l e f = program_read programs lane x l ∙ sym (ap (λ (v : Program). v.steps) e) ∙ sym f
+pub read_is : (programs : List Program) (lane : ℕ) (d : Program) (steps : List Instruction) → lane < length programs → steps ≡ (get_or programs lane d).steps → program_at programs lane ≡ steps
+read_is programs lane d steps l e = program_read programs lane d l ∙ sym e
 
 -- ---- a signal is given once
 

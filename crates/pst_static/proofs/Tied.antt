@@ -26,7 +26,7 @@ use Rattle.pst_programs.specs.Machine as machine
 use Rattle.pst_programs.specs.Safe.{AreSafe}
 use Rattle.pst_programs.specs.Laws.{ProgramsAreSafe, SafeIsPrefix}
 use Rattle.pst_programs.proofs.Events.{started_cases, started_more, started_new, starts_member, member_starts, length_starts, end_no_start}
-use Rattle.pst_programs.proofs.Places.{some_one, run_one, run_signal, run_await, signal_await, lane_in, many_first, many_moved, as_many, of_member}
+use Rattle.pst_programs.proofs.Places.{some_one, run_one, lane_in, many_first, many_moved, as_many, of_member}
 use Rattle.pst_programs.proofs.Kept.{Kept}
 use Rattle.pst_programs.proofs.Moves.{reached_kept}
 use Rattle.pst_static.specs.declared.run.Progress.{Progress}
@@ -62,44 +62,24 @@ module _ (p : Entries) (programs : List Program) (old : State) (lane : ℕ) wher
   await_is : (a b : ℕ) → Await a ≡ Await b → a ≡ b
   await_is a b e = cc
 
-  module _ (none : (i : Instruction) → IsAt programs old.places lane i → ⊥) where
-    pub no_pass_none : Never (move.Pass lane)
-    no_pass_none new s = let q = possible p programs old (move.Pass lane) new s in ⊎_elim (λ a. none (Signal q.0) a) (λ a. none (Await q.0) a.0) q.1
+  pub no_pass : ((a : ℕ) → IsAt programs old.places lane (Signal a) → ⊥) → ((a : ℕ) → IsAt programs old.places lane (Await a) → Contains old.signals a → ⊥) → Never (move.Pass lane)
+  no_pass none untold new s = let q = possible p programs old (move.Pass lane) new s in ⊎_elim (λ a. none q.0 a) (λ a. untold q.0 a.0 a.1) q.1
 
+  -- an await of what wasn't told
+  pub untold_one : (a : ℕ) → IsAt programs old.places lane (Await a) → (Contains old.signals a → ⊥) → (b : ℕ) → IsAt programs old.places lane (Await b) → Contains old.signals b → ⊥
+  untold_one a at untold b other c = untold (subst (λ v. Contains old.signals v) (await_is b a (one_at (Await b) (Await a) other at)) c)
+
+  module _ (none : (a : ℕ) → IsAt programs old.places lane (Run a) → ⊥) where
     pub no_begin_none : Never (move.Begin lane)
-    no_begin_none new s = let q = possible p programs old (move.Begin lane) new s in none (Run q.0) q.2
+    no_begin_none new s = let q = possible p programs old (move.Begin lane) new s in none q.0 q.2
 
     pub no_end_none : Never (move.End lane)
-    no_end_none new s = let q = possible p programs old (move.End lane) new s in none (Run q.0) q.1
+    no_end_none new s = let q = possible p programs old (move.End lane) new s in none q.0 q.1
 
-  module _ (a : ℕ) where
-    pub no_pass_run : IsAt programs old.places lane (Run a) → Never (move.Pass lane)
-    no_pass_run at new s =
-        let q = possible p programs old (move.Pass lane) new s in
-        ⊎_elim (λ b. run_signal a q.0 (one_at (Run a) (Signal q.0) at b)) (λ b. run_await a q.0 (one_at (Run a) (Await q.0) at b.0)) q.1
-
-    pub no_pass_await : IsAt programs old.places lane (Await a) → (Contains old.signals a → ⊥) → Never (move.Pass lane)
-    no_pass_await at untold new s =
-        let q = possible p programs old (move.Pass lane) new s in
-        ⊎_elim (λ b. signal_await q.0 a (one_at (Signal q.0) (Await a) b at))
-        (λ b. untold (subst (λ v. Contains old.signals v) (await_is q.0 a (one_at (Await q.0) (Await a) b.0 at)) b.1)) q.1
-
-    pub no_begin_signal : IsAt programs old.places lane (Signal a) → Never (move.Begin lane)
-    no_begin_signal at new s = let q = possible p programs old (move.Begin lane) new s in run_signal q.0 a (one_at (Run q.0) (Signal a) q.2 at)
-
-    pub no_begin_await : IsAt programs old.places lane (Await a) → Never (move.Begin lane)
-    no_begin_await at new s = let q = possible p programs old (move.Begin lane) new s in run_await q.0 a (one_at (Run q.0) (Await a) q.2 at)
-
-    pub no_end_signal : IsAt programs old.places lane (Signal a) → Never (move.End lane)
-    no_end_signal at new s = let q = possible p programs old (move.End lane) new s in run_signal q.0 a (one_at (Run q.0) (Signal a) q.1 at)
-
-    pub no_end_await : IsAt programs old.places lane (Await a) → Never (move.End lane)
-    no_end_await at new s = let q = possible p programs old (move.End lane) new s in run_await q.0 a (one_at (Run q.0) (Await a) q.1 at)
-
-    pub no_end_fresh : IsAt programs old.places lane (Run a) → (Started old.trace a → ⊥) → Never (move.End lane)
-    no_end_fresh at fresh new s =
-        let q = possible p programs old (move.End lane) new s in
-        fresh (subst (λ v. Started old.trace v) (run_one q.0 a (one_at (Run q.0) (Run a) q.1 at)) q.2.0)
+  pub no_end_fresh : (a : ℕ) → IsAt programs old.places lane (Run a) → (Started old.trace a → ⊥) → Never (move.End lane)
+  no_end_fresh a at fresh new s =
+      let q = possible p programs old (move.End lane) new s in
+      fresh (subst (λ v. Started old.trace v) (run_one q.0 a (one_at (Run q.0) (Run a) q.1 at)) q.2.0)
 
 -- ---- what is kept
 

@@ -2,7 +2,7 @@
 //!
 //! A pass and an end take the same few steps each time. A start looks for the lane of each member of
 //! the group among the lanes, of which there are 16 at most.
-ghost use Rattle.std.specs.Prelude.{◌≡◌, ◌↔◌, ◌+◌, ◌^◌, ◌<◌, ◌≤◌, ◌++◌, ◌∷◌, [], ℕ, length, get_or, slice_set, IsTrue, vec_capacity, true, Contains};
+ghost use Rattle.std.specs.Prelude.{◌≡◌, ◌↔◌, ◌+◌, ◌^◌, ◌<◌, ◌≤◌, ◌++◌, ◌∷◌, [], ℕ, length, get_or, slice_set, IsTrue, vec_capacity, true, false, Contains};
 ghost use Rattle.std.specs.Bool.{OnTrue, OnFalse};
 ghost use Rattle.pst_scen.specs.Trace.{Runs};
 ghost use Rattle.pst_programs.specs.declared.program.Instruction.TheVariants.{Run, Signal, Await};
@@ -11,11 +11,11 @@ ghost use Rattle.pst_programs.specs.Machine.{State, Steps, HasEnded, IsAt, moved
 ghost use Rattle.pst_static.specs.Standing.{AllCanJoin, AreAtEnd};
 ghost use Rattle.pst_static.specs.Runs.{state_of, IsRun};
 
-use crate::standing::{can_begin, instruction_at, note, start_members};
+use crate::standing::{await_at, can_begin, note, run_at, signal_at, start_members};
 use pst_order::{
     groups_are_whole, members_are_those, prefix_is_by_rule, rule_fits, whole_is_sound,
 };
-use pst_programs::{Instruction, Program, machine_is_safe, programs_are_safe};
+use pst_programs::{Program, machine_is_safe, programs_are_safe};
 use pst_scen::{Event, Plan};
 
 /// What a run keeps.
@@ -137,6 +137,36 @@ fn finish(plan: &Plan, programs: &[Program], run: &mut Progress, lane: u32, acti
     advance(&mut run.places, lane);
 }
 
+/// Whether an action is marked.
+fn is_set(marks: &[bool], act: u32) -> bool
+    requires { act < length marks.now }
+    ensures { IsTrue result ↔ (get_or marks.now act false ≡ true) }
+{
+    marks[act as usize]
+}
+
+/// A lane at an `Await` of an action that was told of goes on, where it stands at no `Signal`.
+fn pass_await(plan: &Plan, programs: &[Program], run: &mut Progress, lane: u32) -> bool
+    requires run { IsRun plan.now programs.now run.old }
+    requires none { (a : ℕ) → IsAt programs.now run.old.places.items lane (Signal a) → ⊥ }
+    ensures run { IsRun plan.now programs.now run.new }
+    ensures yes { OnTrue result (Steps plan.now programs.now (state_of run.old) (Pass lane) (state_of run.new)) }
+    ensures no { OnFalse result (run.new ≡ run.old) }
+    ensures impossible { OnFalse result ((state : State) → Steps plan.now programs.now (state_of run.old) (Pass lane) state → ⊥) }
+{
+    programs_are_safe();
+    match await_at(programs, &run.places, lane) {
+        None => false,
+        Some(action) => {
+            if is_set(&run.told, action) {
+                hear(plan, programs, run, lane, action);
+                return true;
+            }
+            false
+        }
+    }
+}
+
 /// A lane at a `Signal`, or at an `Await` of an action that was told of, goes on.
 pub(crate) fn pass(plan: &Plan, programs: &[Program], run: &mut Progress, lane: u32) -> bool
     requires { IsRun plan.now programs.now run.old }
@@ -145,21 +175,12 @@ pub(crate) fn pass(plan: &Plan, programs: &[Program], run: &mut Progress, lane: 
     ensures no { OnFalse result (run.new ≡ run.old) }
     ensures impossible { OnFalse result ((state : State) → Steps plan.now programs.now (state_of run.old) (Pass lane) state → ⊥) }
 {
-    programs_are_safe();
-    match instruction_at(programs, &run.places, lane) {
-        Some(Instruction::Signal { action }) => {
+    match signal_at(programs, &run.places, lane) {
+        None => pass_await(plan, programs, run, lane),
+        Some(action) => {
             give(plan, programs, run, lane, action);
             true
         }
-        Some(Instruction::Await { action }) => {
-            if !run.told[action as usize] {
-                return false;
-            }
-            hear(plan, programs, run, lane, action);
-            true
-        }
-        Some(Instruction::Run { .. }) => false,
-        None => false,
     }
 }
 
@@ -173,18 +194,16 @@ pub(crate) fn begin(plan: &Plan, programs: &[Program], run: &mut Progress, lane:
 {
     members_are_those();
     programs_are_safe();
-    match instruction_at(programs, &run.places, lane) {
-        Some(Instruction::Run { action }) => {
-            let group = plan.group(action);
-            if !can_begin(plan, &run.next, programs, &run.places, &run.started, group) {
-                return false;
-            }
-            start(plan, programs, run, lane, action);
-            true
-        }
-        Some(Instruction::Signal { .. }) => false,
-        Some(Instruction::Await { .. }) => false,
+    match run_at(programs, &run.places, lane) {
         None => false,
+        Some(action) => {
+            let group = plan.group(action);
+            if can_begin(plan, &run.next, programs, &run.places, &run.started, group) {
+                start(plan, programs, run, lane, action);
+                return true;
+            }
+            false
+        }
     }
 }
 
@@ -200,17 +219,15 @@ pub(crate) fn end(plan: &Plan, programs: &[Program], run: &mut Progress, lane: u
     members_are_those();
     whole_is_sound();
     programs_are_safe();
-    match instruction_at(programs, &run.places, lane) {
-        Some(Instruction::Run { action }) => {
-            if !run.started[action as usize] {
-                return false;
-            }
-            finish(plan, programs, run, lane, action);
-            true
-        }
-        Some(Instruction::Signal { .. }) => false,
-        Some(Instruction::Await { .. }) => false,
+    match run_at(programs, &run.places, lane) {
         None => false,
+        Some(action) => {
+            if is_set(&run.started, action) {
+                finish(plan, programs, run, lane, action);
+                return true;
+            }
+            false
+        }
     }
 }
 

@@ -2,7 +2,7 @@
 ghost use Rattle.std.specs.Prelude.{◌≡◌, ◌↔◌, ◌+◌, ◌^◌, ◌<◌, ◌≤◌, ◌++◌, ◌∷◌, [], ℕ, length, get_or, IsTrue, IsSome, MatchOption, vec_capacity};
 ghost use Rattle.pst_scen.specs.Plan.{members};
 ghost use Rattle.pst_book.specs.Tables.{AreNext};
-ghost use Rattle.pst_programs.specs.declared.program.Instruction.TheVariants.{Run};
+ghost use Rattle.pst_programs.specs.declared.program.Instruction.TheVariants.{Run, Signal, Await};
 ghost use Rattle.pst_programs.specs.declared.program.Instruction.{Instruction};
 ghost use Rattle.pst_programs.specs.Machine.{IsAt};
 ghost use Rattle.pst_static.specs.Taking.{IsTaken};
@@ -12,7 +12,7 @@ use pst_programs::{Instruction, Program};
 use pst_scen::{Event, Plan};
 
 /// The instruction at which the lane stands, if it is a lane and not at its end.
-pub(crate) fn instruction_at(
+fn instruction_at(
     programs: &[Program],
     places: &[usize],
     lane: u32,
@@ -31,6 +31,48 @@ pub(crate) fn instruction_at(
         Some(steps[place])
     } else {
         None
+    }
+}
+
+/// The action at whose `Run` the lane stands, if it does.
+pub(crate) fn run_at(programs: &[Program], places: &[usize], lane: u32) -> Option<u32>
+    requires { length places.now ≡ length programs.now }
+    ensures at { MatchOption result ((a : ℕ) → IsAt programs.now places.now lane (Run a) → ⊥) (λ a. IsAt programs.now places.now lane (Run a)) }
+    ensures room { IsSome result → get_or places.now lane 0 + 1 < 2 ^ 64 }
+{
+    match instruction_at(programs, places, lane) {
+        Some(Instruction::Run { action }) => Some(action),
+        Some(Instruction::Signal { .. }) => None,
+        Some(Instruction::Await { .. }) => None,
+        None => None,
+    }
+}
+
+/// The action at whose `Signal` the lane stands, if it does.
+pub(crate) fn signal_at(programs: &[Program], places: &[usize], lane: u32) -> Option<u32>
+    requires { length places.now ≡ length programs.now }
+    ensures at { MatchOption result ((a : ℕ) → IsAt programs.now places.now lane (Signal a) → ⊥) (λ a. IsAt programs.now places.now lane (Signal a)) }
+    ensures room { IsSome result → get_or places.now lane 0 + 1 < 2 ^ 64 }
+{
+    match instruction_at(programs, places, lane) {
+        Some(Instruction::Signal { action }) => Some(action),
+        Some(Instruction::Run { .. }) => None,
+        Some(Instruction::Await { .. }) => None,
+        None => None,
+    }
+}
+
+/// The action at whose `Await` the lane stands, if it does.
+pub(crate) fn await_at(programs: &[Program], places: &[usize], lane: u32) -> Option<u32>
+    requires { length places.now ≡ length programs.now }
+    ensures at { MatchOption result ((a : ℕ) → IsAt programs.now places.now lane (Await a) → ⊥) (λ a. IsAt programs.now places.now lane (Await a)) }
+    ensures room { IsSome result → get_or places.now lane 0 + 1 < 2 ^ 64 }
+{
+    match instruction_at(programs, places, lane) {
+        Some(Instruction::Await { action }) => Some(action),
+        Some(Instruction::Run { .. }) => None,
+        Some(Instruction::Signal { .. }) => None,
+        None => None,
     }
 }
 

@@ -9,7 +9,7 @@ pub returns-then-places-lane : goal.returns-then-places-lane
 returns-then-places-lane c =
     let lane = c.loop-lane.lane in
     let e : length (program_at c.args.programs.now lane) ≡ length c.as_slice.result.now =
-    ap (λ (v : List Instruction). length v) (read_is c.args.programs.now lane c.index-programs-lane.result c.as_slice.result.now c.loop-lane-test.true c.index-programs-lane.is c.as_slice.ensures) in
+    ap (λ (v : List Instruction). length v) (read_is c.args.programs.now lane c.index-programs-lane.result c.as_slice.result.now c.loop-lane-test.true c.as_slice.ensures) in
     let k = c.if-places-lane.true in
     ((λ t. absurd cc), (λ h. absurd (h lane (omega (arith, e, k)))))
 
@@ -17,7 +17,7 @@ pub loop-lane-preserved : goal.loop-lane-preserved
 loop-lane-preserved c =
     let lane = c.loop-lane.lane in
     let e : length (program_at c.args.programs.now lane) ≡ length c.as_slice.result.now =
-    ap (λ (v : List Instruction). length v) (read_is c.args.programs.now lane c.index-programs-lane.result c.as_slice.result.now c.loop-lane-test.true c.index-programs-lane.is c.as_slice.ensures) in
+    ap (λ (v : List Instruction). length v) (read_is c.args.programs.now lane c.index-programs-lane.result c.as_slice.result.now c.loop-lane-test.true c.as_slice.ensures) in
     let past = c.if-places-lane.false in
     let here : get_or c.args.places.now lane 0 < length (program_at c.args.programs.now lane) → ⊥ = λ h. omega (arith, h, e, past) in
     λ m l h. ⊎_elim (λ q. here (subst (λ v. get_or c.args.places.now v 0 < length (program_at c.args.programs.now v)) q h)) (λ q. c.loop-lane.invariant m (omega (arith, l, q)) h) (cases_eq m lane)

@@ -13,12 +13,12 @@ returns-then-place-steps-clause-at c =
     let l = c.if-at-programs.false in
     let steps = c.as_slice-steps.result.now in
     at_read c.args.programs.now c.args.places.now c.args.lane steps (Run 0)
-    (read_is c.args.programs.now c.args.lane c.index-programs-at.result steps (omega (arith, l)) c.index-programs-at.is c.as_slice-steps.ensures) (let k = c.if-place-steps.true in omega (arith, k))
+    (read_is c.args.programs.now c.args.lane c.index-programs-at.result steps (omega (arith, l)) c.as_slice-steps.ensures) (let k = c.if-place-steps.true in omega (arith, k))
 
 pub returns-else-place-steps-clause-at : goal.returns-else-place-steps-clause-at
 returns-else-place-steps-clause-at c =
     let l = c.if-at-programs.false in
     let steps = c.as_slice-steps.result.now in
     let e : length (program_at c.args.programs.now c.args.lane) ≡ length steps =
-    ap (λ (v : List Instruction). length v) (read_is c.args.programs.now c.args.lane c.index-programs-at.result steps (omega (arith, l)) c.index-programs-at.is c.as_slice-steps.ensures) in
+    ap (λ (v : List Instruction). length v) (read_is c.args.programs.now c.args.lane c.index-programs-at.result steps (omega (arith, l)) c.as_slice-steps.ensures) in
     none_past c.args.programs.now c.args.places.now c.args.lane (let k = c.if-place-steps.false in omega (arith, e, k))
