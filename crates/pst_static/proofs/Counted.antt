@@ -1,12 +1,11 @@
 -- What an action awaits, by the places at which actions were dealt.
-use Rattle.std.proofs.Common.{◌≡◌, ◌≢◌, ◌⊎◌, ℕ, zero, suc, ◌<◌, ◌≤◌, List, [], ◌∷◌, ◌++◌, length, slice_get, Some, Bool, true, false, refl, sym, ap, ◌∙◌, subst, inl, inr, ⊎_elim, arith}
+use Rattle.std.proofs.Common.{◌≡◌, ◌≢◌, ◌⊎◌, ℕ, zero, suc, ◌<◌, ◌≤◌, List, [], ◌∷◌, length, slice_get, Some, Bool, true, false, refl, sym, ap, ◌∙◌, subst, inl, inr, ⊎_elim, arith}
 use Rattle.std.specs.Prelude.{Contains, nat_eq, if◌then◌else◌}
 use Rattle.std.proofs.lemmas.Bool.{cases_lt, cases_order, eq-eqb}
 use Rattle.pst_scen.specs.Rows.{Has}
 use Rattle.pst_scen.specs.Plan.{Entries}
 use Rattle.pst_programs.specs.declared.program.Instruction.{Instruction}
-use Rattle.pst_programs.specs.declared.program.Instruction.TheVariants.{Await}
-use Rattle.pst_programs.specs.Serial.{group_of, IsSerial, IsEarlier}
+use Rattle.pst_programs.specs.Serial.{group_of, IsSerial}
 use Rattle.pst_programs.specs.Lanes.{Dealt, on_lane}
 use Rattle.pst_programs.specs.Programs.{Needs, Counts}
 use Rattle.pst_programs.proofs.Places.{some_one, none_some}

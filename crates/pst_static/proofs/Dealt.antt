@@ -1,14 +1,13 @@
 -- Members that get lanes one after another.
-use Rattle.std.proofs.Common.{◌≡◌, ◌≢◌, ◌⊎◌, ℕ, zero, suc, ◌+◌, ◌<◌, ◌≤◌, List, [], ◌∷◌, ◌++◌, length, get_or, drop, take, Bool, true, false, refl, sym, ap, ap₂, ◌∙◌, subst, inl, inr, ⊎_elim, arith, length-append, append_assoc}
-use Rattle.std.specs.Prelude.{◌↔◌, Contains, nat_eq, if◌then◌else◌, cond, zip, max, count_by}
-use Rattle.std.proofs.lemmas.List.{get_or-set_same, get_or-set_other, length-set, get_or-replicate}
+use Rattle.std.proofs.Common.{◌≡◌, ◌≢◌, ◌⊎◌, ℕ, zero, suc, ◌+◌, ◌<◌, ◌≤◌, List, [], ◌∷◌, ◌++◌, length, get_or, drop, take, Bool, true, false, refl, sym, ap, ◌∙◌, subst, inl, inr, ⊎_elim, arith, length-append, append_assoc}
+use Rattle.std.specs.Prelude.{◌↔◌, Contains, nat_eq, if◌then◌else◌, cond, zip, max}
 use Rattle.std.proofs.lemmas.List.Sums.{sum_by_push, count_by-le-length}
 use Rattle.std.proofs.lemmas.List.Recursion.{is_count_by}
 use Rattle.std.proofs.lemmas.List.Elements.{Contains-append_left, Contains-push, Contains-push_cases, Contains-get_or}
 use Rattle.std.proofs.lemmas.Bool.{cases_Bool, cases_eq, cases_lt, cases_order, eqb-true, eq-eqb}
 use Rattle.pst_scen.specs.Plan.{Entries, places_from, members, member_count, widest_among, widest}
 use Rattle.pst_book.proofs.Elements.{none_in, cons_cases, contains_or}
-use Rattle.pst_book.proofs.Lists.{at_push, at_end, no_longer, Distinct}
+use Rattle.pst_book.proofs.Lists.{at_push, at_end, Distinct}
 use Rattle.pst_book.proofs.Numbers.{at_most, numbers_below}
 use Rattle.pst_programs.specs.Lanes.{Dealt, load, ComesBefore, AreFewest, Deals, Done, Then}
 use Rattle.pst_static.specs.Loads.{Precedes, IsFirstFree, AreLoads, IsDealtOut}

@@ -1,10 +1,10 @@
 -- Actions that are drafted one after another.
 use Rattle.std.proofs.Common.{◌≡◌, ◌≢◌, ◌⊎◌, ℕ, zero, suc, ◌+◌, ◌<◌, ◌≤◌, List, [], ◌∷◌, ◌++◌, length, length-set, get_or, map, replicate, set, take, take_all, slice_get, Some, Bool, true, false, refl, sym, ap, ◌∙◌, subst, inl, inr, ⊎_elim, arith, append_assoc}
-use Rattle.std.specs.Prelude.{◌↔◌, Contains, nat_eq, if◌then◌else◌}
+use Rattle.std.specs.Prelude.{Contains, nat_eq, if◌then◌else◌}
 use Rattle.std.specs.Global.{Vec}
-use Rattle.std.proofs.lemmas.List.Elements.{Contains-append_left, Contains-append_right, Contains-append_cases, Contains-push, Contains-push_cases}
+use Rattle.std.proofs.lemmas.List.Elements.{Contains-append_left, Contains-append_right, Contains-append_cases, Contains-push_cases}
 use Rattle.std.proofs.lemmas.List.{get_or-replicate, length-replicate}
-use Rattle.std.proofs.lemmas.Bool.{cases_eq, cases_order, eq-eqb, eqb-true, eqb-false}
+use Rattle.std.proofs.lemmas.Bool.{cases_eq, cases_order, eq-eqb, eqb-true}
 use Rattle.pst_scen.specs.declared.scenario.Scenario.{Scenario}
 use Rattle.pst_scen.specs.Rows.{Has}
 use Rattle.pst_scen.specs.Plan.{Entries}
@@ -22,8 +22,8 @@ use Rattle.pst_programs.specs.declared.program.Program.{Program}
 use Rattle.pst_programs.specs.Programs.{program_at, Counts, AreAwaited}
 use Rattle.pst_programs.proofs.Places.{some_one, run_await}
 use Rattle.pst_programs.proofs.Ranks.{index_of, rank, lesser}
-use Rattle.pst_programs.proofs.Dealing.{Rising, IsDealt, whole_dealt, on_more}
-use Rattle.pst_programs.proofs.Written.{get_below, get_of, of_get, of_awaits, to_awaits}
+use Rattle.pst_programs.proofs.Dealing.{Rising, whole_dealt, on_more}
+use Rattle.pst_programs.proofs.Written.{get_below, of_get, of_awaits, to_awaits}
 use Rattle.pst_programs.proofs.Holding.{ascends}
 use Rattle.pst_static.specs.Awaiting.{IsDealtAt, IsLatest, AreLatest, IsHeard, AreHeard, IsNews, IsNewsWritten, AreOnce, HavePlaces}
 use Rattle.pst_static.specs.Drafts.{Drafts, Drafted, AreDrafts, IsDrafting, IsDrafted, AreTables, AreEmpty}

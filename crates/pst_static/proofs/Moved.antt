@@ -1,10 +1,8 @@
 -- What a move of the machine changes in its tables.
-use Rattle.std.proofs.Common.{◌≡◌, ◌≢◌, ◌⊎◌, ℕ, zero, suc, ◌+◌, ◌<◌, ◌≤◌, List, [], ◌∷◌, ◌++◌, length, get_or, set, slice_get, Some, None, Bool, true, false, refl, sym, ap, ◌∙◌, subst, inl, inr, ⊎_elim, arith, length-append}
-use Rattle.std.specs.Prelude.{◌↔◌, Contains}
-use Rattle.std.proofs.lemmas.List.{get_or-set_same, get_or-set_other, length-set}
+use Rattle.std.proofs.Common.{◌≡◌, ℕ, zero, suc, ◌+◌, ◌<◌, ◌≤◌, List, [], ◌∷◌, ◌++◌, length, get_or, set, slice_get, Some, refl, sym, ap, ◌∙◌, subst, inl, inr, ⊎_elim, arith, length-append}
+use Rattle.std.specs.Prelude.{Contains}
 use Rattle.std.proofs.lemmas.List.Elements.{Contains-append_left, Contains-push, Contains-push_cases}
 use Rattle.std.proofs.lemmas.Option.{slice_get-get_or}
-use Rattle.std.proofs.lemmas.Bool.{cases_Bool, cases_eq, cases_lt}
 use Rattle.pst_scen.specs.declared.scenario.Scenario.{Scenario}
 use Rattle.pst_scen.specs.Plan.{Entries}
 use Rattle.pst_scen.specs.Plans.{IsPlanOf}
@@ -13,13 +11,12 @@ use Rattle.pst_book.proofs.Elements.{none_in}
 use Rattle.pst_book.proofs.Numbers.{none_of_them, one_more_has, at_most_bound}
 use Rattle.pst_book.specs.Tables.{AreSoManyOf}
 use Rattle.pst_programs.specs.declared.program.Instruction.{Instruction}
-use Rattle.pst_programs.specs.declared.program.Instruction.TheVariants.{Run, Signal, Await}
+use Rattle.pst_programs.specs.declared.program.Instruction.TheVariants.{Signal}
 use Rattle.pst_programs.specs.declared.program.Program.{Program}
 use Rattle.pst_programs.specs.declared.program.Move.{Move}
-use Rattle.pst_programs.specs.declared.program.Move.TheVariants as move
 use Rattle.pst_programs.specs.Machine.{State, Steps, Reaches, at_first, moved_on, IsAt, AreAt, Tells, Hears, Begins, Ends}
 use Rattle.pst_programs.specs.Machine as machine
-use Rattle.pst_programs.specs.Safe.{Stands, AreSafe}
+use Rattle.pst_programs.specs.Safe.{AreSafe}
 use Rattle.pst_programs.proofs.Kept.{Kept}
 use Rattle.pst_programs.proofs.Moves.{reached_kept}
 use Rattle.pst_programs.specs.Programs.{program_at}

@@ -1,18 +1,16 @@
 -- What an action awaits is written one by one, the least first.
 use Rattle.std.proofs.Common.{◌≡◌, ◌≢◌, ◌⊎◌, ℕ, zero, suc, ◌+◌, ◌-◌, ◌<◌, ◌≤◌, List, [], ◌∷◌, ◌++◌, length, get_or, map, set, slice_get, Some, Bool, true, false, refl, sym, ap, ◌∙◌, subst, inl, inr, ⊎_elim, arith, append_assoc}
-use Rattle.std.specs.Prelude.{◌↔◌, Option, None, MatchOption, Contains, sum_by}
+use Rattle.std.specs.Prelude.{◌↔◌, Option, None, Contains, sum_by}
 use Rattle.std.specs.Global.{Vec}
 use Rattle.std.proofs.lemmas.List.{get_or-set_same, get_or-set_other, length-set}
 use Rattle.std.proofs.lemmas.List.Sums.{sum_by-set}
 use Rattle.std.proofs.lemmas.List.Elements.{Contains-append_left, Contains-push, Contains-push_cases}
-use Rattle.std.proofs.lemmas.Bool.{cases_eq, cases_lt, cases_order}
-use Rattle.pst_scen.specs.Plan.{Entries}
-use Rattle.pst_book.proofs.Elements.{none_in, contains_or}
+use Rattle.std.proofs.lemmas.Bool.{cases_eq, cases_order}
+use Rattle.pst_book.proofs.Elements.{none_in}
 use Rattle.pst_book.proofs.Lists.{Ascending, ascending_push}
 use Rattle.pst_programs.specs.declared.program.Instruction.{Instruction}
 use Rattle.pst_programs.specs.declared.program.Instruction.TheVariants.{Await}
 use Rattle.pst_programs.specs.Lanes.{Dealt}
-use Rattle.pst_programs.specs.Programs.{Counts, AreAwaited}
 use Rattle.pst_programs.proofs.Places.{some_one}
 use Rattle.pst_programs.proofs.Written.{of_get}
 use Rattle.pst_static.specs.Awaiting.{IsDealtAt, IsHeard, AreHeard, HavePlaces, IsNews, IsFirstNews, IsLeastOf, IsNewsWritten}

@@ -2,8 +2,8 @@
 use Rattle.std.proofs.Common.{◌≡◌, ◌≢◌, ◌⊎◌, ℕ, zero, suc, ◌<◌, ◌≤◌, List, [], ◌∷◌, ◌++◌, length, get_or, map, slice_get, Some, Bool, true, false, refl, sym, ap, ◌∙◌, subst, inl, inr, ⊎_elim, arith, append_assoc}
 use Rattle.std.specs.Prelude.{◌↔◌, Contains, if◌then◌else◌}
 use Rattle.std.specs.Global.{Vec}
-use Rattle.std.proofs.lemmas.List.Elements.{Contains-append_left, Contains-append_right, Contains-append_cases}
-use Rattle.std.proofs.lemmas.Bool.{cases_Bool, cases_lt}
+use Rattle.std.proofs.lemmas.List.Elements.{Contains-append_right, Contains-append_cases}
+use Rattle.std.proofs.lemmas.Bool.{cases_lt}
 use Rattle.pst_scen.specs.Plan.{Entries}
 use Rattle.pst_book.proofs.Elements.{none_in, cons_cases, cons_first, cons_rest}
 use Rattle.pst_programs.specs.declared.program.Instruction.{Instruction}
@@ -14,7 +14,7 @@ use Rattle.pst_programs.specs.Lanes.{Dealt, on_lane, Deals}
 use Rattle.pst_programs.specs.Programs.{program_at, AreAwaited, IsAwaited, SignalOf, Told, Untold, Writes, Written, ArePrograms}
 use Rattle.pst_programs.specs.Programs as text
 use Rattle.pst_programs.proofs.Places.{run_one, run_await, signal_await}
-use Rattle.pst_programs.proofs.Dealing.{on_contains, contains_on}
+use Rattle.pst_programs.proofs.Dealing.{on_contains}
 use Rattle.pst_programs.proofs.Written.{of_awaits}
 use Rattle.pst_programs.proofs.OnlyOne.{SameAwaits, counts_same, back}
 use Rattle.pst_static.specs.Drafts.{Drafts, Drafted, signalled, AreDrafts}

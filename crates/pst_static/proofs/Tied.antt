@@ -1,20 +1,20 @@
 -- What a run keeps over its moves.
-use Rattle.std.proofs.Common.{◌≡◌, ◌≢◌, ◌⊎◌, ◌↔◌, ℕ, zero, suc, ◌+◌, ◌*◌, ◌<◌, ◌≤◌, List, [], ◌∷◌, ◌++◌, length, get_or, replicate, set, slice_get, Some, Bool, true, false, refl, sym, ap, ◌∙◌, subst, inl, inr, ⊎_elim, arith, length-append, length-set, get_or-set_same, get_or-set_other}
+use Rattle.std.proofs.Common.{◌≡◌, ◌⊎◌, ◌↔◌, ℕ, ◌+◌, ◌*◌, ◌<◌, ◌≤◌, List, [], ◌∷◌, ◌++◌, length, get_or, replicate, set, Bool, true, false, sym, ap, ◌∙◌, subst, inl, inr, ⊎_elim, arith, length-append, length-set, get_or-set_same, get_or-set_other}
 use Rattle.std.specs.Prelude.{Contains, vec_capacity}
 use Rattle.std.proofs.lemmas.List.Elements.{Contains-append_left, Contains-push, Contains-push_cases}
 use Rattle.std.proofs.lemmas.List.{get_or-replicate, length-replicate}
-use Rattle.std.proofs.lemmas.Bool.{cases_Bool, cases_eq, cases_lt}
+use Rattle.std.proofs.lemmas.Bool.{cases_Bool, cases_eq}
 use Rattle.pst_scen.specs.declared.scenario.Scenario.{Scenario}
 use Rattle.pst_scen.specs.declared.event.Event.{Event}
 use Rattle.pst_scen.specs.declared.event.Event.TheVariants as event
-use Rattle.pst_scen.specs.Trace.{Started, Ended, Runs, starts_of}
+use Rattle.pst_scen.specs.Trace.{Started, Runs, starts_of}
 use Rattle.pst_scen.specs.Plan.{Entries, members, widest}
 use Rattle.pst_scen.specs.Plans.{IsPlanOf}
 use Rattle.pst_order.specs.Facts.{LinksStates}
 use Rattle.pst_book.specs.Tables.{AreNext}
 use Rattle.pst_programs.specs.Programs.{ArePrograms}
 use Rattle.pst_order.specs.Laws.{WholeHasNoClash, MustIsInside, MembersAreThose, PlanGroupsAreWhole, PrefixIsByRule, RuleFits}
-use Rattle.pst_book.proofs.Elements.{none_in, cons_cases, cons_first, cons_rest}
+use Rattle.pst_book.proofs.Elements.{none_in, cons_first, cons_rest}
 use Rattle.pst_programs.specs.declared.program.Instruction.{Instruction}
 use Rattle.pst_programs.specs.declared.program.Instruction.TheVariants.{Run, Signal, Await}
 use Rattle.pst_programs.specs.declared.program.Program.{Program}

@@ -1,5 +1,5 @@
 -- Tables by which it is found what an action awaits.
-use Rattle.std.specs.Prelude.{◌≡◌, ◌≢◌, ◌⊎◌, ◌↔◌, ◌≤◌, ◌<◌, ℕ, suc, List, [], ◌++◌, length, get_or, map, Bool, true, false, Option, Some, slice_get, MatchOption, Contains}
+use Rattle.std.specs.Prelude.{◌≡◌, ◌≢◌, ◌⊎◌, ◌↔◌, ◌≤◌, ◌<◌, ℕ, suc, List, ◌++◌, length, get_or, map, Bool, true, false, Option, Some, slice_get, MatchOption, Contains}
 use Rattle.std.specs.Global.{Vec}
 use Rattle.pst_scen.specs.Rows.{Has}
 use Rattle.pst_scen.specs.Plan.{Entries}

@@ -1,16 +1,15 @@
 -- What a machine is seen as, and what its tables say of that.
-use Rattle.std.specs.Prelude.{◌≡◌, ◌↔◌, ◌*◌, ◌≤◌, ◌<◌, ℕ, List, length, get_or, ◌++◌, Bool, true, false, Contains}
+use Rattle.std.specs.Prelude.{◌≡◌, ◌↔◌, ◌*◌, ◌≤◌, ◌<◌, ℕ, List, length, get_or, Bool, true, false, Contains}
 use Rattle.pst_scen.specs.declared.scenario.Scenario.{Scenario}
-use Rattle.pst_scen.specs.Trace.{Started, starts_of}
-use Rattle.pst_scen.specs.Plan.{Entries, members, widest}
+use Rattle.pst_scen.specs.Trace.{Started}
+use Rattle.pst_scen.specs.Plan.{Entries, widest}
 use Rattle.pst_scen.specs.Plans.{IsPlanOf}
 use Rattle.pst_order.specs.Facts.{LinksStates}
 use Rattle.pst_book.specs.Tables.{AreNext}
 use Rattle.pst_programs.specs.declared.program.Program.{Program}
 use Rattle.pst_programs.specs.declared.program.Move.{Move}
-use Rattle.pst_programs.specs.declared.program.Instruction.TheVariants.{Run}
 use Rattle.pst_programs.specs.Programs.{ArePrograms}
-use Rattle.pst_programs.specs.Machine.{State, Reaches, IsAt, AreAt}
+use Rattle.pst_programs.specs.Machine.{State, Reaches}
 
 -- a machine is seen as its plan and its programs, and the state that it is in
 pub record View : Type 0 where

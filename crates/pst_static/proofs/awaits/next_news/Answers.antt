@@ -1,4 +1,4 @@
-use Rattle.std.proofs.Common.{◌≡◌, ◌<◌, length, subst, arith}
+use Rattle.std.proofs.Common.{◌≡◌, length, subst, arith}
 use Rattle.pst_static.specs.Awaiting.{IsFirstNews}
 use Rattle.pst_static.proofs.awaits.next_news.Goals as goal
 

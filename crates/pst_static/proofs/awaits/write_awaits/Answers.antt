@@ -1,4 +1,4 @@
-use Rattle.std.proofs.Common.{◌≡◌, ◌<◌, ◌≤◌, ◌∙◌, ℕ, List, length, get_or, set, sym, subst, refl, length-set, get_or-set_same, get_or-set_other, arith}
+use Rattle.std.proofs.Common.{◌≡◌, ◌<◌, ◌∙◌, ℕ, List, length, get_or, set, sym, subst, length-set, get_or-set_same, get_or-set_other, arith}
 use Rattle.pst_programs.proofs.Written.{get_below, of_get}
 use Rattle.pst_static.specs.Awaiting.{IsDealtAt, IsNews}
 use Rattle.pst_static.proofs.News.{turn_first, turn_last, turn_more, heard_more, less_left}

@@ -1,4 +1,3 @@
-use Rattle.std.proofs.Common.{arith}
 use Rattle.pst_book.proofs.Loops.{not_true}
 use Rattle.pst_static.proofs.Dealt.{free_same, free_better}
 use Rattle.pst_static.proofs.deal.better_of.Goals as goal

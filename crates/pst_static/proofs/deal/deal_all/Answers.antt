@@ -1,5 +1,5 @@
-use Rattle.std.proofs.Common.{◌≡◌, ◌+◌, ◌<◌, ◌≤◌, ◌∙◌, ◌∷◌, ◌++◌, [], ℕ, List, length, get_or, take, take_all, refl, ap, subst, sym, arith}
-use Rattle.pst_programs.specs.Lanes.{Dealt, Deals, Done}
+use Rattle.std.proofs.Common.{◌∙◌, [], length, get_or, take, take_all, refl, subst, sym, arith}
+use Rattle.pst_programs.specs.Lanes.{Deals, Done}
 use Rattle.pst_static.specs.Loads.{AreLoads, IsDealtOut}
 use Rattle.pst_static.proofs.Dealt.{group_fits, deals_more, take_next}
 use Rattle.pst_static.proofs.deal.deal_all.Goals as goal

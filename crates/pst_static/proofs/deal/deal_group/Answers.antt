@@ -1,4 +1,4 @@
-use Rattle.std.proofs.Common.{◌≡◌, ◌+◌, ◌<◌, ◌≤◌, ◌∙◌, ℕ, List, Bool, length, get_or, set, length-set, get_or-set_same, get_or-set_other, ap, true, false, subst, sym, arith}
+use Rattle.std.proofs.Common.{◌+◌, ◌<◌, ◌∙◌, ℕ, List, Bool, length, get_or, length-set, get_or-set_same, get_or-set_other, ap, true, false, sym, arith}
 use Rattle.pst_book.proofs.Starting.{members_begin, places_next, places_end}
 use Rattle.pst_static.proofs.Dealt.{sharing_first, some_free, sharing_more, sharing_last, load_le}
 use Rattle.pst_static.proofs.deal.deal_group.Goals as goal

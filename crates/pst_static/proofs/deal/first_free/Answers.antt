@@ -1,4 +1,4 @@
-use Rattle.std.proofs.Common.{◌≡◌, ◌<◌, length, subst, arith}
+use Rattle.std.proofs.Common.{◌≡◌, length, subst, arith}
 use Rattle.pst_static.specs.Loads.{IsFirstFree}
 use Rattle.pst_static.proofs.Dealt.{free_first}
 use Rattle.pst_static.proofs.deal.first_free.Goals as goal

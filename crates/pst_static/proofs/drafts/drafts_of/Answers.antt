@@ -1,4 +1,4 @@
-use Rattle.std.proofs.Common.{arith, subst}
+use Rattle.std.proofs.Common.{subst}
 use Rattle.pst_static.specs.Drafts.{AreTables}
 use Rattle.pst_static.proofs.Drafting.{drafting_first, drafted_all}
 use Rattle.pst_static.proofs.drafts.drafts_of.Goals as goal

@@ -1,4 +1,3 @@
-use Rattle.std.proofs.Common.{◌≡◌, length}
 use Rattle.pst_static.specs.Drafts.{IsDrafting}
 use Rattle.pst_static.proofs.drafts.drafts_of.Given as goal
 

@@ -1,4 +1,4 @@
-use Rattle.std.proofs.Common.{◌+◌, ◌<◌, sym, subst, arith}
+use Rattle.std.proofs.Common.{◌+◌, arith}
 use Rattle.pst_book.proofs.Parting.{words_none}
 use Rattle.pst_static.proofs.Stamped.{stamped_on, stamped_skip}
 use Rattle.pst_static.proofs.latest.stamp.Goals as goal

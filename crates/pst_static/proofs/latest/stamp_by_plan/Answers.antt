@@ -1,4 +1,4 @@
-use Rattle.std.proofs.Common.{ℕ, List, subst}
+use Rattle.std.proofs.Common.{subst}
 use Rattle.pst_scen.specs.declared.rows.Rows.{Rows}
 use Rattle.pst_static.specs.Stamps.{AreStamped}
 use Rattle.pst_static.proofs.Stamped.{stamped_both}

@@ -1,4 +1,4 @@
-use Rattle.std.proofs.Common.{◌≡◌, ◌∙◌, ◌<◌, ℕ, List, Bool, length, get_or, ap, sym, subst, false, arith}
+use Rattle.std.proofs.Common.{◌∙◌, ℕ, List, Bool, length, get_or, ap, sym, subst, false, arith}
 use Rattle.std.proofs.lemmas.List.{get_or-replicate, length-replicate}
 use Rattle.pst_book.specs.Tables.{AreAllAwaited}
 use Rattle.pst_static.proofs.Taken.{owed_first, hinted_first}

@@ -1,4 +1,4 @@
-use Rattle.std.proofs.Common.{◌<◌, ◌+◌, ◌-◌, ◌≡◌, ◌∷◌, [], ◌++◌, ℕ, List, length, ap, sym, subst, ◌∙◌, length-append, arith}
+use Rattle.std.proofs.Common.{◌<◌, ◌+◌, ◌≡◌, ◌∷◌, [], ℕ, List, length, ap, sym, subst, ◌∙◌, length-append, arith}
 use Rattle.pst_static.proofs.Taken.{Follows, follows_first, members_fresh, fewer, follows_on, follows_last}
 use Rattle.pst_static.proofs.order.take_all.Goals as goal
 

@@ -1,4 +1,4 @@
-use Rattle.std.proofs.Common.{◌<◌, ◌∙◌, ℕ, List, length, subst, sym, refl, arith, length-set, get_or-set_same, get_or-set_other, set, true, false}
+use Rattle.std.proofs.Common.{subst, sym, arith, length-set, get_or-set_same, get_or-set_other, set, true, false}
 use Rattle.pst_scen.specs.declared.rows.Rows.{Rows}
 use Rattle.pst_scen.specs.Rows.{Has}
 use Rattle.pst_book.specs.Tables.{AreLowered}

@@ -1,4 +1,4 @@
-use Rattle.std.proofs.Common.{◌≡◌, ◌/◌, ◌%◌, ◌<◌, get_or, true, false, subst, sym, ⊎_elim, arith}
+use Rattle.std.proofs.Common.{◌≡◌, ◌/◌, ◌%◌, get_or, true, false, subst, sym, ⊎_elim, arith}
 use Rattle.std.proofs.lemmas.Bool.{cases_eq}
 use Rattle.pst_book.proofs.Parting.{no_bit}
 use Rattle.pst_static.proofs.rows.mark_blocks.Goals as goal

@@ -1,4 +1,4 @@
-use Rattle.std.proofs.Common.{◌≡◌, ◌<◌, ◌∙◌, ℕ, List, Bool, length, get_or, ap, sym, subst, arith}
+use Rattle.std.proofs.Common.{◌∙◌, ℕ, List, Bool, length, ap, sym, subst, arith}
 use Rattle.pst_book.proofs.Loops.{not_true}
 use Rattle.pst_programs.specs.declared.program.Instruction.TheVariants.{Run}
 use Rattle.pst_programs.specs.Machine.{IsAt}

@@ -1,5 +1,5 @@
-use Rattle.std.proofs.Common.{◌<◌, length, arith}
-use Rattle.pst_static.proofs.Tied.{many, lane_there, signal_in, tell_room, told_on}
+use Rattle.std.proofs.Common.{arith}
+use Rattle.pst_static.proofs.Tied.{lane_there, signal_in, tell_room, told_on}
 use Rattle.pst_static.proofs.run.give.Goals as goal
 
 pub mark-requires : goal.mark-requires

@@ -1,4 +1,3 @@
-use Rattle.std.proofs.Common.{◌<◌, length, arith}
 use Rattle.pst_static.proofs.Tied.{lane_there, heard_on}
 use Rattle.pst_static.proofs.run.hear.Goals as goal
 

@@ -1,4 +1,4 @@
-use Rattle.std.proofs.Common.{◌≡◌, ◌+◌, ◌<◌, ◌≤◌, ◌∙◌, ℕ, List, length, ap, subst, sym, arith}
+use Rattle.std.proofs.Common.{◌+◌, ◌≤◌, ◌∙◌, ℕ, List, length, ap, subst, sym, arith}
 use Rattle.std.specs.Prelude.{vec_capacity}
 use Rattle.pst_scen.specs.Plan.{members}
 use Rattle.pst_static.specs.Standing.{HasBegun}

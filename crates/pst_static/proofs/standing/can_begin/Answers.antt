@@ -1,6 +1,5 @@
-use Rattle.std.proofs.Common.{◌≡◌, ◌<◌, ◌∙◌, ℕ, length, get_or, refl, subst, sym, arith, ⊎_elim}
+use Rattle.std.proofs.Common.{◌<◌, ◌∙◌, length, refl, subst, sym, arith, ⊎_elim}
 use Rattle.std.proofs.lemmas.Bool.{cases_lt, cases_eq}
-use Rattle.pst_book.proofs.Loops.{not_true}
 use Rattle.pst_static.specs.Standing.{CanJoin}
 use Rattle.pst_static.proofs.standing.can_begin.Goals as goal
 

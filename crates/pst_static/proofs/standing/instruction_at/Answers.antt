@@ -1,4 +1,4 @@
-use Rattle.std.proofs.Common.{◌≡◌, ◌<◌, ◌≤◌, List, length, get_or, ap, arith}
+use Rattle.std.proofs.Common.{◌≡◌, List, length, ap, arith}
 use Rattle.pst_programs.specs.declared.program.Instruction.{Instruction}
 use Rattle.pst_programs.specs.declared.program.Instruction.TheVariants.{Run}
 use Rattle.pst_programs.specs.Programs.{program_at}

@@ -1,4 +1,4 @@
-use Rattle.std.proofs.Common.{◌≡◌, ◌<◌, ◌≤◌, length, ⊎_elim, arith}
+use Rattle.std.proofs.Common.{length, ⊎_elim, arith}
 use Rattle.std.proofs.lemmas.Bool.{cases_lt}
 use Rattle.pst_programs.specs.declared.program.Instruction.TheVariants.{Run}
 use Rattle.pst_static.proofs.Moved.{none_beyond}

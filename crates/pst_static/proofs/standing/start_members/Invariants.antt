@@ -1,4 +1,4 @@
-use Rattle.std.proofs.Common.{◌≡◌, ◌<◌, ◌≤◌, ◌-◌, ℕ, length, get_or, true, false}
+use Rattle.std.proofs.Common.{◌≡◌, ◌<◌, ◌≤◌, ◌-◌, length, get_or}
 use Rattle.std.specs.Prelude.{vec_capacity}
 use Rattle.pst_static.proofs.Beginning.{Beginning}
 use Rattle.pst_static.proofs.standing.start_members.Given as goal

@@ -1,4 +1,4 @@
-use Rattle.std.proofs.Common.{◌≡◌, ◌∙◌, ◌↔◌, ℕ, List, length, ap, subst, sym}
+use Rattle.std.proofs.Common.{◌∙◌, ◌↔◌, ℕ, List, length, ap, subst}
 use Rattle.std.specs.Prelude.{IsTrue}
 use Rattle.pst_programs.specs.Machine.{HasEnded}
 use Rattle.pst_static.specs.Views.{View}

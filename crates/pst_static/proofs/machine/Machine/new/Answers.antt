@@ -1,5 +1,4 @@
-use Rattle.std.proofs.Common.{◌≡◌, ◌*◌, ◌≤◌, ◌∙◌, List, Bool, length, replicate, ap, false, arith}
-use Rattle.std.specs.Prelude.{vec_capacity}
+use Rattle.std.proofs.Common.{◌∙◌, replicate, ap, false, arith}
 use Rattle.pst_static.proofs.Tied.{run_first}
 use Rattle.pst_static.proofs.machine.Machine.new.Goals as goal
 
