@@ -37,7 +37,7 @@ module _ (clash : WholeHasNoClash) (must_in : MustIsInside) (those : MembersAreT
       omega (arith, few, l)
 
 module _ (those : MembersAreThose) (whole : PlanGroupsAreWhole) where
-  ascends : (s : Scenario) (p : Entries) → IsPlanOf s p → (g i j : ℕ) → i < j → j < length (members p.groups g) → get_or (members p.groups g) i 0 < get_or (members p.groups g) j 0
+  pub ascends : (s : Scenario) (p : Entries) → IsPlanOf s p → (g i j : ℕ) → i < j → j < length (members p.groups g) → get_or (members p.groups g) i 0 < get_or (members p.groups g) j 0
   ascends s p plan g i j h l =
       let i_in : i < length (members p.groups g) = omega (arith, h, l) in
       let m = (those p.groups g (get_or (members p.groups g) i 0)).0 (Contains-get_or (members p.groups g) i 0 i_in) in

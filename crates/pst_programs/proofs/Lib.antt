@@ -1,5 +1,5 @@
 mod Elements
-mod Events
+pub mod Events
 pub mod Places
 pub mod Kept
 pub mod Moves

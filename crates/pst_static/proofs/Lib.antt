@@ -1,0 +1,11 @@
+mod Taken
+mod Dealt
+mod Stamped
+mod Ranked
+mod Counted
+mod News
+mod Signalled
+mod Moved
+mod Drafting
+mod Tied
+mod Beginning
