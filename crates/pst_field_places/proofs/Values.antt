@@ -29,12 +29,13 @@ put_there (y ∷ ys) zero v x is = ap (λ (z : Node). Some (record z { fill = wi
 put_there (y ∷ ys) (suc n) v x is = put_there ys n v x is
 
 module _ (t : Scenario) (n action instance : ℕ) (first : List ℤ) where
-  by_node : (x y : Node) → slice_get t.nodes n ≡ Some y → x.fill ≡ fill.Compound action instance first → (y.fill ≡ x.fill) ⊎ MoreValues x.fill y.fill → HasValues t.nodes n first
+  by_node : (x y : Node) → slice_get t.nodes n ≡ Some y → x.fill ≡ fill.Compound action instance first → (y.fill ≡ x.fill) ⊎ MoreValues x.fill y.fill → HasValues t.nodes n action first
   by_node x y at is more = ⊎_elim
-      (λ (e : y.fill ≡ x.fill). record { node = y; action = action; instance = instance; values = first; is = at; has = e ∙ is; keeps = λ k v h. h })
+      (λ (e : y.fill ≡ x.fill). record { node = y; instance = instance; values = first; is = at; has = e ∙ is; keeps = λ k v h. h })
       (λ (o : MoreValues x.fill y.fill). let both : fill.Compound o.action o.instance o.old ≡ fill.Compound action instance first = sym o.was ∙ is in
-      let same : o.old ≡ first = cc in
-      record { node = y; action = o.action; instance = o.instance; values = o.new; is = at; has = o.is; keeps = λ k v h. o.keeps k v (subst (λ xs. slice_get xs k ≡ Some v) (sym same) h) })
+      let same : first ≡ o.old = cc in
+      let type : o.action ≡ action = cc in
+      record { node = y; instance = o.instance; values = o.new; is = at; has = o.is ∙ ap (λ a. fill.Compound a o.instance o.new) type; keeps = λ k v h. o.keeps k v (subst (λ xs. slice_get xs k ≡ Some v) same h) })
       more
 
 -- ---- a place
@@ -69,7 +70,7 @@ module _ (m : ModelTree) (root seed level : ℕ) (choices : List ℕ) (node : �
       (sym (read_is []) ∙ ap (read m root seed level) (append-nil choices) ∙ e)
 
   pub values_are : (digit : ℕ) (rest : List ℕ) (t : Scenario) → HasRead (read m root seed level (choices ++ digit ∷ rest)) t
-      → HasValues t.nodes node (at.known ++ value_number field (option_at (start_of seed (length choices) n) n digit) ∷ [])
+      → HasValues t.nodes node at.action (at.known ++ value_number field (option_at (start_of seed (length choices) n) n digit) ∷ [])
   values_are digit rest t has =
       let v = value_number field (option_at (start_of seed (length choices) n) n digit) in
       let u = put_value at.so_far node v in

@@ -21,4 +21,4 @@ abbrev pub FieldsHaveValues : Type 0
 FieldsHaveValues =
     (m : ModelTree) (root seed level : ℕ) (choices : List ℕ) (node : ℕ) (field : Field) (more : List Field) (digit : ℕ) (rest : List ℕ) (t : Scenario)
     → (at : IsAtField m root seed level choices node (field ∷ more)) → HasRead (read m root seed level (choices ++ digit ∷ rest)) t
-    → HasValues t.nodes node (at.known ++ value_number field (option_at (start_of seed (length choices) (size_of field.domain)) (size_of field.domain) digit) ∷ [])
+    → HasValues t.nodes node at.action (at.known ++ value_number field (option_at (start_of seed (length choices) (size_of field.domain)) (size_of field.domain) digit) ∷ [])

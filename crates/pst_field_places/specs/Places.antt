@@ -40,15 +40,13 @@ pub record IsAtField (m : ModelTree) (root seed level : ℕ) (choices : List ℕ
   pub goes : (left : List ℕ) → read_tree m seed root (nothing_yet level) 0 (choices ++ left)
       ≡ then_read (read_fields seed node fields known (λ values. read_pieces (read_piece m seed levels) (below values) node) so_far (length choices) left) (read_left m seed above)
 
--- the place at hand is one of a field, and these are the nodes so far
-pub record IsFieldPlace (m : ModelTree) (root seed level : ℕ) (choices : List ℕ) (place : FieldPlace) : Type 0 where
-  pub at : IsAtField m root seed level choices place.node place.fields.now
-  pub nodes : place.nodes.now ≡ at.so_far.nodes
+-- The place at hand is one of a field.
+abbrev pub IsFieldPlace : ModelTree → ℕ → ℕ → ℕ → List ℕ → FieldPlace → Type 0
+IsFieldPlace m root seed level choices place = IsAtField m root seed level choices place.node place.fields.now
 
--- a compound action stands at the node, and its first values are these
-pub record HasValues (nodes : List Node) (n : ℕ) (first : List ℤ) : Type 0 where
+-- a compound action of that type stands at the node, and its first values are these
+pub record HasValues (nodes : List Node) (n action : ℕ) (first : List ℤ) : Type 0 where
   pub node : Node
-  pub action : ℕ
   pub instance : ℕ
   pub values : List ℤ
   pub is : slice_get nodes n ≡ Some node

@@ -476,7 +476,7 @@ impl<'a> ListWalk<'a> {
     }
 
     /// The place at hand, where a field of a compound action is given its value there.
-    pub fn field(&self) -> Option<FieldPlace<'a, '_>>
+    pub fn field(&self) -> Option<FieldPlace<'a>>
         ensures { IfSome result (λ place. IsFieldPlace (view_model self.now.model) self.now.root self.now.seed self.now.level self.now.choices place) }
     {
         match &self.values {

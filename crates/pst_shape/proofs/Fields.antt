@@ -39,7 +39,7 @@ some_of (Some x) h = (x, refl)
 
 module _ (m : ModelTree) (root seed level : ℕ) (choices : List ℕ) where
   at_field : (f : Fields) (levels : ℕ) (below : _) (t : Tree) → Stands m root seed choices (at.Value f levels below) t → (node : ℕ) (fields : List Field) → node ≡ f.node → fields ≡ f.fields.now
-      → (a : IsAtField m root seed level choices node fields) × (a.so_far.nodes ≡ t.nodes)
+      → IsAtField m root seed level choices node fields
   at_field f levels below t h node fields of_node of_fields =
       let s = scenario_of m level t in
       let there = some_of (slice_get t.nodes f.node) h.opens.1 in
@@ -47,33 +47,29 @@ module _ (m : ModelTree) (root seed level : ℕ) (choices : List ℕ) where
       let known = compound.2 in
       let p = length choices in
       let above = above_of below.value in
-      let values : values_at (slice_get t.nodes f.node) ≡ known = ap values_at there.1 ∙ ap (λ g. values_at (Some (record there.0 { fill = g }))) compound.3 in (
-        record {
-          so_far = s;
-          firsts = refl;
-          entry = there.0;
-          action = compound.0;
-          instance = compound.1;
-          known = known;
-          is = ap (slice_get t.nodes) of_node ∙ there.1;
-          has = compound.3;
-          levels = levels;
-          below = below_fields f;
-          above = above;
-          goes = λ left. h.reads level left
-              ∙ ap (λ xs. then_read (read_fields seed f.node f.fields.now xs (λ values. read_pieces (read_piece m seed levels) (below_fields f values) f.node) s p left) (read_stack m seed below.value)) values
-              ∙ then_same (read_fields seed f.node f.fields.now known (λ values. read_pieces (read_piece m seed levels) (below_fields f values) f.node) s p left) (read_stack m seed below.value) (read_left m seed above) (stack_left m seed below.value)
-              ∙ ap (λ n. then_read (read_fields seed n f.fields.now known (λ values. read_pieces (read_piece m seed levels) (below_fields f values) n) s p left) (read_left m seed above)) (sym of_node)
-              ∙ ap (λ fs. then_read (read_fields seed node fs known (λ values. read_pieces (read_piece m seed levels) (below_fields f values) node) s p left) (read_left m seed above)) (sym of_fields);
-        },
-        refl,
-      )
+      let values : values_at (slice_get t.nodes f.node) ≡ known = ap values_at there.1 ∙ ap (λ g. values_at (Some (record there.0 { fill = g }))) compound.3 in
+      record {
+        so_far = s;
+        firsts = refl;
+        entry = there.0;
+        action = compound.0;
+        instance = compound.1;
+        known = known;
+        is = ap (slice_get t.nodes) of_node ∙ there.1;
+        has = compound.3;
+        levels = levels;
+        below = below_fields f;
+        above = above;
+        goes = λ left. h.reads level left
+            ∙ ap (λ xs. then_read (read_fields seed f.node f.fields.now xs (λ values. read_pieces (read_piece m seed levels) (below_fields f values) f.node) s p left) (read_stack m seed below.value)) values
+            ∙ then_same (read_fields seed f.node f.fields.now known (λ values. read_pieces (read_piece m seed levels) (below_fields f values) f.node) s p left) (read_stack m seed below.value) (read_left m seed above) (stack_left m seed below.value)
+            ∙ ap (λ n. then_read (read_fields seed n f.fields.now known (λ values. read_pieces (read_piece m seed levels) (below_fields f values) n) s p left) (read_left m seed above)) (sym of_node)
+            ∙ ap (λ fs. then_read (read_fields seed node fs known (λ values. read_pieces (read_piece m seed levels) (below_fields f values) node) s p left) (read_left m seed above)) (sym of_fields);
+      }
 
-  pub is_place : (x : At) (t : Tree) (nodes : List Node) (place : FieldPlace) → nodes ≡ t.nodes → Stands m root seed choices x t → IsFieldAt x nodes place → IsFieldPlace m root seed level choices place
-  is_place (at.Value f levels below) t nodes place same h is =
-      let a = at_field f levels below t h place.node place.fields.now is.0 is.1 in
-      record { at = a.0; nodes = is.2 ∙ same ∙ sym a.1 }
-  is_place (at.Going stack) t nodes place same h is = absurd is
-  is_place (at.Place spot levels parent below) t nodes place same h is = absurd is
-  is_place at.Whole t nodes place same h is = absurd is
-  is_place at.Dead t nodes place same h is = absurd is
+  pub is_place : (x : At) (t : Tree) (place : FieldPlace) → Stands m root seed choices x t → IsFieldAt x place → IsFieldPlace m root seed level choices place
+  is_place (at.Value f levels below) t place h is = at_field f levels below t h place.node place.fields.now is.0 is.1
+  is_place (at.Going stack) t place h is = absurd is
+  is_place (at.Place spot levels parent below) t place h is = absurd is
+  is_place at.Whole t place h is = absurd is
+  is_place at.Dead t place h is = absurd is

@@ -101,15 +101,14 @@ fn value_at(at: &At<'_>) -> Option<u32>
     }
 }
 
-// The place there, where a field of a compound action is given its value; these are the nodes so far.
-fn field_at<'a, 'b>(at: &At<'a>, nodes: &'b [Node]) -> Option<FieldPlace<'a, 'b>>
-    ensures { IfSome result (λ place. IsFieldAt at.now nodes.now place) }
+// The place there, where a field of a compound action is given its value.
+fn field_at<'a>(at: &At<'a>) -> Option<FieldPlace<'a>>
+    ensures { IfSome result (λ place. IsFieldAt at.now place) }
 {
     match at {
         At::Value { fields, .. } => Some(FieldPlace {
             node: fields.node,
             fields: fields.fields,
-            nodes,
         }),
         _ => None,
     }
@@ -185,10 +184,10 @@ impl<'a> Walk<'a> {
     }
 
     /// The place at hand, where a field of a compound action is given its value there.
-    pub fn field(&self) -> Option<FieldPlace<'a, '_>>
+    pub fn field(&self) -> Option<FieldPlace<'a>>
         ensures { IfSome result (λ place. (level : ℕ) → IsFieldPlace (view_model self.now.model) self.now.root self.now.seed level self.now.choices place) }
     {
-        field_at(at_of(&self.made, &self.start), &self.grown.nodes)
+        field_at(at_of(&self.made, &self.start))
     }
 
     /// What the last choice added, and nothing where there is no choice. All else stands as it stood.

@@ -19,5 +19,5 @@ returns c =
     IfSome_then c.field_at.result c.field_at.ensures
     (λ place is. λ (level : ℕ).
     subst (λ k. IsFieldPlace (view_model k.model) k.root k.seed level k.choices place) c.self.view_is
-    (is_place m w.root w.seed level (digits_of made) (at_after w.start made) t c.deref-2.result.now place c.deref-2.ensures.value (standing m w.root w.seed w.start made t c.self.invariant)
-    (subst (λ a. IsFieldAt a c.deref-2.result.now place) (c.at_of.ensures ∙ ap (λ l. at_after w.start (reverse l)) c.deref.ensures.value) is)))
+    (is_place m w.root w.seed level (digits_of made) (at_after w.start made) t place (standing m w.root w.seed w.start made t c.self.invariant)
+    (subst (λ a. IsFieldAt a place) (c.at_of.ensures ∙ ap (λ l. at_after w.start (reverse l)) c.deref.ensures.value) is)))
