@@ -602,6 +602,20 @@ impl<'a> ListWalk<'a> {
         }
     }
 
+    /// The scenario so far, in a copy, where the sources aren't read through.
+    pub fn so_far(&self) -> Result<Option<Scenario>, NoMemory>
+        ensures { IfOk result (λ o. IfSome o (λ t. IfRead (answer self.now) (λ s. t ≡ s))) }
+    {
+        match &self.values {
+            Some(_) => Ok(None),
+            None => {
+                self.links.ends();
+                let linked = copy_linked(self.alloc, &self.links, self.level)?;
+                Ok(Some(linked))
+            }
+        }
+    }
+
     /// Whether a constraint of what the list has read is refused at what is known.
     pub fn some_refused(&self) -> Result<bool, NoMemory>
         requires sound { IsSound (view_model self.now.model) }
