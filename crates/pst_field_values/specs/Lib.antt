@@ -1,0 +1,4 @@
+pub mod Fields
+pub mod Quantities
+pub mod Kept
+pub mod Laws
