@@ -1,5 +1,5 @@
 -- Constraints on the fields of a compound action that are being read.
-use Rattle.std.specs.Prelude.{◌≡◌, ℕ, List, length, map, Option, Some, None}
+use Rattle.std.specs.Prelude.{◌≡◌, ℕ, ℤ, List, ◌++◌, map, Option, Some, None}
 use Rattle.pst_expr.specs.Tree.{view}
 use Rattle.pst_narrow.specs.Solutions.{AreMet}
 use Rattle.pst_narrow.specs.Local.{LiesWithin}
@@ -23,3 +23,7 @@ pub record AreFieldsKeptBy (m : ModelTree) (s : Scenario) (n : ℕ) (k : Kept) :
 abbrev pub AreOfFields : ModelTree → Scenario → ℕ → Option Kept → Type 0
 AreOfFields m s n None = (t : Scenario) → IsLater m s t → Holds m t → ⊥
 AreOfFields m s n (Some k) = AreFieldsKeptBy m s n k
+
+-- further values
+abbrev pub with_values : Kept → List ℤ → Kept
+with_values k values = record k { values = k.values ++ values }

@@ -1,5 +1,5 @@
 -- What constraints speak of, each slot where its constraint stands.
-use Rattle.std.specs.Prelude.{◌≡◌, ℕ, ◌<◌, ℤ, List, map, Option, Some, slice_get}
+use Rattle.std.specs.Prelude.{◌≡◌, ℕ, zero, suc, ◌<◌, ℤ, List, [], ◌∷◌, ◌++◌, map, Option, Some, slice_get}
 use Rattle.pst_expr.specs.declared.ranges.Span.{Span}
 use Rattle.pst_model.specs.ConstraintTree.{SlotTree, Own}
 use Rattle.pst_model.specs.ModelTree.{ModelTree}
@@ -30,3 +30,12 @@ own_quantity n field = record { site = AtNode n; slot = Own field }
 -- the first ones are the fields of the action of a node, so many
 abbrev pub BeginWithFields : ℕ → ℕ → List Quantity → Type 0
 BeginWithFields n count qs = (field : ℕ) → field < count → slice_get qs field ≡ Some (own_quantity n field)
+
+-- the fields of the action of a node, so many
+abbrev pub own_quantities : ℕ → ℕ → List Quantity
+own_quantities n zero = []
+own_quantities n (suc count) = own_quantities n count ++ own_quantity n count ∷ []
+
+-- those of slots at a site
+abbrev pub slot_quantities : SiteTree → List SlotTree → List Quantity
+slot_quantities site slots = map (λ slot. record { site = site; slot = slot }) slots

@@ -3,11 +3,11 @@
 //! traversal. They tell which values of the next field needn't be tried.
 #![tactic(auto)]
 
-
+mod bounds;
 mod laws;
-
+mod subject;
 mod values;
-
+mod written;
 
 pub use laws::excluded_fields_hold_nothing;
 pub use values::values_of_fields;
