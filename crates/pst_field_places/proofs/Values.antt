@@ -1,5 +1,5 @@
 -- The values that fields have in whatever longer lists read.
-use Rattle.std.proofs.Common.{◌≡◌, ◌⊎◌, ℕ, zero, suc, ◌+◌, ℤ, List, [], ◌∷◌, ◌++◌, take, drop, length, Bool, true, false, nat_lt, if◌then◌else◌, Some, refl, sym, ap, ◌∙◌, subst, ⊎_elim, append-nil}
+use Rattle.std.proofs.Common.{◌≡◌, ◌⊎◌, ℕ, zero, suc, ◌+◌, ℤ, List, [], ◌∷◌, ◌++◌, take, drop, length, Bool, true, false, nat_lt, if◌then◌else◌, Some, sym, ap, ◌∙◌, subst, ⊎_elim, append-nil}
 use Rattle.std.specs.Prelude.{slice_get}
 use Rattle.std.proofs.lemmas.Option.{none-some, same_Some}
 use Rattle.pst_rng.specs.Words.{start_of}
@@ -7,15 +7,13 @@ use Rattle.pst_expr.specs.Spans.{size_of}
 use Rattle.pst_model.specs.declared.action.Field.{Field}
 use Rattle.pst_model.specs.ModelTree.{ModelTree}
 use Rattle.pst_scen.specs.declared.tree.Node.{Node}
-use Rattle.pst_scen.specs.declared.tree.Fill.{Fill}
 use Rattle.pst_scen.specs.declared.tree.Fill.TheVariants as fill
 use Rattle.pst_scen.specs.declared.scenario.Scenario.{Scenario}
-use Rattle.pst_legal.specs.Growing.{nothing_yet}
-use Rattle.pst_legal.specs.Reading.{Reading, Wants, Stops, Reads, Reader, then_read, option_at, with_value, node_with_value, put_value, value_number, read_fields, read_pieces, read_piece, read_tree}
+use Rattle.pst_legal.specs.Reading.{Reading, Wants, Stops, Reader, then_read, option_at, with_value, node_with_value, put_value, value_number, read_fields, read_pieces, read_piece}
 use Rattle.pst_legal.specs.SupplyReading.{read_supply}
-use Rattle.pst_legal.specs.ValueReading.{Answer, Options, Dead, read_values, answer_of, read}
+use Rattle.pst_legal.specs.ValueReading.{Answer, Options, read_values, answer_of, read}
 use Rattle.pst_built.specs.SoFar.{HasRead}
-use Rattle.pst_built.specs.Onward.{Keeps, MoreValues, MoreNode, Onward}
+use Rattle.pst_built.specs.Onward.{MoreValues, Onward}
 use Rattle.pst_field_places.specs.Places.{read_left, IsAtField, HasValues}
 use Rattle.pst_field_places.specs.Laws.{FieldsArePlaces, FieldsHaveValues}
 use Rattle.pst_field_places.proofs.Onward.{stands_whole, stands_read}
