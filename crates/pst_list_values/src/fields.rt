@@ -133,7 +133,7 @@ pub(crate) fn skip_fields(
     let Some(place) = lists.field() else {
         return Ok(Skipped::nothing(alloc, from));
     };
-    let Some(field) = place.fields.first() else {
+    let Some((field, _more)) = place.fields.split_first() else {
         return Ok(Skipped::nothing(alloc, from));
     };
     let Some(scenario) = lists.so_far()? else {
