@@ -1,11 +1,11 @@
 -- What later scenarios keep of a site: its constraints, what its slots stand for, and that more is known of them.
-use Rattle.std.proofs.Common.{◌≡◌, ◌⊎◌, ℕ, ℤ, List, Contains, Option, Some, None, refl, sym, ap, ◌∙◌, subst, inl, inr}
+use Rattle.std.proofs.Common.{◌≡◌, ◌⊎◌, ℕ, ℤ, List, length, Contains, Option, Some, None, refl, sym, ap, ◌∙◌, subst, inl, inr, arith}
 use Rattle.std.specs.Prelude.{slice_get}
 use Rattle.std.proofs.lemmas.Option.{none-some, option_and_then_some}
 use Rattle.pst_expr.specs.declared.ranges.Span.{Span}
 use Rattle.pst_domain.specs.Bounds.{Holds as HoldsIn, IsInside}
 use Rattle.pst_model.specs.ConstraintTree.{SlotTree, Own, Through, ConstraintTree}
-use Rattle.pst_model.specs.ActivityTree.{Traverse}
+use Rattle.pst_model.specs.ActivityTree.{StepTree, Traverse}
 use Rattle.pst_model.specs.ModelTree.{ModelTree, ActionTree}
 use Rattle.pst_model.specs.Sound.{IsSound}
 use Rattle.pst_scen.specs.declared.tree.Node.{Node}
@@ -19,11 +19,14 @@ use Rattle.pst_legal.specs.Slots.{behind, unread_slot, type_behind, node_behind,
 use Rattle.pst_legal.specs.Constraints.{OfCompound, Inline}
 use Rattle.pst_built.specs.Onward.{MoreValues}
 use Rattle.pst_built.proofs.Inside.{Narrower}
-use Rattle.pst_built.proofs.Children.{behind_more}
+use Rattle.pst_built.proofs.Children.{behind_more, stands_there}
 use Rattle.pst_built.proofs.MoreKnownNodes.{HandlesFit, node_inside, inline_inside}
 use Rattle.pst_built.proofs.MoreKnownRefused.{still_has}
 use Rattle.pst_built.proofs.Unread.{handles_fit}
 use Rattle.pst_built.proofs.Sound.{pools_are_small}
+use Rattle.pst_slots.specs.Stated.{Stated, statement_of}
+use Rattle.pst_slots.specs.Listed.{action_constraints}
+use Rattle.pst_slots.proofs.Found.{found}
 use Rattle.pst_constraint_sites.specs.Sites.{SiteTree, AtNode, AtTraversal, AtAct, AtOutput, AtClaim, AtFirst, slot_at}
 use Rattle.pst_constraint_sites.specs.Laws.{HasAt}
 use Rattle.pst_field_values.specs.declared.subject.Subject.{Subject}
@@ -136,3 +139,25 @@ value_read m t n i v is = by_node (slice_get t.nodes n) is
     by_node : (o : Option Node) → slice_get (values_of o) i ≡ Some v → value_of (maybe_fill_slot m t o (Own i)) ≡ Some v
     by_node None read = absurd (none-some v read)
     by_node (Some node) read = by_fill node.fill read
+
+-- ---- all constraints of a site
+
+type_there : (o : Option ActionTree) (k : ConstraintTree) → Contains (action_constraints o) k → (type : ActionTree) × (o ≡ Some type) × Contains type.constraints k
+type_there None k has = let l = has.1 in absurd (omega (arith, l))
+type_there (Some type) k has = (type, refl, has)
+
+pub type_lasts : (m : ModelTree) (s : Scenario) → IsSound m → (n action instance : ℕ) (fields : List ℤ) (node : Node) → slice_get s.nodes n ≡ Some node
+    → node.fill ≡ fill.Compound action instance fields → (k : ConstraintTree) → Contains (action_constraints (type_of m action)) k → (t : Scenario) → IsLater m s t → HasAt m t (AtNode n) k
+type_lasts m s sound n action instance fields node is filled k has t later =
+    let o = type_there (type_of m action) k has in
+    compound_lasts m s t sound later n action instance fields node o.0 k is filled o.1 o.2
+
+pub stated_stands : (m : ModelTree) (nodes : List Node) (n : ℕ) (x : Stated) → statement_of m nodes n ≡ Some x → StandsFor m nodes x.top n x.step x.indices
+stated_stands m nodes n x is = found m nodes (length nodes) n x is
+
+pub traversal_lasts : (m : ModelTree) (s : Scenario) → IsSound m → (n top action : ℕ) (handle : Option ℕ) (inline : List ConstraintTree) (indices : List ℕ)
+    → StandsFor m s.nodes top n (Traverse action handle inline) indices → (k : ConstraintTree) → Contains inline k → (t : Scenario) → IsLater m s t → HasAt m t (AtTraversal n top indices) k
+traversal_lasts m s sound n top action handle inline indices stands k has t later = inline_lasts m s t sound later n top action handle inline indices k stands has
+
+pub traversal_there : (m : ModelTree) (nodes : List Node) (n top : ℕ) (step : StepTree) (indices : List ℕ) → StandsFor m nodes top n step indices → IsThere nodes (AtTraversal n top indices)
+traversal_there m nodes n top step indices stands = stands_there m nodes top n step indices stands

@@ -1,5 +1,5 @@
 -- Lists of quantities.
-use Rattle.std.proofs.Common.{◌≡◌, ◌⊎◌, ℕ, zero, suc, ◌+◌, ◌<◌, ◌≤◌, ℤ, List, [], ◌∷◌, ◌++◌, length, map, Option, Some, None, refl, sym, ap, ◌∙◌, subst, inl, inr, length-append, arith}
+use Rattle.std.proofs.Common.{◌≡◌, ◌⊎◌, ℕ, zero, suc, ◌+◌, ◌<◌, ◌≤◌, ℤ, List, [], ◌∷◌, ◌++◌, length, map, Option, Some, None, refl, sym, ap, ◌∙◌, subst, inl, inr, length-append, add-one, arith}
 use Rattle.std.specs.Prelude.{slice_get}
 use Rattle.std.specs.Option.{option_and_then}
 use Rattle.std.proofs.lemmas.List.{map-append}
@@ -7,12 +7,12 @@ use Rattle.std.proofs.lemmas.Option.{none-some, same_Some, slice_get_within}
 use Rattle.pst_expr.specs.declared.ranges.Span.{Span}
 use Rattle.pst_expr.specs.Value.{variable_value}
 use Rattle.pst_domain.specs.Bounds.{Holds as HoldsIn, bound_of as bound_at}
-use Rattle.pst_model.specs.ConstraintTree.{SlotTree}
+use Rattle.pst_model.specs.ConstraintTree.{SlotTree, Own}
 use Rattle.pst_model.specs.ModelTree.{ModelTree}
 use Rattle.pst_scen.specs.declared.tree.Node.{Node}
 use Rattle.pst_scen.specs.declared.scenario.Scenario.{Scenario}
 use Rattle.pst_legal.specs.Standing.{value_of, bound_of}
-use Rattle.pst_legal.specs.Slots.{compound_in}
+use Rattle.pst_legal.specs.Slots.{compound_in, node_slot}
 use Rattle.pst_constraint_sites.specs.Sites.{SiteTree, AtNode, slot_at}
 use Rattle.pst_field_values.specs.Fields.{count_of, field_count, IsLater}
 use Rattle.pst_field_values.specs.Quantities.{Quantity, standing_of, quantity_values, quantity_bounds, own_quantity, own_quantities, slot_quantities, BeginWithFields}
@@ -61,6 +61,11 @@ begin_with n (suc count) field less = by_place (field_or_last)
     by_place (inl l) = get_left (own_quantities n count) (own_quantity n count ∷ []) field (own_quantity n field) (begin_with n count field l)
     by_place (inr e) =
         get_right (own_quantities n count) (own_quantity n count ∷ []) 0 field (let l = length_own n count in omega (arith, l, e)) ∙ ap (λ k. Some (own_quantity n k)) (sym e)
+
+pub own_more : (m : ModelTree) (s : Scenario) (n count : ℕ) → quantity_bounds m s (own_quantities n (count + 1)) ≡ quantity_bounds m s (own_quantities n count) ++ bound_of (node_slot m s n (Own count)) ∷ []
+own_more m s n count =
+    ap (λ c. quantity_bounds m s (own_quantities n c)) (add-one count)
+    ∙ map-append (λ q. bound_of (standing_of m s q)) (own_quantities n count) (own_quantity n count ∷ [])
 
 -- where an action has fields, its node is there
 pub node_there : (m : ModelTree) (nodes : List Node) (n field : ℕ) → field < field_count m nodes n → HasNode nodes n
