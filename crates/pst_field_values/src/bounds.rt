@@ -117,6 +117,7 @@ fn field_bound(
 }
 
 /// The bounds of the fields of the action.
+#[tactic(auto, using(crate::proofs::Tables::own_more))]
 pub(crate) fn field_bounds(
     alloc: Global,
     scene: &Scene<'_>,
