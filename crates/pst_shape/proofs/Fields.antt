@@ -19,7 +19,7 @@ use Rattle.pst_shape.specs.Fields.{IsFieldAt}
 use Rattle.pst_shape.specs.Made.{Stands}
 
 -- what is left above
-above_of : Stack → List Pending
+abbrev above_of : Stack → List Pending
 above_of Empty = []
 above_of (Over' levels parent frame parts pointer below) = record { levels = levels; pieces = pieces_of (context_of frame.value) parts; parent = parent } ∷ above_of below
 
@@ -31,7 +31,7 @@ then_same (Reads s p left) f g same = same s p left
 stack_left : (m : ModelTree) (seed : ℕ) (stack : Stack) (s : Scenario) (p : ℕ) (left : List ℕ) → read_stack m seed stack s p left ≡ read_left m seed (above_of stack) s p left
 stack_left m seed Empty s p left = refl
 stack_left m seed (Over' levels parent frame parts pointer below) s p left =
-    then_same (read_pieces (read_piece m seed levels) (pieces_of (context_of frame.value) parts) parent s p left) (read_stack m seed below) (read_left m seed (above_of below)) (stack_left m seed below)
+    then_same (read_pieces (read_piece m seed levels) (pieces_of (context_of frame.value) parts) parent s p left) (read_stack m seed below) (read_left m seed (above_of below)) (λ t q rest. stack_left m seed below t q rest)
 
 some_of : (o : Option Node) → IsCompound o → (x : Node) × (o ≡ Some x)
 some_of None h = absurd h
