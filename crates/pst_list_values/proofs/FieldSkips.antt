@@ -107,17 +107,21 @@ last_there : (xs : List ℤ) (v : ℤ) → slice_get (xs ++ v ∷ []) (length xs
 last_there [] v = refl
 last_there (x ∷ xs) v = last_there xs v
 
-options_of : (a : Answer) (count : ℕ) (s : Scenario) → HasOptions a count → IfRead a (λ t. s ≡ t) → a ≡ Options s count
+pub options_of : (a : Answer) (count : ℕ) (s : Scenario) → HasOptions a count → IfRead a (λ t. s ≡ t) → a ≡ Options s count
 options_of (Options t n) count s many same = ap (λ x. Options x n) (sym same) ∙ ap (Options s) many
 options_of Dead count s many same = absurd many
 options_of (Whole t) count s many same = absurd many
+
+-- the list has read the scenario
+pub read_so : (k : Kept) (s : Scenario) (count : ℕ) → HasOptions (answer k) count → IfRead (answer k) (λ t. s ≡ t) → HasRead (answer k) s
+read_so k s count many same = subst (λ a. HasRead a s) (sym (options_of (answer k) count s many same)) refl
 
 module _ (k : Kept) (node : ℕ) (field : Field) (more : List Field) (at : IsAtField (view_model k.model) k.root k.seed k.level k.choices node (field ∷ more)) (s : Scenario) (count : ℕ)
     (is : answer k ≡ Options s count) (places : FieldsArePlaces) where
   abbrev m : ModelTree
   m = view_model k.model
 
-  size_is : count ≡ size_of field.domain
+  pub size_is : count ≡ size_of field.domain
   size_is = (places m k.root k.seed k.level k.choices node field more s count at is).1
 
   has_read : HasRead (read m k.root k.seed k.level k.choices) s

@@ -101,18 +101,21 @@ fn skip_field(
     is_domain(&field.domain);
     let places = lists.count()?;
     let conflict = Conflict::earlier(alloc, places);
-    let Some(mut valued) = values_of(alloc, lists.model(), scenario, node)? else {
-        return Ok(Skipped {
+    let found = values_of(alloc, lists.model(), scenario, node)?;
+    match found {
+        None => Ok(Skipped {
             digit: count,
             conflict,
-        });
-    };
-    let start = lists.start(count)?;
-    let found = valued.skip(&field.domain, start, from)?;
-    Ok(Skipped {
-        digit: found.place,
-        conflict,
-    })
+        }),
+        Some(mut valued) => {
+            let start = lists.start(count)?;
+            let passed = valued.skip(&field.domain, start, from)?;
+            Ok(Skipped {
+                digit: passed.place,
+                conflict,
+            })
+        }
+    }
 }
 
 /// The options of the place at hand that are skipped, from one on, before the sources are read through: where it is
