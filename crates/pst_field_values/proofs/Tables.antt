@@ -2,6 +2,7 @@
 use Rattle.std.proofs.Common.{◌≡◌, ◌⊎◌, ℕ, zero, suc, ◌+◌, ◌<◌, ◌≤◌, ℤ, List, [], ◌∷◌, ◌++◌, length, map, Option, Some, None, refl, sym, ap, ◌∙◌, subst, inl, inr, length-append, add-one, arith}
 use Rattle.std.specs.Prelude.{slice_get}
 use Rattle.std.specs.Option.{option_and_then}
+use Rattle.std.proofs.lemmas.Bool.{cases_lt}
 use Rattle.std.proofs.lemmas.List.{map-append}
 use Rattle.std.proofs.lemmas.Option.{none-some, same_Some, slice_get_within}
 use Rattle.pst_expr.specs.declared.ranges.Span.{Span}
@@ -52,16 +53,14 @@ length_own n (suc count) = let l = length-append (own_quantities n count) (own_q
 
 last_or : (n count field : ℕ) → field < count + 1 → (field < count → slice_get (own_quantities n count) field ≡ Some (own_quantity n field))
     → slice_get (own_quantities n count ++ own_quantity n count ∷ []) field ≡ Some (own_quantity n field)
-last_or n count field less before = by_place here_or_last
+last_or n count field less before = by_place (cases_lt field count)
   where
-    here_or_last : (field < count) ⊎ (field ≡ count)
-    here_or_last = omega (arith, less)
-
-    by_place : (field < count) ⊎ (field ≡ count) → slice_get (own_quantities n count ++ own_quantity n count ∷ []) field ≡ Some (own_quantity n field)
+    by_place : (field < count) ⊎ (count ≤ field) → slice_get (own_quantities n count ++ own_quantity n count ∷ []) field ≡ Some (own_quantity n field)
     by_place (inl l) = get_left (own_quantities n count) (own_quantity n count ∷ []) field (own_quantity n field) (before l)
-    by_place (inr e) =
+    by_place (inr l) =
         let long = length_own n count in
-        get_right (own_quantities n count) (own_quantity n count ∷ []) 0 field (omega (arith, long, e)) ∙ ap (λ k. Some (own_quantity n k)) (sym e)
+        let e : count ≡ field = omega (arith, l, less) in
+        get_right (own_quantities n count) (own_quantity n count ∷ []) 0 field (omega (arith, long, e)) ∙ ap (λ k. Some (own_quantity n k)) e
 
 pub begin_with : (n count : ℕ) → BeginWithFields n count (own_quantities n count)
 begin_with n zero field less = absurd (omega (arith, less))

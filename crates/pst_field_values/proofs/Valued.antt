@@ -1,6 +1,7 @@
 -- The values of fields, under the constraints that rest on them.
 use Rattle.std.proofs.Common.{◌≡◌, ◌⊎◌, ℕ, ◌<◌, ◌≤◌, ℤ, List, [], ◌∷◌, ◌++◌, length, map, All, Contains, Option, Some, None, refl, sym, ap, ◌∙◌, subst, inl, inr, ⊎_elim, arith}
 use Rattle.std.specs.Prelude.{slice_get}
+use Rattle.std.proofs.lemmas.Bool.{cases_lt}
 use Rattle.std.proofs.lemmas.Option.{slice_get_within}
 use Rattle.pst_expr.specs.declared.ranges.Span.{Span}
 use Rattle.pst_expr.specs.declared.tree.Expr.{Expr}
@@ -34,11 +35,8 @@ holds_none bound o none = subst (HoldsIn bound) (sym none) tt
 
 -- values within the bounds of all variables, of which there are no more
 lies_all : (bounds : List (Option Span)) (values : List (Option ℤ)) → length values ≤ length bounds → AreWithin bounds values → (v : ℕ) → LiesWithin bounds values v
-lies_all bounds values few within v = by_place (here_or_past)
+lies_all bounds values few within v = by_place (cases_lt v (length bounds))
   where
-    here_or_past : (v < length bounds) ⊎ (length bounds ≤ v)
-    here_or_past = omega arith
-
     by_place : (v < length bounds) ⊎ (length bounds ≤ v) → LiesWithin bounds values v
     by_place (inl l) = within v l
     by_place (inr l) = holds_none (bound_at bounds v) (variable_value values v) (no_value_past values v (omega (arith, l, few)))

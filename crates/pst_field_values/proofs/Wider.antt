@@ -90,11 +90,11 @@ module _ (m : ModelTree) (s : Scenario) (sound : IsSound m) (subject : Subject) 
       below : (j i : ℕ) → slice_get terms j ≡ Some (term.Variable i) → i < length every
       below j i is =
           let slot = slot_of j (term.Variable i) is in
-          by (at.each j slot.0 (term.Variable i) slot.1 is) slot.0 slot.1
+          by slot.0 slot.1 (at.each j slot.0 (term.Variable i) slot.1 is)
         where
-          by : {slot : SlotTree} → (i ≡ base + j) ⊎ ((i < subject.fields) × IsFieldAt subject position slot i) → (x : SlotTree) → slice_get slots j ≡ Some x → i < length every
-          by (inl e) x there = slice_get_within every i (record { site = site; slot = x }) (slot_there j x i e there)
-          by (inr field) x there = slice_get_within every i (own_quantity subject.node i) (field_there i field.0)
+          by : (x : SlotTree) → slice_get slots j ≡ Some x → (i ≡ base + j) ⊎ ((i < subject.fields) × IsFieldAt subject position x i) → i < length every
+          by x there (inl e) = slice_get_within every i (record { site = site; slot = x }) (slot_there j x i e there)
+          by x there (inr field) = slice_get_within every i (own_quantity subject.node i) (field_there i field.0)
 
   pub kept_new : (k : ConstraintTree) (terms : List Term) (e : Expression) → AreTermsAt subject position k.slots base terms → IsMirror terms k.expression e → Lasts m s site k
       → IsKept m s (qs ++ slot_quantities site k.slots) e
