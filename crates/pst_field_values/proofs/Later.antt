@@ -1,7 +1,7 @@
 -- What later scenarios keep of a site: its constraints, what its slots stand for, and that more is known of them.
 use Rattle.std.proofs.Common.{◌≡◌, ◌⊎◌, ℕ, ℤ, List, length, Contains, Option, Some, None, refl, sym, ap, ◌∙◌, subst, inl, inr, arith}
 use Rattle.std.specs.Prelude.{slice_get}
-use Rattle.std.proofs.lemmas.Option.{none-some, option_and_then_some}
+use Rattle.std.proofs.lemmas.Option.{none-some, same_Some, option_and_then_some}
 use Rattle.pst_expr.specs.declared.ranges.Span.{Span}
 use Rattle.pst_domain.specs.Bounds.{Holds as HoldsIn, IsInside}
 use Rattle.pst_model.specs.ConstraintTree.{SlotTree, Own, Through, ConstraintTree}
@@ -16,12 +16,11 @@ use Rattle.pst_legal.specs.Types.{type_of, action_field}
 use Rattle.pst_legal.specs.Statements.{StandsFor, handle_node}
 use Rattle.pst_legal.specs.Standing.{Standing, Known, Lacking, Open, Unread, value_of, bound_of, value_or, unread, field_span}
 use Rattle.pst_legal.specs.Slots.{behind, unread_slot, type_behind, node_behind, compound_at, compound_in, node_slot, inline_slot, fill_slot, maybe_fill_slot}
-use Rattle.pst_legal.specs.Constraints.{OfCompound, Inline}
+use Rattle.pst_legal.specs.Constraints.{HasConstraint, OfCompound, Inline}
 use Rattle.pst_built.specs.Onward.{MoreValues}
 use Rattle.pst_built.proofs.Inside.{Narrower}
-use Rattle.pst_built.proofs.Children.{behind_more, stands_there}
+use Rattle.pst_built.proofs.Children.{behind_more, stands_more, stands_there}
 use Rattle.pst_built.proofs.MoreKnownNodes.{HandlesFit, node_inside, inline_inside}
-use Rattle.pst_built.proofs.MoreKnownRefused.{still_has}
 use Rattle.pst_built.proofs.Unread.{handles_fit}
 use Rattle.pst_built.proofs.Sound.{pools_are_small}
 use Rattle.pst_slots.specs.Stated.{Stated, statement_of}
@@ -57,6 +56,31 @@ top_there m nodes top handle n leads =
     option_and_then_some (λ action. handle_node m nodes top action handle) (compound_at nodes top) n leads
     (λ action at on. option_and_then_some (λ (node : Node). compound_in node.fill) (slice_get nodes top) action at (λ node is filled. (node, is)))
 
+-- a node of a compound action
+pub record IsCompound (nodes : List Node) (n action : ℕ) : Type 0 where
+  pub instance : ℕ
+  pub fields : List ℤ
+  pub node : Node
+  pub is : slice_get nodes n ≡ Some node
+  pub filled : node.fill ≡ fill.Compound action instance fields
+
+pub compound_there : (nodes : List Node) (n action : ℕ) → compound_at nodes n ≡ Some action → IsCompound nodes n action
+compound_there nodes n action is = option_and_then_some (λ (node : Node). compound_in node.fill) (slice_get nodes n) action is (λ node at of. by_fill node at node.fill refl of)
+  where
+    by_fill : (node : Node) → slice_get nodes n ≡ Some node → (f : Fill) → node.fill ≡ f → compound_in f ≡ Some action → IsCompound nodes n action
+    by_fill node at (fill.Compound other instance fields) e of =
+        record { instance = instance; fields = fields; node = node; is = at; filled = e ∙ ap (λ x. fill.Compound x instance fields) (same_Some other action of) }
+    by_fill node at (fill.Leaf act) e of = absurd (none-some action of)
+    by_fill node at fill.Sequence e of = absurd (none-some action of)
+    by_fill node at fill.Parallel e of = absurd (none-some action of)
+    by_fill node at fill.Schedule e of = absurd (none-some action of)
+    by_fill node at (fill.Joined parallel joined) e of = absurd (none-some action of)
+    by_fill node at (fill.Select branch) e of = absurd (none-some action of)
+    by_fill node at fill.Repeat e of = absurd (none-some action of)
+    by_fill node at (fill.Turn index) e of = absurd (none-some action of)
+    by_fill node at (fill.If taken) e of = absurd (none-some action of)
+    by_fill node at (fill.Match arm) e of = absurd (none-some action of)
+
 module _ (m : ModelTree) (s t : Scenario) (sound : IsSound m) (later : IsLater m s t) where
   fit : HandlesFit m t
   fit = handles_fit m t later.domains later.typed (pools_are_small m sound)
@@ -66,14 +90,22 @@ module _ (m : ModelTree) (s t : Scenario) (sound : IsSound m) (later : IsLater m
   pub compound_lasts : (n action instance : ℕ) (fields : List ℤ) (node : Node) (type : ActionTree) (k : ConstraintTree) → slice_get s.nodes n ≡ Some node
       → node.fill ≡ fill.Compound action instance fields → type_of m action ≡ Some type → Contains type.constraints k → HasAt m t (AtNode n) k
   compound_lasts n action instance fields node type k is filled typed has =
-      let still = still_has m s t later.onward later.leaves later.domains fit k (node_slot m s n) (OfCompound n action instance fields node type k is filled typed has) in
-      (still.now, still.has, λ slot. refl)
+      let y = later.onward.nodes n node is in
+      (node_slot m t n, by_fill y.0 y.1 y.2.fill, λ slot. refl)
+    where
+      by_fill : (y : Node) → slice_get t.nodes n ≡ Some y → (y.fill ≡ node.fill) ⊎ MoreValues node.fill y.fill → HasConstraint m t k (node_slot m t n)
+      by_fill y got (inl e) = OfCompound n action instance fields y type k got (e ∙ filled) typed has
+      by_fill y got (inr o) =
+          let both : fill.Compound o.action o.instance o.old ≡ fill.Compound action instance fields = sym o.was ∙ filled in
+          let same : o.action ≡ action = cc in
+          OfCompound n action o.instance o.new y type k got (o.is ∙ ap (λ x. fill.Compound x o.instance o.new) same) typed has
 
   pub inline_lasts : (n top action : ℕ) (handle : Option ℕ) (inline : List ConstraintTree) (indices : List ℕ) (k : ConstraintTree)
       → StandsFor m s.nodes top n (Traverse action handle inline) indices → Contains inline k → HasAt m t (AtTraversal n top indices) k
   inline_lasts n top action handle inline indices k stands has =
-      let still = still_has m s t later.onward later.leaves later.domains fit k (inline_slot m s n top indices) (Inline n top action handle inline indices k stands has) in
-      (still.now, still.has, λ slot. refl)
+      (inline_slot m t n top indices,
+      Inline n top action handle inline indices k (stands_more s t later.onward m top n (Traverse action handle inline) indices stands) has,
+      λ slot. refl)
 
   -- ---- slots
 
@@ -146,11 +178,12 @@ type_there : (o : Option ActionTree) (k : ConstraintTree) → Contains (action_c
 type_there None k has = let l = has.1 in absurd (omega (arith, l))
 type_there (Some type) k has = (type, refl, has)
 
-pub type_lasts : (m : ModelTree) (s : Scenario) → IsSound m → (n action instance : ℕ) (fields : List ℤ) (node : Node) → slice_get s.nodes n ≡ Some node
-    → node.fill ≡ fill.Compound action instance fields → (k : ConstraintTree) → Contains (action_constraints (type_of m action)) k → (t : Scenario) → IsLater m s t → HasAt m t (AtNode n) k
-type_lasts m s sound n action instance fields node is filled k has t later =
+pub type_lasts : (m : ModelTree) (s : Scenario) → IsSound m → (n action : ℕ) → compound_at s.nodes n ≡ Some action → (k : ConstraintTree) → Contains (action_constraints (type_of m action)) k
+    → (t : Scenario) → IsLater m s t → HasAt m t (AtNode n) k
+type_lasts m s sound n action is k has t later =
+    let at = compound_there s.nodes n action is in
     let o = type_there (type_of m action) k has in
-    compound_lasts m s t sound later n action instance fields node o.0 k is filled o.1 o.2
+    compound_lasts m s t sound later n action at.instance at.fields at.node o.0 k at.is at.filled o.1 o.2
 
 pub stated_stands : (m : ModelTree) (nodes : List Node) (n : ℕ) (x : Stated) → statement_of m nodes n ≡ Some x → StandsFor m nodes x.top n x.step x.indices
 stated_stands m nodes n x is = found m nodes (length nodes) n x is

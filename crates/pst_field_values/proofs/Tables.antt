@@ -2,6 +2,7 @@
 use Rattle.std.proofs.Common.{◌≡◌, ◌⊎◌, ℕ, zero, suc, ◌+◌, ◌<◌, ◌≤◌, ℤ, List, [], ◌∷◌, ◌++◌, length, map, Option, Some, None, refl, sym, ap, ◌∙◌, subst, inl, inr, length-append, add-one, arith}
 use Rattle.std.specs.Prelude.{slice_get}
 use Rattle.std.specs.Option.{option_and_then}
+use Rattle.std.proofs.lemmas.Bool.{cases_lt}
 use Rattle.std.proofs.lemmas.List.{map-append}
 use Rattle.std.proofs.lemmas.Option.{none-some, same_Some, slice_get_within}
 use Rattle.pst_expr.specs.declared.ranges.Span.{Span}
@@ -26,7 +27,7 @@ get_left (y ∷ xs) ys zero x is = is
 get_left (y ∷ xs) ys (suc i) x is = get_left xs ys i x is
 
 pub get_right : {A : Type 0} (xs ys : List A) (i k : ℕ) → k ≡ length xs + i → slice_get (xs ++ ys) k ≡ slice_get ys i
-get_right [] ys i k e = ap (slice_get ys) e
+get_right [] ys i k e = let z : k ≡ i = omega (arith, e) in ap (slice_get ys) z
 get_right (x ∷ xs) ys i zero e = absurd (omega (arith, e))
 get_right (x ∷ xs) ys i (suc k) e = get_right xs ys i k (omega (arith, e))
 
@@ -50,17 +51,20 @@ pub length_own : (n count : ℕ) → length (own_quantities n count) ≡ count
 length_own n zero = refl
 length_own n (suc count) = let l = length-append (own_quantities n count) (own_quantity n count ∷ []) in let own = length_own n count in omega (arith, l, own)
 
+last_or : (n count field : ℕ) → field < count + 1 → (field < count → slice_get (own_quantities n count) field ≡ Some (own_quantity n field))
+    → slice_get (own_quantities n count ++ own_quantity n count ∷ []) field ≡ Some (own_quantity n field)
+last_or n count field less before = by_place (cases_lt field count)
+  where
+    by_place : (field < count) ⊎ (count ≤ field) → slice_get (own_quantities n count ++ own_quantity n count ∷ []) field ≡ Some (own_quantity n field)
+    by_place (inl l) = get_left (own_quantities n count) (own_quantity n count ∷ []) field (own_quantity n field) (before l)
+    by_place (inr l) =
+        let long = length_own n count in
+        let e : count ≡ field = omega (arith, l, less) in
+        get_right (own_quantities n count) (own_quantity n count ∷ []) 0 field (omega (arith, long, e)) ∙ ap (λ k. Some (own_quantity n k)) e
+
 pub begin_with : (n count : ℕ) → BeginWithFields n count (own_quantities n count)
 begin_with n zero field less = absurd (omega (arith, less))
-begin_with n (suc count) field less = by_place (field_or_last)
-  where
-    field_or_last : (field < count) ⊎ (field ≡ count)
-    field_or_last = omega (arith, less)
-
-    by_place : (field < count) ⊎ (field ≡ count) → slice_get (own_quantities n (suc count)) field ≡ Some (own_quantity n field)
-    by_place (inl l) = get_left (own_quantities n count) (own_quantity n count ∷ []) field (own_quantity n field) (begin_with n count field l)
-    by_place (inr e) =
-        get_right (own_quantities n count) (own_quantity n count ∷ []) 0 field (let l = length_own n count in omega (arith, l, e)) ∙ ap (λ k. Some (own_quantity n k)) (sym e)
+begin_with n (suc count) field less = last_or n count field (omega (arith, less)) (λ l. begin_with n count field l)
 
 pub own_more : (m : ModelTree) (s : Scenario) (n count : ℕ) → quantity_bounds m s (own_quantities n (count + 1)) ≡ quantity_bounds m s (own_quantities n count) ++ bound_of (node_slot m s n (Own count)) ∷ []
 own_more m s n count =

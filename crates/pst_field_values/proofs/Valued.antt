@@ -1,6 +1,8 @@
 -- The values of fields, under the constraints that rest on them.
 use Rattle.std.proofs.Common.{◌≡◌, ◌⊎◌, ℕ, ◌<◌, ◌≤◌, ℤ, List, [], ◌∷◌, ◌++◌, length, map, All, Contains, Option, Some, None, refl, sym, ap, ◌∙◌, subst, inl, inr, ⊎_elim, arith}
 use Rattle.std.specs.Prelude.{slice_get}
+use Rattle.std.proofs.lemmas.Bool.{cases_lt}
+use Rattle.std.proofs.lemmas.List.{append_assoc, append-nil}
 use Rattle.std.proofs.lemmas.Option.{slice_get_within}
 use Rattle.pst_expr.specs.declared.ranges.Span.{Span}
 use Rattle.pst_expr.specs.declared.tree.Expr.{Expr}
@@ -17,7 +19,7 @@ use Rattle.pst_scen.specs.declared.scenario.Scenario.{Scenario}
 use Rattle.pst_legal.specs.Standing.{value_of, bound_of}
 use Rattle.pst_legal.specs.Slots.{node_slot}
 use Rattle.pst_legal.specs.Constraints.{Holds}
-use Rattle.pst_value_search.specs.Values.{Kept, Begins}
+use Rattle.pst_value_search.specs.Values.{Kept, Begins, with_value}
 use Rattle.pst_value_search.proofs.Points.{values_agree}
 use Rattle.pst_field_values.specs.Fields.{values_at, field_count, IsLater}
 use Rattle.pst_field_values.specs.Quantities.{Quantity, standing_of, quantity_values, quantity_bounds, own_quantity, BeginWithFields}
@@ -34,11 +36,8 @@ holds_none bound o none = subst (HoldsIn bound) (sym none) tt
 
 -- values within the bounds of all variables, of which there are no more
 lies_all : (bounds : List (Option Span)) (values : List (Option ℤ)) → length values ≤ length bounds → AreWithin bounds values → (v : ℕ) → LiesWithin bounds values v
-lies_all bounds values few within v = by_place (here_or_past)
+lies_all bounds values few within v = by_place (cases_lt v (length bounds))
   where
-    here_or_past : (v < length bounds) ⊎ (length bounds ≤ v)
-    here_or_past = omega arith
-
     by_place : (v < length bounds) ⊎ (length bounds ≤ v) → LiesWithin bounds values v
     by_place (inl l) = within v l
     by_place (inr l) = holds_none (bound_at bounds v) (variable_value values v) (no_value_past values v (omega (arith, l, few)))
@@ -103,3 +102,11 @@ excluded m s t n k places value kept excludes less later holds is =
     known i v given =
         let within = slice_get_within k.values i v given in
         field_is i v (omega (arith, within, less)) (values_stay m s t later n i v (sym (ap (λ vs. slice_get vs i) kept.known) ∙ given))
+
+-- ---- values one after another
+
+pub given_more : (k : Kept) (v : ℤ) (values : List ℤ) → with_values (with_value k v) values ≡ with_values k (v ∷ values)
+given_more k v values = ap (λ vs. record k { values = vs }) (append_assoc k.values (v ∷ []) values)
+
+pub given_all : (k : Kept) → with_values k [] ≡ k
+given_all k = ap (λ vs. record k { values = vs }) (append-nil k.values)

@@ -4,10 +4,10 @@ use Rattle.std.specs.Prelude.{slice_get}
 use Rattle.std.proofs.lemmas.Option.{slice_get_within}
 use Rattle.pst_expr.specs.declared.ranges.Span.{Span}
 use Rattle.pst_expr.specs.declared.tree.Expr.{Expr}
-use Rattle.pst_expr.specs.Tree.{Expression, view}
+use Rattle.pst_expr.specs.Tree.{Expression, Constant, Variable, Unary, Binary, Element, view}
 use Rattle.pst_expr.specs.Value.{value, variable_value}
+use Rattle.pst_domain.specs.Bounds.{HasVariablesBelow}
 use Rattle.pst_narrow.specs.Solutions.{IsTruth}
-use Rattle.pst_narrow.proofs.MentionLemmas.{variables_below_more}
 use Rattle.pst_model.specs.ConstraintTree.{SlotTree, Own, ConstraintTree}
 use Rattle.pst_model.specs.ModelTree.{ModelTree}
 use Rattle.pst_model.specs.Sound.{IsSound}
@@ -24,13 +24,20 @@ use Rattle.pst_written_constraints.proofs.Sites.{same_values, truth, all_pushed}
 use Rattle.pst_field_values.specs.declared.subject.Subject.{Subject}
 use Rattle.pst_field_values.specs.declared.subject.Position.{Position}
 use Rattle.pst_field_values.specs.Fields.{IsLater}
-use Rattle.pst_field_values.specs.Quantities.{Quantity, standing_of, quantity_bounds, own_quantity, slot_quantities, BeginWithFields}
+use Rattle.pst_field_values.specs.Quantities.{Quantity, standing_of, quantity_bounds, own_quantity, own_quantities, slot_quantities, BeginWithFields}
 use Rattle.pst_field_values.specs.Subjects.{site_of, IsFieldAt, IsThere, IsReached}
 use Rattle.pst_field_values.specs.Writing.{IsTermAt, AreTermsAt, Lasts, AreValuesOf, IsKept, AreOverAt}
 use Rattle.pst_field_values.proofs.Later.{field_named}
-use Rattle.pst_field_values.proofs.Tables.{get_left, get_right, length_mapped, value_mapped, slots_there, both_there, more_bounds}
+use Rattle.pst_field_values.proofs.Tables.{get_left, get_right, length_mapped, value_mapped, begin_with, own_there, slots_there, both_there, more_bounds}
 
 -- ---- more quantities
+
+variables_below_more : (n k : ℕ) (e : Expression) → n ≤ k → HasVariablesBelow n e → HasVariablesBelow k e
+variables_below_more n k (Constant z) less h = tt
+variables_below_more n k (Variable i) less h = omega (arith, h, less)
+variables_below_more n k (Unary op e) less h = variables_below_more n k e less h
+variables_below_more n k (Binary op a b) less h = (variables_below_more n k a less h.0, variables_below_more n k b less h.1)
+variables_below_more n k (Element first count e) less h = (λ i small. let at = h.0 i small in omega (arith, at, less), variables_below_more n k e less h.1)
 
 pub kept_wider : (m : ModelTree) (s : Scenario) (qs more : List Quantity) (e : Expression) → IsKept m s qs e → IsKept m s (qs ++ more) e
 kept_wider m s qs more e kept = record {
@@ -83,11 +90,11 @@ module _ (m : ModelTree) (s : Scenario) (sound : IsSound m) (subject : Subject) 
       below : (j i : ℕ) → slice_get terms j ≡ Some (term.Variable i) → i < length every
       below j i is =
           let slot = slot_of j (term.Variable i) is in
-          by (at.each j slot.0 (term.Variable i) slot.1 is) slot.0 slot.1
+          by slot.0 slot.1 (at.each j slot.0 (term.Variable i) slot.1 is)
         where
-          by : {slot : SlotTree} → (i ≡ base + j) ⊎ ((i < subject.fields) × IsFieldAt subject position slot i) → (x : SlotTree) → slice_get slots j ≡ Some x → i < length every
-          by (inl e) x there = slice_get_within every i (record { site = site; slot = x }) (slot_there j x i e there)
-          by (inr field) x there = slice_get_within every i (own_quantity subject.node i) (field_there i field.0)
+          by : (x : SlotTree) → slice_get slots j ≡ Some x → (i ≡ base + j) ⊎ ((i < subject.fields) × IsFieldAt subject position x i) → i < length every
+          by x there (inl e) = slice_get_within every i (record { site = site; slot = x }) (slot_there j x i e there)
+          by x there (inr field) = slice_get_within every i (own_quantity subject.node i) (field_there i field.0)
 
   pub kept_new : (k : ConstraintTree) (terms : List Term) (e : Expression) → AreTermsAt subject position k.slots base terms → IsMirror terms k.expression e → Lasts m s site k
       → IsKept m s (qs ++ slot_quantities site k.slots) e
@@ -119,4 +126,16 @@ over_more m s sound subject position reached there es new_es bounds new base ove
       bounds_are = more_bounds m s qs site k.slots bounds new over.bounds_are more;
       kept = all_pushed (IsKept m s (qs ++ added)) es new_es e pushed (all_wider m s qs added (map view es) over.kept)
           (kept_new m s sound subject position reached qs over.own base many k terms (view e) at mirror lasts);
+    }
+
+-- no constraint yet, over the fields alone
+pub over_none : (m : ModelTree) (s : Scenario) (subject : Subject) → IsReached m s.nodes subject → (es : List Expr) (bounds : List (Option Span)) → es ≡ []
+    → bounds ≡ quantity_bounds m s (own_quantities subject.node subject.fields) → AreOverAt m s subject.node subject.fields (map view es) bounds
+over_none m s subject reached es bounds none is =
+    record {
+      quantities = own_quantities subject.node subject.fields;
+      own = begin_with subject.node subject.fields;
+      there = own_there m s.nodes subject.node subject.fields (let e = reached.fields in omega (arith, e));
+      bounds_are = is;
+      kept = subst (λ xs. All (IsKept m s (own_quantities subject.node subject.fields)) (map view xs)) (sym none) (λ k d l. absurd (omega (arith, l)));
     }

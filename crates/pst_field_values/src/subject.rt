@@ -106,8 +106,8 @@ pub(crate) fn is_about(subject: &Subject, position: &Position, slots: &[Slot]) -
     false
 }
 
-// The type of the compound action of a node.
-fn compound_at(nodes: &[Node], n: usize) -> Option<u32>
+/// The type of the compound action of a node.
+pub(crate) fn compound_at(nodes: &[Node], n: usize) -> Option<u32>
     ensures { result ≡ compound_at nodes.now n }
 {
     match &nodes.get(n)?.fill {

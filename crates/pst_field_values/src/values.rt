@@ -77,7 +77,9 @@ fn begin(alloc: Global, written: Written) -> Result<Option<Valued>, NoMemory>
         constraints,
         bounds,
     } = written;
-    Valued::new(alloc, constraints, Bounds::new(bounds))
+    let bounds = Bounds::new(bounds);
+    let begun = Valued::new(alloc, constraints, bounds)?;
+    Ok(begun)
 }
 
 /// The values of the fields of the compound action of a node that are read, under the constraints that rest on its

@@ -14,13 +14,12 @@ ghost use Rattle.pst_field_values.specs.Subjects.{site_of, IsThere, IsReached};
 ghost use Rattle.pst_field_values.specs.Writing.{IsNumbered, IsTermAt, AreTermsAt, Lasts, AllLast, AreOver, AreOverFields};
 
 use crate::bounds::{add_bounds, field_bounds};
-use crate::subject::{Position, Subject, field_of, is_about, subject_of};
+use crate::subject::{Position, Subject, compound_at, field_of, is_about, subject_of};
 use pst_base::NoMemory;
 use pst_expr::{Expr, Span};
 use pst_known::Scene;
 use pst_model::{Constraint, Model, Slot, Step};
 use pst_refusals::{Stated, statement_behind};
-use pst_scen::Fill;
 use pst_written_constraints::{Term, write};
 use std::alloc::Global;
 
@@ -158,13 +157,10 @@ fn write_at(
     requires over { AreOver (view_model scene.now.model.now) (seen scene.now) subject.now written.old }
     ensures over { OnOk result (AreOver (view_model scene.now.model.now) (seen scene.now) subject.now written.new) }
 {
-    let Some(node) = scene.nodes.get(n) else {
+    let Some(action) = compound_at(scene.nodes, n) else {
         return Ok(());
     };
-    let Fill::Compound { action, .. } = &node.fill else {
-        return Ok(());
-    };
-    let constraints = action_constraints(scene.model, *action);
+    let constraints = action_constraints(scene.model, action);
     write_all(alloc, scene, subject, position, constraints, written)
 }
 
