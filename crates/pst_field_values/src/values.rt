@@ -96,9 +96,12 @@ pub fn values_of_fields(
     ensures { IfOk result (λ found. AreOfFields (view_model scene.now.model.now) (seen scene.now) node found) }
 {
     let written = write_fields(alloc, scene, node)?;
-    let Some(valued) = begin(alloc, written)? else {
-        return Ok(None);
-    };
-    let given = give_all(valued, values_at(scene.nodes, node))?;
-    Ok(Some(given))
+    let begun = begin(alloc, written)?;
+    match begun {
+        None => Ok(None),
+        Some(valued) => {
+            let given = give_all(valued, values_at(scene.nodes, node))?;
+            Ok(Some(given))
+        }
+    }
 }
