@@ -1,6 +1,5 @@
 //! The options of a compound action's field whose values can't be, while the activity is being read.
-ghost use Rattle.std.specs.Prelude.{◌≡◌, ◌<◌, ◌≤◌, List, ◌∷◌, IfOk};
-ghost use Rattle.pst_model.specs.declared.action.Field.{Field};
+ghost use Rattle.std.specs.Prelude.{◌≡◌, ◌<◌, ◌≤◌, IfOk, IfSome};
 ghost use Rattle.pst_model.specs.ModelView.{view_model};
 ghost use Rattle.pst_model.specs.Sound.{IsSound};
 ghost use Rattle.pst_shape.specs.Walks.{IfRead};
@@ -9,13 +8,13 @@ ghost use Rattle.pst_refusals.specs.Answers.{StandEarlier};
 ghost use Rattle.pst_field_values.specs.Kept.{AreOfFields};
 ghost use Rattle.pst_search_loop.specs.Kept.{HasOptions, Skips};
 ghost use Rattle.pst_list_values.specs.Walked.{kept_of};
-ghost use Rattle.pst_list_values.specs.FieldValues.{IsFieldOf};
+ghost use Rattle.pst_list_values.specs.FieldValues.{IsFieldOf, IsPlaceOf};
 
 use crate::skipping::is_domain;
 use pst_base::NoMemory;
 use pst_built::longer_lists_keep_what_is_known;
 use pst_expr::domains_list_values;
-use pst_field_places::{fields_are_places, fields_have_values};
+use pst_field_places::{FieldPlace, fields_are_places, fields_have_values};
 use pst_field_values::{excluded_fields_hold_nothing, values_of_fields};
 use pst_known::Scene;
 use pst_list_walk::ListWalk;
@@ -118,6 +117,58 @@ fn skip_field(
     }
 }
 
+// The field at hand, of the action of a node, where an option was passed: of its options those that are skipped.
+fn skip_at_field(
+    alloc: Global,
+    lists: &ListWalk<'_>,
+    node: u32,
+    field: &Field,
+    from: u64,
+    count: u64,
+) -> Result<Skipped, NoMemory>
+    requires field { IsFieldOf lists.now node field.now }
+    requires options { HasOptions (answer lists.now) count }
+    requires some { 0 < from }
+    requires named { from ≤ count }
+    ensures { IfOk result (λ skipped. Skips (kept_of lists.now) from count skipped) }
+{
+    let Some(scenario) = lists.so_far()? else {
+        return Ok(Skipped::nothing(alloc, from));
+    };
+    lists.model_is_sound();
+    skip_field(alloc, lists, &scenario, node, field, from, count)
+}
+
+// So of the place of a field.
+fn skip_at_place(
+    alloc: Global,
+    lists: &ListWalk<'_>,
+    place: FieldPlace<'_>,
+    from: u64,
+    count: u64,
+) -> Result<Skipped, NoMemory>
+    requires field { IsPlaceOf lists.now place }
+    requires options { HasOptions (answer lists.now) count }
+    requires some { 0 < from }
+    requires named { from ≤ count }
+    ensures { IfOk result (λ skipped. Skips (kept_of lists.now) from count skipped) }
+{
+    let Some((field, _more)) = place.fields.split_first() else {
+        return Ok(Skipped::nothing(alloc, from));
+    };
+    skip_at_field(alloc, lists, place.node, field, from, count)
+}
+
+// The place at hand, where it is that of a field and an option was passed.
+fn place_at<'a>(lists: &ListWalk<'a>, from: u64) -> Option<FieldPlace<'a>>
+    ensures { IfSome result (λ place. IsPlaceOf lists.now place × (0 < from)) }
+{
+    if from == 0 {
+        return None;
+    }
+    lists.field()
+}
+
 /// The options of the place at hand that are skipped, from one on, before the sources are read through: where it is
 /// that of a field of a compound action, those whose values the constraints on the action's fields refuse.
 pub(crate) fn skip_fields(
@@ -130,18 +181,8 @@ pub(crate) fn skip_fields(
     requires named { from ≤ count }
     ensures { IfOk result (λ skipped. Skips (kept_of lists.now) from count skipped) }
 {
-    if from == 0 {
-        return Ok(Skipped::nothing(alloc, from));
-    }
-    let Some(place) = lists.field() else {
+    let Some(place) = place_at(lists, from) else {
         return Ok(Skipped::nothing(alloc, from));
     };
-    let Some((field, _more)) = place.fields.split_first() else {
-        return Ok(Skipped::nothing(alloc, from));
-    };
-    let Some(scenario) = lists.so_far()? else {
-        return Ok(Skipped::nothing(alloc, from));
-    };
-    lists.model_is_sound();
-    skip_field(alloc, lists, &scenario, place.node, field, from, count)
+    skip_at_place(alloc, lists, place, from, count)
 }
