@@ -3,6 +3,7 @@ ghost use Rattle.std.specs.Prelude.{◌≡◌, ℕ, ◌+◌, ◌++◌, ◌<◌, 
 ghost use Rattle.pst_model.specs.ModelView.{view_model};
 ghost use Rattle.pst_model.specs.Served.{IsInOrder};
 ghost use Rattle.pst_legal.specs.ValueReading.{answer_of};
+ghost use Rattle.pst_field_places.specs.Places.{IsFieldPlace};
 ghost use Rattle.pst_open_ends.specs.Changes.{opened};
 ghost use Rattle.pst_shape.specs.Walks.{next_of, IfRead, HasDigit};
 ghost use Rattle.pst_shape.specs.Walks.{answer as shape_answer};
@@ -13,6 +14,7 @@ ghost use Rattle.pst_link_walk.specs.News.{IsSize, IsNews, OpensFrom, AreChanged
 
 use pst_base::NoMemory;
 use pst_copies::{copy_act, copy_acts};
+use pst_field_places::FieldPlace;
 use pst_model::Model;
 use pst_open_ends::{Change, Relinked, open_leaves, serves_in_order};
 use pst_scen::{Act, Next, Node};
@@ -311,6 +313,16 @@ impl<'a> LinkWalk<'a> {
         ensures { IfRead (answer self.now) (λ s. result.now ≡ s.nodes) }
     {
         self.shape.nodes()
+    }
+
+    /// The place at hand, where a field of a compound action is given its value there.
+    pub fn field(&self) -> Option<FieldPlace<'a>>
+        ensures { IfSome result (λ place. IsFieldPlace (view_model self.now.model) self.now.root self.now.seed self.now.level self.now.choices place) }
+    {
+        match &self.supply {
+            None => self.shape.field(),
+            Some(_) => None,
+        }
     }
 
     /// The actions so far with their links, in a copy. What isn't read yet is empty.

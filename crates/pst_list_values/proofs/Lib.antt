@@ -4,3 +4,4 @@ pub mod Ties
 pub mod OpenHere
 pub mod Skips
 pub mod Steps
+pub mod FieldSkips

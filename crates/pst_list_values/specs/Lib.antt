@@ -1,3 +1,4 @@
 pub mod Walked
 pub mod Tied
 pub mod PassedOn
+pub mod FieldValues

@@ -4,6 +4,7 @@
 
 mod behind;
 mod copies;
+mod fields;
 mod skipping;
 
 pub use behind::{Behind, back_at, choose_at, refusal_at};

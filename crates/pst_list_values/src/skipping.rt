@@ -7,6 +7,7 @@ ghost use Rattle.pst_list_values.specs.Walked.{kept_of};
 ghost use Rattle.pst_list_values.specs.Tied.{IsTied, IsOf, IsGivenAt, IsUsable};
 
 use crate::behind::Behind;
+use crate::fields::skip_fields;
 use pst_base::NoMemory;
 use pst_expr::{Domain, domains_list_values};
 use pst_list_walk::ListWalk;
@@ -15,8 +16,8 @@ use pst_search_places::{few_places_exclude, of_places};
 use pst_value_search::{Valued, excluded_values_hold_nothing};
 use std::alloc::Global;
 
-// The spans of a domain are in order.
-fn is_domain(domain: &Domain)
+/// The spans of a domain are in order.
+pub(crate) fn is_domain(domain: &Domain)
     ensures { IsDomain domain.now }
 {
     let _spans = domain.spans();
@@ -91,7 +92,8 @@ fn skip_behind(
 }
 
 /// The options of the place at hand that are skipped, from one on: behind the sources those whose values can't be
-/// given. The first option is never skipped.
+/// given, and before at a field of a compound action those that the constraints on its fields refuse. The first option
+/// is never skipped.
 pub fn skip_at(
     alloc: Global,
     lists: &ListWalk<'_>,
@@ -106,7 +108,7 @@ pub fn skip_at(
     ensures skips { IfOk result (λ skipped. Skips (kept_of lists.now) from count skipped) }
 {
     match behind {
-        None => Ok(Skipped::nothing(alloc, from)),
+        None => skip_fields(alloc, lists, from, count),
         Some(behind) => skip_behind(alloc, lists, behind, from, count),
     }
 }

@@ -3,6 +3,7 @@ ghost use Rattle.std.specs.Prelude.{◌≡◌, ℕ, ◌+◌, ◌<◌, ◌≤◌,
 ghost use Rattle.pst_rng.specs.Words.{start_of};
 ghost use Rattle.pst_model.specs.ModelView.{view_model};
 ghost use Rattle.pst_model.specs.Sound.{IsSound};
+ghost use Rattle.pst_field_places.specs.Places.{IsFieldPlace};
 ghost use Rattle.pst_shape.specs.Walks.{next_of, IfRead, HasDigit};
 ghost use Rattle.pst_link_walk.specs.Walks.{Kept, with_choice};
 ghost use Rattle.pst_link_walk.specs.Walks.{answer as link_answer};
@@ -21,6 +22,7 @@ use pst_base::{Items, NoMemory};
 use pst_blanks::Blank;
 use pst_copies::copy_nodes;
 use pst_expr::Domain;
+use pst_field_places::FieldPlace;
 use pst_known::Scene;
 use pst_link_walk::LinkWalk;
 use pst_model::Model;
@@ -466,6 +468,23 @@ impl<'a> ListWalk<'a> {
         }
     }
 
+    /// The model is sound.
+    pub fn model_is_sound(&self)
+        ensures { IsSound (view_model self.now.model) }
+    {
+        let _ = &self.model;
+    }
+
+    /// The place at hand, where a field of a compound action is given its value there.
+    pub fn field(&self) -> Option<FieldPlace<'a>>
+        ensures { IfSome result (λ place. IsFieldPlace (view_model self.now.model) self.now.root self.now.seed self.now.level self.now.choices place) }
+    {
+        match &self.values {
+            None => self.links.field(),
+            Some(_) => None,
+        }
+    }
+
     /// Where the seed begins among so many options of the place at hand.
     pub fn start(&self, count: u64) -> Result<u64, NoMemory>
         requires { 0 < count }
@@ -576,6 +595,20 @@ impl<'a> ListWalk<'a> {
                 if !is_to_be_judged(self.links.nodes().len(), self.links.sources()) {
                     return Ok(None);
                 }
+                self.links.ends();
+                let linked = copy_linked(self.alloc, &self.links, self.level)?;
+                Ok(Some(linked))
+            }
+        }
+    }
+
+    /// The scenario so far, in a copy, where the sources aren't read through.
+    pub fn so_far(&self) -> Result<Option<Scenario>, NoMemory>
+        ensures { IfOk result (λ o. IfSome o (λ t. IfRead (answer self.now) (λ s. t ≡ s))) }
+    {
+        match &self.values {
+            Some(_) => Ok(None),
+            None => {
                 self.links.ends();
                 let linked = copy_linked(self.alloc, &self.links, self.level)?;
                 Ok(Some(linked))

@@ -1,3 +1,4 @@
 pub mod Walks
 pub mod Choices
 pub mod Made
+pub mod Fields

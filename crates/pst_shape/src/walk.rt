@@ -1,13 +1,17 @@
 //! Walks through the choices that fill an activity.
-ghost use Rattle.std.specs.Prelude.{◌≡◌, ℕ, IfOk, OnOk, OnErr, ◌<◌, length, map, reverse, []};
+ghost use Rattle.std.specs.Prelude.{◌≡◌, ℕ, IfOk, IfSome, OnOk, OnErr, ◌<◌, length, map, reverse, []};
+ghost use Rattle.pst_model.specs.ModelView.{view_model};
 ghost use Rattle.pst_scen.specs.declared.scenario.Scenario.{Scenario};
+ghost use Rattle.pst_field_places.specs.Places.{IsFieldPlace};
 ghost use Rattle.pst_shape_parts.specs.Trees.{bare};
 ghost use Rattle.pst_shape_steps.specs.Pending.{shown_at, valued};
 ghost use Rattle.pst_shape.specs.Choices.{at_after, node_count, leaf_count, growth_after};
+ghost use Rattle.pst_shape.specs.Fields.{IsFieldAt};
 ghost use Rattle.pst_shape.specs.Walks.{Kept, with_choice, answer, next_of, IfRead, HasDigit, IsGrowth};
 
 use crate::pick::{choice, first};
 use pst_base::NoMemory;
+use pst_field_places::FieldPlace;
 use pst_model::Model;
 use pst_scen::{Act, Next, Node};
 use pst_shape_parts::Grown;
@@ -97,6 +101,19 @@ fn value_at(at: &At<'_>) -> Option<u32>
     }
 }
 
+// The place there, where a field of a compound action is given its value.
+fn field_at<'a>(at: &At<'a>) -> Option<FieldPlace<'a>>
+    ensures { IfSome result (λ place. IsFieldAt at.now place) }
+{
+    match at {
+        At::Value { fields, .. } => Some(FieldPlace {
+            node: fields.node,
+            fields: fields.fields,
+        }),
+        _ => None,
+    }
+}
+
 /// A walk through the lists of choices that fill an activity. Contracts see its model, its root, its
 /// seed and its choices.
 #[derive(Drop)]
@@ -164,6 +181,13 @@ impl<'a> Walk<'a> {
         ensures { (level : ℕ) → IfRead (answer self.now level) (λ s. result.now ≡ map bare s.actions) }
     {
         &self.grown.leaves
+    }
+
+    /// The place at hand, where a field of a compound action is given its value there.
+    pub fn field(&self) -> Option<FieldPlace<'a>>
+        ensures { IfSome result (λ place. (level : ℕ) → IsFieldPlace (view_model self.now.model) self.now.root self.now.seed level self.now.choices place) }
+    {
+        field_at(at_of(&self.made, &self.start))
     }
 
     /// What the last choice added, and nothing where there is no choice. All else stands as it stood.

@@ -2,7 +2,9 @@
 //!
 //! An operand is `n N`, a number; `own F`, a field of the action or object; `object R F`, a field of
 //! the object of a reference; `first R`; `id C`, the number of a claimed instance; `claimed C F`, a
-//! field of it; `prev F`, `initial` or `number` in an object. An operator stands behind its operands.
+//! field of it; `prev F`, `initial` or `number` in an object; `outer F`, in an inline constraint, a field
+//! of the action round it; `through H F`, a field of what a handle traverses. An operator stands behind its
+//! operands. `element F N` takes the index before it, and stands for that element of N fields from F on.
 use crate::words::Words;
 use pst_base::NoMemory;
 use pst_expr::{BinaryOp, Expr, UnaryOp};
@@ -85,6 +87,24 @@ fn slot(word: &str, words: &mut Words<'_>) -> Slot {
     }
 }
 
+// A field of the action itself, of the action round it, or of what a handle traverses.
+fn far_slot(alloc: Global, word: &str, words: &mut Words<'_>) -> Result<Slot, NoMemory> {
+    match word {
+        "outer" => {
+            let field = words.index();
+            let slot = Box::new(alloc, Slot::Own { field })?;
+            Ok(Slot::Outer { slot })
+        }
+        "through" => {
+            let handle = words.index();
+            let field = words.index();
+            let slot = Box::new(alloc, Slot::Own { field })?;
+            Ok(Slot::Through { handle, slot })
+        }
+        _ => Ok(slot(word, words)),
+    }
+}
+
 impl Expressions {
     /// No expression.
     pub fn new(alloc: Global) -> Expressions {
@@ -122,8 +142,20 @@ impl Expressions {
             return Ok(());
         }
         let number = u32::try_from(self.slots.len()).unwrap_or(0);
-        self.slots.push(slot(word, words))?;
+        self.slots.push(far_slot(self.alloc, word, words)?)?;
         self.waiting.push(Expr::Variable(number))?;
+        Ok(())
+    }
+
+    // The element of so many fields from one on, at the index before it.
+    fn element(&mut self, first: u32, count: u32) -> Result<(), NoMemory> {
+        let number = u32::try_from(self.slots.len()).unwrap_or(0);
+        for place in 0..count {
+            let field = first.saturating_add(place);
+            self.slots.push(Slot::Own { field })?;
+        }
+        let index = Box::new(self.alloc, self.last())?;
+        self.waiting.push(Expr::Element(number, count, index))?;
         Ok(())
     }
 
@@ -131,6 +163,10 @@ impl Expressions {
     pub fn take(&mut self, word: &str, words: &mut Words<'_>) -> Result<(), NoMemory> {
         if let Some(op) = unary_operator(word) {
             return self.join_one(op);
+        }
+        if word == "element" {
+            let first = words.index();
+            return self.element(first, words.index());
         }
         match binary_operator(word) {
             Some(op) => self.join_two(op),

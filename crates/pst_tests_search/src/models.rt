@@ -19,6 +19,7 @@ use pst_model::{
     Pool, Reference, Serve,
 };
 use std::alloc::Global;
+use std::mem;
 
 const NAME: NameId = NameId(0);
 
@@ -157,7 +158,7 @@ fn constrain_object(model: &mut Model, constraint: Constraint) -> Result<(), NoM
 fn fill_activity(alloc: Global, model: &mut Model, steps: &mut Steps) {
     if let Some(action) = model.actions.last_mut() {
         action.content = Content::Compound(Activity {
-            handles: Vec::new(alloc),
+            handles: mem::replace(&mut steps.handles, Vec::new(alloc)),
             steps: steps.whole(),
             binds: Vec::new(alloc),
         });
@@ -191,7 +192,7 @@ fn is_declaration(word: &str) -> bool {
 fn is_step(word: &str) -> bool {
     matches!(
         word,
-        "do" | "branch" | "select" | "repeat" | "sequence" | "parallel" | "schedule"
+        "do" | "handle" | "branch" | "select" | "repeat" | "sequence" | "parallel" | "schedule"
     )
 }
 
@@ -217,6 +218,7 @@ fn take(
             steps.inline.push(expressions.whole())?;
             Ok(())
         }
+        "turns" => steps.repeat(expressions.whole()),
         "ACTIVITY" => {
             fill_activity(alloc, model, steps);
             Ok(())

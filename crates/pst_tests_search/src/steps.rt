@@ -1,8 +1,9 @@
 //! Steps of activities that are written as words, the inner ones first.
 //!
-//! `do A` traverses an action type, with the inline constraints before it. `sequence N`, `parallel N`
-//! and `schedule N` take the last steps, `branch W` the last one as a branch of that weight, `select N`
-//! the last branches, and `repeat N` the last step.
+//! `do A` traverses an action type, with the inline constraints before it, and `handle A` traverses it by the
+//! next handle. `sequence N`, `parallel N` and `schedule N` take the last steps, `branch W` the last one as a
+//! branch of that weight, `select N` the last branches, and `repeat N` the last step; `turns` takes the last
+//! step and the expression before it as the count.
 use crate::expressions::Expressions;
 use crate::words::Words;
 use pst_base::NoMemory;
@@ -15,6 +16,7 @@ use std::mem;
 pub struct Steps {
     pub alloc: Global,
     pub inline: Vec<Constraint>,
+    pub handles: Vec<u32>,
     pub waiting: Vec<Step>,
     pub branches: Vec<Branch>,
 }
@@ -25,6 +27,7 @@ impl Steps {
         Steps {
             alloc,
             inline: Vec::new(alloc),
+            handles: Vec::new(alloc),
             waiting: Vec::new(alloc),
             branches: Vec::new(alloc),
         }
@@ -48,14 +51,20 @@ impl Steps {
         Ok(steps)
     }
 
-    fn traverse(&mut self, action: u32) -> Result<(), NoMemory> {
+    fn traverse(&mut self, action: u32, handle: Option<u32>) -> Result<(), NoMemory> {
         let inline = mem::replace(&mut self.inline, Vec::new(self.alloc));
         self.waiting.push(Step::Traverse {
             action,
-            handle: None,
+            handle,
             inline,
         })?;
         Ok(())
+    }
+
+    fn traverse_handle(&mut self, action: u32) -> Result<(), NoMemory> {
+        let handle = u32::try_from(self.handles.len()).unwrap_or(0);
+        self.handles.push(action)?;
+        self.traverse(action, Some(handle))
     }
 
     fn add_branch(&mut self, weight: u32) -> Result<(), NoMemory> {
@@ -86,7 +95,8 @@ impl Steps {
         Ok(())
     }
 
-    fn repeat(&mut self, count: Constraint) -> Result<(), NoMemory> {
+    /// The last step, in so many turns.
+    pub fn repeat(&mut self, count: Constraint) -> Result<(), NoMemory> {
         let body = Box::new(self.alloc, self.last())?;
         self.waiting.push(Step::Repeat { count, body })?;
         Ok(())
@@ -111,7 +121,8 @@ impl Steps {
         expressions: &Expressions,
     ) -> Result<(), NoMemory> {
         match word {
-            "do" => self.traverse(words.index()),
+            "do" => self.traverse(words.index(), None),
+            "handle" => self.traverse_handle(words.index()),
             "branch" => self.add_branch(words.index()),
             "select" => self.select(words.index()),
             "repeat" => self.repeat(expressions.number(words.number())),

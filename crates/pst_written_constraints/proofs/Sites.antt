@@ -152,12 +152,12 @@ module _ (tell : SensesTell) (narrow : NarrowerBoundsGiveInnerSpans) (m : ModelT
 
 -- ---- where every constraint holds
 
-same_values : (m : ModelTree) (t : Scenario) (site : SiteTree) (standing : SlotTree → Standing) → ((slot : SlotTree) → slot_at m t site slot ≡ standing slot) → (slots : List SlotTree)
+pub same_values : (m : ModelTree) (t : Scenario) (site : SiteTree) (standing : SlotTree → Standing) → ((slot : SlotTree) → slot_at m t site slot ≡ standing slot) → (slots : List SlotTree)
     → slot_values m t site slots ≡ map (λ slot. value_of (standing slot)) slots
 same_values m t site standing same [] = refl
 same_values m t site standing same (slot ∷ slots) = λ i. value_of (same slot i) ∷ same_values m t site standing same slots i
 
-truth : (o : Option ℤ) → is_true o ≡ true → IsTruth o
+pub truth : (o : Option ℤ) → is_true o ≡ true → IsTruth o
 truth None e = absurd (false≢true e)
 truth (Some v) e = λ z. false≢true (sym (not-true (is_false v) e) ∙ (Decides-int_eq v (pos 0)).1 z)
 

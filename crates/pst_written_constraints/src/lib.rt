@@ -14,3 +14,5 @@ mod term;
 mod writing;
 
 pub use constraints::{Written, write_constraints};
+pub use term::Term;
+pub use writing::write;

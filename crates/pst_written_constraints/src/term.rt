@@ -2,7 +2,7 @@
 
 /// What a slot of a constraint is written as.
 #[derive(Clone, Copy, Debug, PartialEq, Eq)]
-pub(crate) enum Term {
+pub enum Term {
     /// A number.
     Number(i64),
     /// The variable of a blank, by the blank's number.

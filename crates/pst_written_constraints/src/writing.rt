@@ -163,7 +163,7 @@ fn write_binary(
 ///
 /// A chain of n operators along the left operands takes stack for log n of them.
 #[cycle(write)]
-pub(crate) fn write(alloc: Global, terms: &[Term], expr: &Expr) -> Result<Option<Expr>, NoMemory>
+pub fn write(alloc: Global, terms: &[Term], expr: &Expr) -> Result<Option<Expr>, NoMemory>
     ensures { IfOk result (λ found. Mirrors terms.now (view expr.now) found) }
 {
     match expr {

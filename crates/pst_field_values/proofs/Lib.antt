@@ -1,0 +1,4 @@
+pub mod Later
+pub mod Tables
+pub mod Wider
+pub mod Valued
