@@ -1,0 +1,5 @@
+mod Multiples
+mod Passing
+mod OneMore
+mod Placed
+mod Asking
