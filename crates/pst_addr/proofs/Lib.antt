@@ -3,3 +3,4 @@ mod Passing
 mod OneMore
 mod Placed
 mod Asking
+mod OfPlan

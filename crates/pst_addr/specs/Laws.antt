@@ -1,5 +1,6 @@
 -- The laws of places.
-use Rattle.std.specs.Prelude.{◌≡◌, ℕ, List, length, get_or, ◌<◌, Some, slice_get}
+use Rattle.std.specs.Prelude.{◌≡◌, ℕ, List, length, get_or, ◌<◌, ◌≤◌, Some, slice_get}
+use Rattle.pst_model.specs.ModelTree.{ModelTree}
 use Rattle.pst_scen.specs.declared.scenario.Scenario.{Scenario}
 use Rattle.pst_scen.specs.declared.event.Event.{Event}
 use Rattle.pst_scen.specs.Trace.{Runs, Prefix}
@@ -7,7 +8,8 @@ use Rattle.pst_scen.specs.Plan.{Entries}
 use Rattle.pst_scen.specs.Plans.{IsPlanOf}
 use Rattle.pst_addr.specs.declared.ask.Ask.{Ask}
 use Rattle.pst_addr.specs.declared.ask.Space.{Space}
-use Rattle.pst_addr.specs.Places.{Meet, AreApart, ArePlaced, HasNoRoom}
+use Rattle.pst_addr.specs.Places.{Meet, AreApart, ArePlaced, HasNoRoom, AreAsks}
+use Rattle.pst_addr.specs.Asks.{asks_of}
 
 -- The bytes of two asks that meet have none in common.
 abbrev pub PlacedAreApart : Type 0
@@ -34,3 +36,9 @@ abbrev pub RunningActionsMeet : Type 0
 RunningActionsMeet =
     (s : Scenario) (p : Entries) (lanes : ℕ) (trace : List Event) (one other : ℕ)
     → IsPlanOf s p → Prefix s lanes trace → one < length s.actions → other < length s.actions → Runs trace one → Runs trace other → Meet p one other
+
+-- What a scenario's actions ask for is asked by actions of its plan, for at least one byte and an alignment, and by each at most once.
+abbrev pub AsksAreOfPlan : Type 0
+AsksAreOfPlan =
+    (names : List (List ℕ)) (m : ModelTree) (s : Scenario) (p : Entries)
+    → length p.groups ≡ length s.actions → AreAsks p (asks_of names m s) × (length (asks_of names m s) ≤ length s.actions)

@@ -2,7 +2,7 @@
 //!
 //! Each law is the contract of a function that does nothing. A caller that needs a law in a proof
 //! calls its function.
-ghost use Rattle.pst_addr.specs.Laws.{PlacedAreApart, PlacesAreOne, PlacedOrNot, NoRoomIsOne, RunningActionsMeet};
+ghost use Rattle.pst_addr.specs.Laws.{PlacedAreApart, PlacesAreOne, PlacedOrNot, NoRoomIsOne, RunningActionsMeet, AsksAreOfPlan};
 
 use pst_order::running_meet;
 
@@ -25,3 +25,9 @@ pub fn running_actions_meet()
 {
     running_meet();
 }
+
+/// What a scenario's actions ask for can be placed by its plan: the asks are of its actions, at most
+/// one of each, with at least one byte and an alignment of at least 1.
+pub fn asks_are_of_plan()
+    ensures { AsksAreOfPlan }
+{}

@@ -14,5 +14,5 @@ mod placing;
 
 pub use ask::{Ask, PlaceEnd, Space};
 pub use asks::asks_of;
-pub use laws::{placed_are_apart, places_are_one, running_actions_meet};
+pub use laws::{asks_are_of_plan, placed_are_apart, places_are_one, running_actions_meet};
 pub use placing::place;
