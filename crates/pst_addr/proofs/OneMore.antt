@@ -130,7 +130,7 @@ module _ (p : Entries) (space : Space) (asks : List Ask) (places : List ℕ) (as
 
 pub record AreSoFar (p : Entries) (space : Space) (asks : List Ask) (places : List ℕ) (ranges : List Range) (count : ℕ) : Type 0 where
   pub first : AreFirst p space asks places
-  pub count : length places ≡ count
+  pub many : length places ≡ count
   pub ranges : AreRangesOf asks places ranges
 
 module _ (p : Entries) (space : Space) (asks : List Ask) (places : List ℕ) (ranges : List Range) (k : ℕ) (so_far : AreSoFar p space asks places ranges k) (d : Ask) (inside : k < length asks) where
@@ -138,19 +138,19 @@ module _ (p : Entries) (space : Space) (asks : List Ask) (places : List ℕ) (ra
   ask = get_or asks k d
 
   is_next : slice_get asks (length places) ≡ Some ask
-  is_next = subst (λ n. slice_get asks n ≡ Some ask) (sym so_far.count) (slice_get-get_or asks k d inside)
+  is_next = subst (λ n. slice_get asks n ≡ Some ask) (sym so_far.many) (slice_get-get_or asks k d inside)
 
   pub placed_on : (address : ℕ) (new_places : List ℕ) (new_ranges : List Range) → IsLeast (FitsAmong p space ranges ask) address
       → (at : ℕ) × IsInsertion ranges address at × (new_ranges ≡ insert ranges at (range_of ask address)) → new_places ≡ places ++ address ∷ [] → AreSoFar p space asks new_places new_ranges (k + 1)
   placed_on address new_places new_ranges least (at, goes, ranges_are) places_are =
       let placed = placed_among p space asks places ranges so_far.ranges ask address least in
-      let many = length-append places (address ∷ []) in
-      let count = so_far.count in
+      let added = length-append places (address ∷ []) in
+      let count = so_far.many in
       subst (λ v. AreSoFar p space asks v new_ranges (k + 1)) (sym places_are)
       (subst (λ v. AreSoFar p space asks (places ++ address ∷ []) v (k + 1)) (sym ranges_are)
       (record {
         first = first_more p space asks places ask address is_next so_far.first placed;
-        count = omega (arith, many, count);
+        many = omega (arith, added, count);
         ranges = ranges_more p space asks places ask address is_next ranges at so_far.ranges goes;
       }))
 
@@ -158,7 +158,7 @@ module _ (p : Entries) (space : Space) (asks : List Ask) (places : List ℕ) (ra
   without none = record {
     places = places;
     first = so_far.first;
-    count = so_far.count;
+    count = so_far.many;
     ask = ask;
     is = slice_get-get_or asks k d inside;
     none = none_among p space asks places ranges so_far.ranges ask none;
@@ -171,12 +171,12 @@ none_so_far p space asks places ranges places_are ranges_are =
     (subst (λ v. AreSoFar p space asks [] v 0) (sym ranges_are)
     (record {
       first = record { few = omega arith; each = λ k ask l is. absurd (omega (arith, l)) };
-      count = refl;
+      many = refl;
       ranges = record { each = λ k ask l is. absurd (omega (arith, l)); only = λ k d l. absurd (omega (arith, l)); sorted = λ i j d l h. absurd (omega (arith, h)) };
     }))
 
 pub all_placed : (p : Entries) (space : Space) (asks : List Ask) (places : List ℕ) (ranges : List Range) (k : ℕ) → AreSoFar p space asks places ranges k → length asks ≤ k → ArePlaced p space asks places
 all_placed p space asks places ranges k so_far end =
-    let count = so_far.count in
+    let count = so_far.many in
     let few = so_far.first.few in
     record { first = so_far.first; all = omega (arith, count, few, end) }
