@@ -131,7 +131,7 @@ module _ (p : Entries) (space : Space) (asks : List Ask) (places : List ℕ) (as
 pub record AreSoFar (p : Entries) (space : Space) (asks : List Ask) (places : List ℕ) (ranges : List Range) (count : ℕ) : Type 0 where
   pub first : AreFirst p space asks places
   pub many : length places ≡ count
-  pub ranges : AreRangesOf asks places ranges
+  pub are : AreRangesOf asks places ranges
 
 module _ (p : Entries) (space : Space) (asks : List Ask) (places : List ℕ) (ranges : List Range) (k : ℕ) (so_far : AreSoFar p space asks places ranges k) (d : Ask) (inside : k < length asks) where
   abbrev ask : Ask
@@ -143,7 +143,7 @@ module _ (p : Entries) (space : Space) (asks : List Ask) (places : List ℕ) (ra
   pub placed_on : (address : ℕ) (new_places : List ℕ) (new_ranges : List Range) → IsLeast (FitsAmong p space ranges ask) address
       → (at : ℕ) × IsInsertion ranges address at × (new_ranges ≡ insert ranges at (range_of ask address)) → new_places ≡ places ++ address ∷ [] → AreSoFar p space asks new_places new_ranges (k + 1)
   placed_on address new_places new_ranges least (at, goes, ranges_are) places_are =
-      let placed = placed_among p space asks places ranges so_far.ranges ask address least in
+      let placed = placed_among p space asks places ranges so_far.are ask address least in
       let added = length-append places (address ∷ []) in
       let count = so_far.many in
       subst (λ v. AreSoFar p space asks v new_ranges (k + 1)) (sym places_are)
@@ -151,7 +151,7 @@ module _ (p : Entries) (space : Space) (asks : List Ask) (places : List ℕ) (ra
       (record {
         first = first_more p space asks places ask address is_next so_far.first placed;
         many = omega (arith, added, count);
-        ranges = ranges_more p space asks places ask address is_next ranges at so_far.ranges goes;
+        are = ranges_more p space asks places ask address is_next ranges at so_far.are goes;
       }))
 
   pub without : ((address : ℕ) → FitsAmong p space ranges ask address → ⊥) → HasNoRoom p space asks k
@@ -161,7 +161,7 @@ module _ (p : Entries) (space : Space) (asks : List Ask) (places : List ℕ) (ra
     count = so_far.many;
     ask = ask;
     is = slice_get-get_or asks k d inside;
-    none = none_among p space asks places ranges so_far.ranges ask none;
+    none = none_among p space asks places ranges so_far.are ask none;
   }
 
 -- none has a place at first
@@ -172,7 +172,7 @@ none_so_far p space asks places ranges places_are ranges_are =
     (record {
       first = record { few = omega arith; each = λ k ask l is. absurd (omega (arith, l)) };
       many = refl;
-      ranges = record { each = λ k ask l is. absurd (omega (arith, l)); only = λ k d l. absurd (omega (arith, l)); sorted = λ i j d l h. absurd (omega (arith, h)) };
+      are = record { each = λ k ask l is. absurd (omega (arith, l)); only = λ k d l. absurd (omega (arith, l)); sorted = λ i j d l h. absurd (omega (arith, h)) };
     }))
 
 pub all_placed : (p : Entries) (space : Space) (asks : List Ask) (places : List ℕ) (ranges : List Range) (k : ℕ) → AreSoFar p space asks places ranges k → length asks ≤ k → ArePlaced p space asks places

@@ -1,3 +1,4 @@
 mod Plans
 mod OneAnswer
 mod Lines
+mod Showing

@@ -4,6 +4,7 @@ use Rattle.pst_model.specs.ModelTree.{ModelTree}
 use Rattle.pst_scen.specs.declared.scenario.Scenario.{Scenario}
 use Rattle.pst_scen.specs.Plan.{Entries}
 use Rattle.pst_scen.specs.Plans.{IsPlanOf}
+use Rattle.pst_addr.specs.declared.ask.Ask.{Ask}
 use Rattle.pst_addr.specs.declared.ask.Space.{Space}
 use Rattle.pst_addr.specs.Places.{ArePlaced, HasNoRoom}
 use Rattle.pst_addr.specs.Asks.{asks_of}
@@ -17,12 +18,14 @@ pub record Says (answer : PlaceAnswer) (text : List ℕ) (shown : ShownPlaces) :
   pub answer_is : shown.answer ≡ answer
   pub text_is : string_bytes shown.text ≡ text
 
--- What the scenario's actions ask for has these addresses in the space, or one of the asks is the first without an address.
-pub data ShowsPlaces (names : List (List ℕ)) (m : ModelTree) (s : Scenario) (plan : Entries) (space : Space) : PlaceAnswer → List ℕ → Type 0 where
-  AllHavePlaces : (places : List ℕ) → ArePlaced plan space (asks_of names m s) places
-      → ShowsPlaces names m s plan space (Placed (length (asks_of names m s))) (placed_text names m s (asks_of names m s) places)
-  OneHasNone : (number : ℕ) (without : HasNoRoom plan space (asks_of names m s) number)
-      → ShowsPlaces names m s plan space (NoRoom without.ask.action) (no_room_text without.ask.action)
+-- The asks have these addresses in the space, or one of them is the first without an address.
+pub data ShowsAsks (names : List (List ℕ)) (m : ModelTree) (s : Scenario) (plan : Entries) (space : Space) (asks : List Ask) : PlaceAnswer → List ℕ → Type 0 where
+  AllHavePlaces : (places : List ℕ) → ArePlaced plan space asks places → ShowsAsks names m s plan space asks (Placed (length asks)) (placed_text names m s asks places)
+  OneHasNone : (number : ℕ) (without : HasNoRoom plan space asks number) → ShowsAsks names m s plan space asks (NoRoom without.ask.action) (no_room_text without.ask.action)
+
+-- The same of what the scenario's actions ask for.
+abbrev pub ShowsPlaces : List (List ℕ) → ModelTree → Scenario → Entries → Space → PlaceAnswer → List ℕ → Type 0
+ShowsPlaces names m s plan space = ShowsAsks names m s plan space (asks_of names m s)
 
 -- at most one answer with one text is right for a scenario, whose plan may be held in two ways
 abbrev pub PlaceAnswersAreOne : Type 0

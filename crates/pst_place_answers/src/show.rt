@@ -4,7 +4,8 @@ ghost use Rattle.pst_model.specs.ModelView.{view_model};
 ghost use Rattle.pst_scen.specs.Plans.{IsPlanOf};
 ghost use Rattle.pst_trace_texts.specs.Header.{header_text};
 ghost use Rattle.pst_place_answers.specs.Texts as texts;
-ghost use Rattle.pst_place_answers.specs.Shown.{Says, ShowsPlaces};
+ghost use Rattle.pst_addr.specs.Places.{AreAsks};
+ghost use Rattle.pst_place_answers.specs.Shown.{Says, ShowsAsks, ShowsPlaces};
 
 use crate::answer::{PlaceAnswer, ShownPlaces};
 use crate::lines::{write_count, write_places};
@@ -81,6 +82,28 @@ fn show_no_room(alloc: Global, action: u32) -> Result<ShownPlaces, NoMemory>
     })
 }
 
+// Places asks in the space, and shows their addresses, or the first action without one.
+fn show_asks(
+    alloc: Global,
+    names: &Names,
+    model: &Model,
+    scenario: &Scenario,
+    plan: &Plan,
+    asks: &[Ask],
+    space: Space,
+) -> Result<ShownPlaces, NoMemory>
+    requires asks { AreAsks plan.now asks.now }
+    requires few { length asks.now < 2 ^ 32 }
+    requires space { space.base + space.size ≤ 2 ^ 63 }
+    ensures { IfOk result (λ shown. ShowsAsks names.now (view_model model.now) scenario.now plan.now space asks.now shown.answer (string_bytes shown.text)) }
+{
+    match place(alloc, plan, asks, space) {
+        Ok(places) => show_placed(alloc, names, model, scenario, asks, &places),
+        Err(PlaceEnd::NoRoom { ask }) => show_no_room(alloc, asks[ask as usize].action),
+        Err(PlaceEnd::NoMemory) => Err(NoMemory),
+    }
+}
+
 /// Places what the scenario's actions ask for in the space, and shows the addresses, or the first
 /// action without one.
 pub fn show_places(
@@ -98,9 +121,5 @@ pub fn show_places(
 {
     asks_are_of_plan();
     let asks = asks_of(alloc, names, model, scenario)?;
-    match place(alloc, plan, &asks, space) {
-        Ok(places) => show_placed(alloc, names, model, scenario, &asks, &places),
-        Err(PlaceEnd::NoRoom { ask }) => show_no_room(alloc, asks[ask as usize].action),
-        Err(PlaceEnd::NoMemory) => Err(NoMemory),
-    }
+    show_asks(alloc, names, model, scenario, plan, &asks, space)
 }
