@@ -10,13 +10,13 @@ loop-k-init c = none_so_far c.args.plan.now c.args.space c.args.asks.now c.in_ok
 
 pub first_fit-requires-clause-ranges_in : goal.first_fit-requires-clause-ranges_in
 first_fit-requires-clause-ranges_in c =
-    ranges_in c.args.plan.now c.args.space c.args.asks.now c.loop-k.places.items c.loop-k.ranges.items c.loop-k.invariant.are (record { action = 0; size = 0; align = 0 }) c.requires.asks
+    rw c.deref.ensures.value (ranges_in c.args.plan.now c.args.space c.args.asks.now c.loop-k.places.items c.loop-k.ranges.items c.loop-k.invariant.are (record { action = 0; size = 0; align = 0 }) c.requires.asks)
 
 pub first_fit-requires-clause-sorted : goal.first_fit-requires-clause-sorted
-first_fit-requires-clause-sorted c = c.loop-k.invariant.are.sorted
+first_fit-requires-clause-sorted c = rw c.deref.ensures.value c.loop-k.invariant.are.sorted
 
 pub returns-in_default : goal.returns-in_default
-returns-in_default c = without c.args.plan.now c.args.space c.args.asks.now c.loop-k.places.items c.loop-k.ranges.items c.loop-k.k c.loop-k.invariant _ c.loop-k-test.true c.in_default.ensures
+returns-in_default c = without c.args.plan.now c.args.space c.args.asks.now c.loop-k.places.items c.loop-k.ranges.items c.loop-k.k c.loop-k.invariant _ c.loop-k-test.true (rw c.deref.ensures.value at c.in_default.ensures)
 
 pub range_at-requires : goal.range_at-requires
 range_at-requires c =
@@ -30,7 +30,7 @@ add_range-requires c = c.loop-k.invariant.are.sorted
 pub loop-k-preserved : goal.loop-k-preserved
 loop-k-preserved c =
     placed_on c.args.plan.now c.args.space c.args.asks.now c.loop-k.places.items c.loop-k.ranges.items c.loop-k.k c.loop-k.invariant _ c.loop-k-test.true c.in-Some.address c.add_place.new.places.items c.add_range.new.ranges.items
-    c.in-Some.ensures
+    (rw c.deref.ensures.value at c.in-Some.ensures)
     (subst (λ (range : Range). (at : ℕ) × IsInsertion c.loop-k.ranges.items range.low at × (c.add_range.new.ranges.items ≡ insert c.loop-k.ranges.items at range)) c.range_at.ensures c.in_ok-add_range.ensures)
     c.in_ok-add_place.ensures
 
