@@ -3,8 +3,8 @@
 #![tactic(auto)]
 
 mod answer;
-mod lines;
 mod laws;
+mod lines;
 mod show;
 
 pub use answer::{PlaceAnswer, ShownPlaces};

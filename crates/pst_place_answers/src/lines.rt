@@ -15,11 +15,7 @@ fn write_place(text: &mut String, ask: Ask, address: u64) -> Result<(), NoMemory
 }
 
 /// Adds a line for each ask, with its address.
-pub(crate) fn write_places(
-    text: &mut String,
-    asks: &[Ask],
-    places: &[u64],
-) -> Result<(), NoMemory>
+pub(crate) fn write_places(text: &mut String, asks: &[Ask], places: &[u64]) -> Result<(), NoMemory>
     requires { length asks.now ≤ length places.now }
     ensures { OnOk result (string_bytes text.new ≡ string_bytes text.old ++ each_from (λ number ask. place_line ask (get_or places.now number 0)) 0 asks.now) }
 {
