@@ -13,3 +13,7 @@ each_more {X = X} text items at item old new whole below is written so_far =
     ∙ append_assoc old (text at item) (each_from text (at + 1) (drop (at + 1) items))
     ∙ ap (λ (rest : List X). old ++ each_from text at rest) (sym split)
     ∙ so_far
+
+-- two texts in turn
+pub two : (old middle new a b : List ℕ) → middle ≡ old ++ a → new ≡ middle ++ b → new ≡ old ++ (a ++ b)
+two old middle new a b first second = second ∙ ap (λ (t : List ℕ). t ++ b) first ∙ append_assoc old a b
