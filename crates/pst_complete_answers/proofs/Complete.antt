@@ -51,7 +51,7 @@ module _ (laws : LineLaws) (lines : Lines) (have : ℕ) (words : List (List ℕ)
 
   -- ---- a legal scenario
 
-  legal_good : (a : Answer) (x : List ℕ) → IsLegalInTime asked → ((s : Scenario) → IsFirst asked.model asked.root asked.task.seed asked.task.infer s → CanBeDone asked.model s told asked.task.work)
+  legal_good : (a : Answer) (x : List ℕ) → IsLegalInTime asked → ((s : Scenario) → IsFirst asked.model asked.root asked.task.seed asked.task.infer s → CanBeDone asked.names asked.model s told asked.task.work)
       → OfAsked a x → IsGoodForFirst asked a
   legal_good _ _ within free (HasNone _ _ none) = absurd (none within.scenario within.few_inferred within.reads.legal)
   legal_good _ _ within free (IsSpent level _ _ few spent) =
@@ -84,7 +84,7 @@ pub found_lines : LineLaws → FoundLinesAreComplete
 found_lines laws lines have words f old new told w answer asked s asking calm in_time free h =
     by (legal_lines laws lines have words f old new told w answer asked asking calm
     (record { scenario = s; few_inferred = in_time.first.few; choices = in_time.first.choices; reads = in_time.first.reads; few = in_time.few })
-    (λ r first. subst (λ (z : Scenario). CanBeDone asked.model z told asked.task.work) (sym (same r first)) free) h)
+    (λ r first. subst (λ (z : Scenario). CanBeDone asked.names asked.model z told asked.task.work) (sym (same r first)) free) h)
   where
     same : (r : Scenario) → IsFirst asked.model asked.root asked.task.seed asked.task.infer r → r ≡ s
     same r first = laws.firsts asked.model asked.root asked.task.seed asked.task.infer r s first in_time.first

@@ -13,12 +13,15 @@ use Rattle.pst_legal.specs.Body.{Trap, body_run}
 use Rattle.pst_live_lists.specs.Few.{FewLive, IsUpTo, IsSearched}
 use Rattle.pst_body.specs.Doing.{with_calls}
 use Rattle.pst_run_alone.specs.Lanes.{Lane}
+use Rattle.pst_addr.specs.declared.ask.Space.{Space}
+use Rattle.pst_addr.specs.Places.{HasNoRoom}
+use Rattle.pst_addr.specs.Asks.{asks_of}
 use Rattle.pst_words.specs.declared.command.Command.{Command}
-use Rattle.pst_words.specs.declared.command.Command.TheVariants.{Run, Solve, Check, Gen}
+use Rattle.pst_words.specs.declared.command.Command.TheVariants.{Run, Solve, Check, Gen, Place}
 use Rattle.pst_words.specs.declared.command.Lines.{Lines}
 use Rattle.pst_words.specs.Lines.{IsLine}
 use Rattle.pst_outcome.specs.declared.answer.Answer.{Answer}
-use Rattle.pst_outcome.specs.declared.answer.Answer.TheVariants.{Done, Solved, Whole, Prefix, BadTrace, Illegal}
+use Rattle.pst_outcome.specs.declared.answer.Answer.TheVariants.{Done, Solved, Placed, Whole, Prefix, BadTrace, Illegal}
 use Rattle.pst_outcome.specs.declared.task.Task.{Task}
 use Rattle.pst_outcome.specs.declared.task.Work.{Work}
 use Rattle.pst_outcome.specs.declared.task.Work.TheVariants as work
@@ -87,16 +90,21 @@ pub record RunsFreely (m : ModelTree) (s : Scenario) (count : ℕ) (told : List 
   pub lanes : All (λ l. HasRisen l.faults_before l.faults_after → ⊥) told
   pub bodies : All (NoBodyTraps m s) told
 
--- where the scenario is run, it runs freely on the lanes that the line says
-abbrev pub CanBeDone : ModelTree → Scenario → List Lane → Work → Type 0
-CanBeDone m s told (work.Run count) = RunsFreely m s count told
-CanBeDone m s told (work.Generate size count) = RunsFreely m s count told
-CanBeDone m s told other = Unit {0}
+-- each ask of the scenario's actions has an address in the space
+abbrev pub HasRoom : List (List ℕ) → ModelTree → Scenario → Space → Type 0
+HasRoom names m s space = (plan : Entries) (number : ℕ) → IsPlanOf s plan → HasNoRoom plan space (asks_of names m s) number → ⊥
+
+-- where the scenario is run, it runs freely on the lanes that the line says; and the space of a line has room for its asks
+abbrev pub CanBeDone : List (List ℕ) → ModelTree → Scenario → List Lane → Work → Type 0
+CanBeDone names m s told (work.Run count) = RunsFreely m s count told
+CanBeDone names m s told (work.Generate size count) = RunsFreely m s count told
+CanBeDone names m s told (work.Place space) = HasRoom names m s space
+CanBeDone names m s told other = Unit {0}
 
 -- ---- good answers
 
--- the good answers of a line whose first legal scenario has so many actions: all of them were run, the scenario's header was printed, or the trace file
--- was judged
+-- the good answers of a line whose first legal scenario has so many actions: all of them were run, the scenario's header was printed, the trace file
+-- was judged, or what the actions ask for has addresses
 pub data IsGood (actions : ℕ) : Command → Answer → Type 0 where
   WasRun : IsGood actions Run (Done actions)
   WasGenerated : IsGood actions Gen (Done actions)
@@ -105,6 +113,7 @@ pub data IsGood (actions : ℕ) : Command → Answer → Type 0 where
   IsPrefix : IsGood actions Check Prefix
   IsNoTrace : (line : ℕ) → IsGood actions Check (BadTrace line)
   IsIllegal : (line rule : ℕ) → IsGood actions Check (Illegal line rule)
+  WasPlaced : (asks : ℕ) → IsGood actions Place (Placed asks)
 
 -- there is a first legal scenario, and the answer is good for it
 pub record IsGoodForFirst (asked : Asked) (answer : Answer) : Type 0 where

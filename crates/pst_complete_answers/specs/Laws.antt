@@ -15,7 +15,7 @@ use Rattle.pst_complete_answers.specs.Complete.{Asked, AreAsking, CallsSucceed, 
 abbrev pub FoundLinesAreComplete : Type 0
 FoundLinesAreComplete =
     (lines : Lines) (have : ℕ) (words : List (List ℕ)) (files : Files) (old new : ℕ) (told : List Lane) (w : Writing) (answer : Answer) (asked : Asked) (s : Scenario)
-    → AreAsking lines have words files old new asked → CallsSucceed old new w → IsFoundInTime asked s → CanBeDone asked.model s told asked.task.work
+    → AreAsking lines have words files old new asked → CallsSucceed old new w → IsFoundInTime asked s → CanBeDone asked.names asked.model s told asked.task.work
     → Answers lines have words (Some files) old new told w answer
     → IsGood (length s.actions) asked.command answer ⊎ (answer ≡ NoMemory)
 
@@ -24,7 +24,7 @@ abbrev pub LegalLinesAreComplete : Type 0
 LegalLinesAreComplete =
     (lines : Lines) (have : ℕ) (words : List (List ℕ)) (files : Files) (old new : ℕ) (told : List Lane) (w : Writing) (answer : Answer) (asked : Asked)
     → AreAsking lines have words files old new asked → CallsSucceed old new w → IsLegalInTime asked
-    → ((s : Scenario) → IsFirst asked.model asked.root asked.task.seed asked.task.infer s → CanBeDone asked.model s told asked.task.work)
+    → ((s : Scenario) → IsFirst asked.model asked.root asked.task.seed asked.task.infer s → CanBeDone asked.names asked.model s told asked.task.work)
     → Answers lines have words (Some files) old new told w answer
     → IsGoodForFirst asked answer ⊎ (answer ≡ NoMemory)
 

@@ -4,6 +4,7 @@ ghost use Rattle.pst_words.specs.Lines.{given};
 ghost use Rattle.pst_line_parts.specs.Lines.{AreBehind};
 ghost use Rattle.pst_outcome.specs.Tasks.{IsNumberGiven};
 
+use pst_outcome::Space;
 use pst_words::{Key, Line};
 
 // The number that is given for the key, or else another one, where it is below 2^32.
@@ -37,4 +38,15 @@ pub fn infer_given(line: &Line<'_>) -> u32
     ensures { IsNumberGiven Key.Infer (map string_bytes line.now.arguments.now) 2 result }
 {
     small_number(line, Key::Infer, 2)
+}
+
+/// The space of addresses that a line gives; it begins at 0 where the line doesn't say so.
+pub fn space_given(line: &Line<'_>) -> Space
+    ensures base { IsNumberGiven Key.Base (map string_bytes line.now.arguments.now) 0 result.base }
+    ensures size { IsNumberGiven Key.Space (map string_bytes line.now.arguments.now) 0 result.size }
+{
+    Space {
+        base: line.number(Key::Base, 0),
+        size: line.number(Key::Space, 0),
+    }
 }

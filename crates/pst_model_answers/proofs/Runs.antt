@@ -18,14 +18,15 @@ use Rattle.pst_run_alone.specs.Lanes.{Lane, IsUncalled, HasMade, AreUncalled, Ha
 use Rattle.pst_run_alone.specs.Shown.{ShowsRun}
 use Rattle.pst_run_alone.proofs.Shows.{with_none, end_shown, end_not_done, made_in}
 use Rattle.pst_generated.specs.Generated.{counts_text}
+use Rattle.pst_addr.specs.declared.ask.Space.{Space}
 use Rattle.pst_outcome.specs.declared.answer.Answer.{Answer}
 use Rattle.pst_outcome.specs.declared.answer.Answer.TheVariants.{Done, Solved}
 use Rattle.pst_outcome.specs.declared.reply.Reply.{Reply}
 use Rattle.pst_outcome.specs.declared.task.Work.{Work}
 use Rattle.pst_outcome.specs.declared.task.Work.TheVariants as work
 use Rattle.pst_outcome.specs.Tasks.{FitsLanes}
-use Rattle.pst_outcome.specs.Models.{OfScenario, IsRun, IsGenerated, IsSolved, IsJudged, HasEnded, EndsElse, count_ended, answer_of_run}
-use Rattle.pst_model_answers.specs.Replies.{Says, Tells, TellsEnd, SaysCheck, Replies}
+use Rattle.pst_outcome.specs.Models.{OfScenario, IsRun, IsGenerated, IsSolved, IsJudged, IsPlacing, HasEnded, EndsElse, count_ended, answer_of_run, answer_of_places}
+use Rattle.pst_model_answers.specs.Replies.{Says, Tells, TellsEnd, SaysCheck, SaysPlaces, Replies}
 
 -- without a call no calls were made
 pub none_made : (l : Lane) → IsUncalled l → HasMade l
@@ -92,6 +93,11 @@ module _ (names : List (List ℕ)) (m : ModelTree) (s : Scenario) (plan : Entrie
   pub check_replied : (trace : List ℕ) (r : Result Reply NoMemory) → IsUncalled l → IfOk r (SaysCheck names m s trace) → Replies names m s plan trace l work.Check r
   check_replied trace (Ok reply) none (answer, checked, says) = said (OfScenario names m s plan trace (l ∷ []) work.Check) _ _ reply (IsJudged answer (one_uncalled l none) checked) says
   check_replied trace (Err e) none says = none_made l none
+
+  pub place_replied : (space : Space) (r : Result Reply NoMemory) → IsUncalled l → IfOk r (SaysPlaces names m s plan space) → (trace : List ℕ) → Replies names m s plan trace l (work.Place space) r
+  place_replied space (Ok reply) none (answer, shows, answer_is) trace =
+      subst (λ (a : Answer). OfScenario names m s plan trace (l ∷ []) (work.Place space) a (string_bytes reply.text)) (sym answer_is) (IsPlacing space answer (string_bytes reply.text) (one_uncalled l none) shows)
+  place_replied space (Err e) none says trace = none_made l none
 
   -- what is done is that
   pub replied_as : (trace : List ℕ) (done other : Work) (r : Result Reply NoMemory) → done ≡ other → Replies names m s plan trace l other r → Replies names m s plan trace l done r

@@ -1,20 +1,21 @@
 //! What is done with a scenario that was found.
-ghost use Rattle.std.specs.Prelude.{◌≡◌, ◌<◌, ◌^◌, ◌-◌, [], length, nat_eq, IfOk, string_bytes};
+ghost use Rattle.std.specs.Prelude.{◌≡◌, ◌<◌, ◌≤◌, ◌+◌, ◌^◌, ◌-◌, [], length, nat_eq, IfOk, string_bytes};
 ghost use Rattle.std.specs.List.{count_by};
 ghost use Rattle.pst_model.specs.ModelView.{view_model};
 ghost use Rattle.pst_trace_texts.specs.declared.last.Last.TheVariants.{Solved as WasSolved};
 ghost use Rattle.pst_trace_texts.specs.Texts.{trace_text};
 ghost use Rattle.pst_run_alone.specs.Lanes.{lane as lane_of};
 ghost use Rattle.pst_outcome.specs.Tasks.{FitsLanes};
-ghost use Rattle.pst_outcome.specs.Models.{answer_of_check as answer_of, IsSought};
+ghost use Rattle.pst_outcome.specs.Models.{answer_of_check as answer_of, answer_of_places as answer_of_placing, IsSought};
 ghost use Rattle.pst_model_answers.specs.Ready.{IsReady};
-ghost use Rattle.pst_model_answers.specs.Replies.{Says, SaysCheck, Replies};
+ghost use Rattle.pst_model_answers.specs.Replies.{Says, SaysCheck, SaysPlaces, Replies};
 
 use crate::counts::reply_to_counts;
 use crate::run::reply_to_run;
 use pst_base::{Names, NoMemory};
 use pst_model::Model;
-use pst_outcome::{Answer, Reply, Work};
+use pst_outcome::{Answer, Reply, Space, Work};
+use pst_place_answers::{PlaceAnswer, show_places};
 use pst_scen::{Plan, Scenario};
 use pst_scenario_answers::{CheckAnswer, checked, solved_text};
 use pst_target::Target;
@@ -50,6 +51,36 @@ fn reply_to_solve(
     })
 }
 
+// The answer of the program to places.
+fn answer_of_places(answer: PlaceAnswer) -> Answer
+    ensures { result ≡ answer_of_placing answer }
+{
+    match answer {
+        PlaceAnswer::Placed { asks } => Answer::Placed { asks },
+        PlaceAnswer::NoRoom { action } => Answer::NoRoom { action },
+    }
+}
+
+// The reply that places what the actions ask for.
+fn reply_to_place(
+    alloc: Global,
+    names: &Names,
+    model: &Model,
+    scenario: &Scenario,
+    plan: &Plan,
+    space: Space,
+) -> Result<Reply, NoMemory>
+    requires ready { IsReady (view_model model.now) scenario.now plan.now }
+    requires room { space.base + space.size ≤ 2 ^ 63 }
+    ensures { IfOk result (SaysPlaces names.now (view_model model.now) scenario.now plan.now space) }
+{
+    let shown = show_places(alloc, names, model, scenario, plan, space)?;
+    Ok(Reply {
+        answer: answer_of_places(shown.answer),
+        text: shown.text,
+    })
+}
+
 // The reply to a trace.
 fn reply_to_check(
     alloc: Global,
@@ -71,7 +102,8 @@ fn reply_to_check(
     })
 }
 
-/// The reply where the scenario was found: it is run on one lane, printed, or compared with the trace.
+/// The reply where the scenario was found: it is run on one lane, printed, compared with the trace, or
+/// what its actions ask for is placed.
 pub(crate) fn reply_to_found<T: Target>(
     alloc: Global,
     names: &Names,
@@ -95,6 +127,7 @@ pub(crate) fn reply_to_found<T: Target>(
         Work::Generate { size, lanes: _one } => {
             reply_to_counts(alloc, names, model, scenario, plan, size, lane)
         }
+        Work::Place { space } => reply_to_place(alloc, names, model, scenario, plan, space),
         Work::Unbuilt => unreachable!(),
     }
 }

@@ -27,6 +27,7 @@ fn is_sought(work: Work) -> bool
 {
     match work {
         Work::Run { .. } | Work::Solve | Work::Check | Work::Generate { .. } => true,
+        Work::Place { .. } => true,
         Work::Unbuilt => false,
     }
 }
@@ -76,8 +77,8 @@ pub fn reply_to_search_end(alloc: Global, infer: u32, end: SearchEnd) -> Result<
 }
 
 /// What is answered of the model of sources, and the text that is to be written for it: its first legal
-/// scenario is sought and run on the lane, a generated model's too, its header is printed, or a trace is
-/// judged against it.
+/// scenario is sought and run on the lane, a generated model's too, its header is printed, a trace is
+/// judged against it, or what its actions ask for is placed.
 ///
 /// The model is sound, the root is an action type that isn't abstract, the trace has fewer than
 /// 2^32 - 2 line feeds, and no more than one lane is asked for. The lane is called by runs alone. Where memory runs out, the calls made stay in

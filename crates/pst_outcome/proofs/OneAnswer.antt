@@ -13,6 +13,7 @@ use Rattle.pst_elab_rules.specs.Laws.{FirstBreachesAreOne, AnswersAreApart}
 use Rattle.pst_order.specs.Laws.{CoreIsOne}
 use Rattle.pst_legal.specs.Laws.{FirstIsOne, BodiesEndOnce}
 use Rattle.pst_scenario_answers.specs.Checked.{ChecksAreOne}
+use Rattle.pst_place_answers.specs.Shown.{PlaceAnswersAreOne}
 use Rattle.pst_run_alone.specs.Lanes.{Lane}
 use Rattle.pst_run_alone.specs.Shown.{RunsAreOne, TracesAreOne}
 use Rattle.pst_words.specs.declared.command.Command.{Command}
@@ -148,10 +149,10 @@ module _ (sources : SourceLaws) (models : ModelLaws) (lines : Lines) (have : ℕ
   two_answers _ _ _ _ (Right c xs a s line h) (Right d ys b t other k) = two_lines c d xs ys a b s t line other h k
 
 -- words have one answer and one text, but for the budget
-pub one_answer : EachTextHasOneReading → EachTextHasOneOutcome → TokensOfTextsAreOne → AtMostOneTree TheUnit → AnswersAgree → FirstBreachesAreOne → AnswersAreApart → FirstIsOne → RunsAreOne → TracesAreOne → ChecksAreOne → BodiesEndOnce → CoreIsOne
+pub one_answer : EachTextHasOneReading → EachTextHasOneOutcome → TokensOfTextsAreOne → AtMostOneTree TheUnit → AnswersAgree → FirstBreachesAreOne → AnswersAreApart → FirstIsOne → RunsAreOne → TracesAreOne → ChecksAreOne → BodiesEndOnce → CoreIsOne → PlaceAnswersAreOne
     → AnswersAreOne
-one_answer readings outcomes texts trees agree breaches apart firsts runs traces checks bodies cores lines have words files faults lanes a b s t below told h k =
-    two_answers (record { readings = readings; outcomes = outcomes; texts = texts; trees = trees; agree = agree; breaches = breaches; apart = apart }) (record { first = firsts; runs = runs; traces = traces; checks = checks; bodies = bodies; cores = cores })
+one_answer readings outcomes texts trees agree breaches apart firsts runs traces checks bodies cores places lines have words files faults lanes a b s t below told h k =
+    two_answers (record { readings = readings; outcomes = outcomes; texts = texts; trees = trees; agree = agree; breaches = breaches; apart = apart }) (record { first = firsts; runs = runs; traces = traces; checks = checks; bodies = bodies; cores = cores; places = places })
     lines have words files faults lanes told a b s t
     (of_words lines have words files faults lanes a s below h)
     (of_words lines have words files faults lanes b t below k)

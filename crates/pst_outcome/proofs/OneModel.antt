@@ -15,6 +15,7 @@ use Rattle.pst_book.specs.Books.{View}
 use Rattle.pst_trace_texts.specs.declared.last.Last.TheVariants as last
 use Rattle.pst_trace_texts.specs.Texts.{trace_text}
 use Rattle.pst_scenario_answers.specs.Checked.{ChecksAreOne, answer_text}
+use Rattle.pst_place_answers.specs.Shown.{PlaceAnswersAreOne}
 use Rattle.pst_run_alone.specs.declared.answer.RunAnswer.{RunAnswer}
 use Rattle.pst_run_alone.specs.declared.answer.RunAnswer.TheVariants as ran
 use Rattle.pst_run_alone.specs.Lanes.{Lane}
@@ -27,7 +28,7 @@ use Rattle.pst_outcome.specs.declared.task.Task.{Task}
 use Rattle.pst_outcome.specs.declared.task.Work.{Work}
 use Rattle.pst_outcome.specs.declared.task.Work.TheVariants as work
 use Rattle.pst_outcome.specs.SharedRuns.{Break, HaveStopped, answer_of_break, last_of_break, ShowsSharedRun, IsTooWide, EndsWhole, EndsEarly}
-use Rattle.pst_outcome.specs.Models.{answer_of_run, answer_of_check, count_ended, ShowsCounts, HasEnded, EndsElse, ShowsSharedCounts, HaveEnded, EndElse, OfScenario, IsRun, IsSharedRun, IsGenerated, IsSharedGenerated, IsSolved, IsJudged, IsSought, OfModel, HasNone, IsSpent, IsFound, IsUnbuilt}
+use Rattle.pst_outcome.specs.Models.{answer_of_run, answer_of_check, answer_of_places, count_ended, ShowsCounts, HasEnded, EndsElse, ShowsSharedCounts, HaveEnded, EndElse, OfScenario, IsRun, IsSharedRun, IsGenerated, IsSharedGenerated, IsSolved, IsJudged, IsPlacing, IsSought, OfModel, HasNone, IsSpent, IsFound, IsUnbuilt}
 use Rattle.pst_outcome.specs.Laws.{IsSpentBudget, Telling, Whole, Counts, Stop, TellsRun, TellTwoRuns, IsTold}
 use Rattle.pst_outcome.proofs.OneTask.{IsOnLanes}
 use Rattle.pst_outcome.proofs.OneRuns.{IsOf, two_tellings}
@@ -40,6 +41,7 @@ pub record ModelLaws : Type 0 where
   pub checks : ChecksAreOne
   pub bodies : BodiesEndOnce
   pub cores : CoreIsOne
+  pub places : PlaceAnswersAreOne
 
 -- one answer with one text, or runs of the scenario on several lanes that may differ
 abbrev pub AreAlike : List (List ℕ) → ModelTree → List Lane → Scenario → Work → Answer → Answer → List ℕ → List ℕ → Type 0
@@ -167,6 +169,7 @@ module _ (laws : ModelLaws) (names : List (List ℕ)) (m : ModelTree) (lanes : L
         alike_on_several (work.Generate size n) n u v t r refl several (two_judged (Some size) n u v t r (judged_counts p size n u t h) (judged_counts q size n v r j))
     of_scenario trace _ _ _ _ _ (IsSolved _) (IsSolved _) = inl (refl, refl)
     of_scenario trace _ _ _ _ _ (IsJudged u _ h) (IsJudged v _ k) = let same = laws.checks names m s trace u v h k in inl (ap answer_of_check same, ap answer_text same)
+    of_scenario trace _ _ _ _ _ (IsPlacing space u t _ h) (IsPlacing _ v r _ k) = let same = laws.places names m s p q space u v t r first second h k in inl (ap answer_of_places same.0, same.1)
 
   -- ---- models
 
@@ -177,6 +180,7 @@ module _ (laws : ModelLaws) (names : List (List ℕ)) (m : ModelTree) (lanes : L
   sought_by s plan trace _ _ _ (IsSharedGenerated size n u t several h) = tt
   sought_by s plan trace _ _ _ (IsSolved calm) = tt
   sought_by s plan trace _ _ _ (IsJudged u calm h) = tt
+  sought_by s plan trace _ _ _ (IsPlacing space u t calm h) = tt
 
   not_sought : (w : Work) → w ≡ work.Unbuilt → IsSought w → ⊥
   not_sought w unbuilt sought = subst IsSought unbuilt sought

@@ -1,5 +1,5 @@
 -- The words of a line ask for one thing.
-use Rattle.std.proofs.Common.{◌≡◌, ◌∙◌, ℕ, ◌*◌, ◌^◌, ◌<◌, ◌≤◌, ◌⊎◌, inl, inr, Bool, true, false, List, [], ◌∷◌, ◌++◌, length, drop, decimal, nat_lt, cond, refl, ap, sym, subst, arith}
+use Rattle.std.proofs.Common.{◌≡◌, ◌∙◌, ℕ, ◌+◌, ◌*◌, ◌^◌, ◌<◌, ◌≤◌, ◌⊎◌, inl, inr, Bool, true, false, List, [], ◌∷◌, ◌++◌, length, drop, decimal, nat_lt, cond, refl, ap, sym, subst, arith}
 use Rattle.std.specs.Prelude.{All, Some, None}
 use Rattle.std.proofs.lemmas.Bool.{ltb-true, ltb-false}
 use Rattle.std.proofs.lemmas.List.{append_cancel_left}
@@ -8,7 +8,7 @@ use Rattle.pst_generated.specs.Generated.{generated_text}
 use Rattle.pst_words.specs.declared.command.Command.{Command}
 use Rattle.pst_words.specs.declared.command.Command.TheVariants.{Run, Solve, Check, Gen, Static, Place, Sweep}
 use Rattle.pst_words.specs.declared.key.Key.{Key}
-use Rattle.pst_words.specs.declared.key.Key.TheVariants.{Seed, Infer, Budget, Lanes, Size}
+use Rattle.pst_words.specs.declared.key.Key.TheVariants.{Seed, Infer, Budget, Lanes, Size, Space, Base}
 use Rattle.pst_words.specs.Table.{key_start, IsValue}
 use Rattle.pst_words.specs.Lines.{IsArgument, AKey, AFile, is_of, given}
 use Rattle.pst_words.proofs.Keys.{word_is, is_word_of, one_key, key_no_file}
@@ -77,6 +77,12 @@ lanes have text is = (is.number, few_lanes (nat_lt have 16) have is.number refl 
 sizes : (have : ℕ) → IsNumberKey have Size
 sizes have text is = let high = is.high in (is.eighth * 8, omega (arith, high), is.spelled)
 
+spaces : (have : ℕ) → IsNumberKey have Space
+spaces have text is = let high = is.high in (is.number, omega (arith, high), is.spelled)
+
+bases : (have : ℕ) → IsNumberKey have Base
+bases have text is = let high = is.high in (is.number, omega (arith, high), is.spelled)
+
 -- the key is given no value, or a number that fits 64 bits
 cases : (command : Command) (have : ℕ) (key : Key) (words : List (List ℕ)) → IsNumberKey have key → All (IsArgument command have) words
     → (given key words ≡ None) ⊎ ((k : ℕ) × (k < 2 ^ 64) × (given key words ≡ Some (decimal k)))
@@ -107,9 +113,16 @@ one_generation have arguments a b each h k =
     let same : h.1 ≡ k.1 = one_number Gen have arguments each Lanes 1 h.1 k.1 (lanes have) h.3 k.3 in
     h.4 ∙ ap (λ (n : ℕ). work.Generate h.0 n) same ∙ ap (λ (n : ℕ). work.Generate n k.1) size ∙ sym k.4
 
+one_place : (have : ℕ) (arguments : List (List ℕ)) (a b : Work) → All (IsArgument Place have) arguments → IsWork Place arguments a → IsWork Place arguments b → a ≡ b
+one_place have arguments a b each h k =
+    let base : h.0 ≡ k.0 = one_number Place have arguments each Base 0 h.0 k.0 (bases have) h.2 k.2 in
+    let size : h.1 ≡ k.1 = one_number Place have arguments each Space 0 h.1 k.1 (spaces have) h.3 k.3 in
+    h.4 ∙ ap (λ (n : ℕ). work.Place (record { base = h.0; size = n })) size ∙ ap (λ (n : ℕ). work.Place (record { base = n; size = k.1 })) base ∙ sym k.4
+
 one_work : (command : Command) (have : ℕ) (arguments : List (List ℕ)) (a b : Work) → All (IsArgument command have) arguments → IsWork command arguments a → IsWork command arguments b → a ≡ b
 one_work Run have arguments a b each h k = one_run have arguments a b each h k
 one_work Gen have arguments a b each h k = one_generation have arguments a b each h k
+one_work Place have arguments a b each h k = one_place have arguments a b each h k
 one_work command have arguments a b each h k = h ∙ sym k
 
 one_limits : (command : Command) (have : ℕ) (arguments : List (List ℕ)) (i j b c : ℕ) → All (IsArgument command have) arguments → AreLimits command arguments i b → AreLimits command arguments j c → (i ≡ j) × (b ≡ c)
@@ -149,14 +162,39 @@ few_given command have n arguments some few each is = by (value_cases command ha
     by (inr (text, given_is, (k, low, high, small, spells))) =
         let same = is.is_given k small (given_is ∙ ap Some spells) in (omega (arith, same, low), omega (arith, same, high))
 
--- where so many lanes are there, and at most 16, the lanes of a line's task are there
+-- ---- spaces
+
+abbrev SpellsPart : List ℕ → Type 0
+SpellsPart text = (k : ℕ) × (k ≤ 2 ^ 62) × (k < 2 ^ 64) × (text ≡ decimal k)
+
+space_parts : (have : ℕ) → EachValue have Space SpellsPart
+space_parts have text v = let high = v.high in (v.number, omega (arith, high), omega (arith, high), v.spelled)
+
+base_parts : (have : ℕ) → EachValue have Base SpellsPart
+base_parts have text v = let high = v.high in (v.number, omega (arith, high), omega (arith, high), v.spelled)
+
+-- the number that a line gives for a key of a space is at most 2^62
+part_given : (command : Command) (have n : ℕ) (key : Key) (arguments : List (List ℕ)) → EachValue have key SpellsPart → All (IsArgument command have) arguments → IsNumberGiven key arguments 0 n → n ≤ 2 ^ 62
+part_given command have n key arguments spelled each is = by (value_cases command have key arguments SpellsPart spelled each)
+  where
+    by : (given key arguments ≡ None) ⊎ ((text : List ℕ) × (given key arguments ≡ Some text) × SpellsPart text) → n ≤ 2 ^ 62
+    by (inl none) = let zero = is.is_not none in omega (arith, zero)
+    by (inr (text, given_is, (k, low, small, spells))) = let same = is.is_given k small (given_is ∙ ap Some spells) in omega (arith, same, low)
+
+space_fits : (have : ℕ) (arguments : List (List ℕ)) (base size : ℕ) → All (IsArgument Place have) arguments → IsNumberGiven Base arguments 0 base → IsNumberGiven Space arguments 0 size → base + size ≤ 2 ^ 63
+space_fits have arguments base size each base_is size_is =
+    let low = part_given Place have base Base arguments (base_parts have) each base_is in
+    let many = part_given Place have size Space arguments (space_parts have) each size_is in
+    omega (arith, low, many)
+
+-- where so many lanes are there, and at most 16, the lanes of a line's task are there; and its space ends within 2^63
 pub work_fits : (command : Command) (have : ℕ) (arguments : List (List ℕ)) (w : Work) → 0 < have → have ≤ 16 → All (IsArgument command have) arguments → IsWork command arguments w → FitsLanes have w
 work_fits Run have arguments w some few each h = subst (FitsLanes have) (sym h.2) (few_given Run have h.0 arguments some few each h.1)
 work_fits Gen have arguments w some few each h = subst (FitsLanes have) (sym h.4) (few_given Gen have h.1 arguments some few each h.3)
 work_fits Solve have arguments w some few each h = subst (FitsLanes have) (sym h) tt
 work_fits Check have arguments w some few each h = subst (FitsLanes have) (sym h) tt
 work_fits Static have arguments w some few each h = subst (FitsLanes have) (sym h) tt
-work_fits Place have arguments w some few each h = subst (FitsLanes have) (sym h) tt
+work_fits Place have arguments w some few each h = subst (FitsLanes have) (sym h.4) (space_fits have arguments h.0 h.1 each h.2 h.3)
 work_fits Sweep have arguments w some few each h = subst (FitsLanes have) (sym h) tt
 
 -- ---- several lanes
@@ -174,7 +212,7 @@ lanes_given Gen arguments w count h on = subst (λ (n : ℕ). IsNumberGiven Lane
 lanes_given Solve arguments w count h on = absurd (subst (IsOnLanes count) h on)
 lanes_given Check arguments w count h on = absurd (subst (IsOnLanes count) h on)
 lanes_given Static arguments w count h on = absurd (subst (IsOnLanes count) h on)
-lanes_given Place arguments w count h on = absurd (subst (IsOnLanes count) h on)
+lanes_given Place arguments w count h on = absurd (subst (IsOnLanes count) h.4 on)
 lanes_given Sweep arguments w count h on = absurd (subst (IsOnLanes count) h on)
 
 -- ---- sources

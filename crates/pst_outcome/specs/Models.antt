@@ -20,13 +20,17 @@ use Rattle.pst_trace_texts.specs.Texts.{trace_text}
 use Rattle.pst_scenario_answers.specs.declared.check.CheckAnswer.{CheckAnswer}
 use Rattle.pst_scenario_answers.specs.declared.check.CheckAnswer.TheVariants as checked
 use Rattle.pst_scenario_answers.specs.Checked.{IsChecked, answer_text}
+use Rattle.pst_place_answers.specs.declared.answer.PlaceAnswer.{PlaceAnswer}
+use Rattle.pst_place_answers.specs.declared.answer.PlaceAnswer.TheVariants as place
+use Rattle.pst_place_answers.specs.Shown.{ShowsPlaces}
+use Rattle.pst_addr.specs.declared.ask.Space.{Space}
 use Rattle.pst_run_alone.specs.declared.answer.RunAnswer.{RunAnswer}
 use Rattle.pst_run_alone.specs.declared.answer.RunAnswer.TheVariants as ran
 use Rattle.pst_run_alone.specs.Lanes.{Lane, AreUncalled}
 use Rattle.pst_run_alone.specs.Shown.{ShowsRun}
 use Rattle.pst_generated.specs.Generated.{counts_text}
 use Rattle.pst_outcome.specs.declared.answer.Answer.{Answer}
-use Rattle.pst_outcome.specs.declared.answer.Answer.TheVariants.{Done, Solved, Whole, Prefix, NoScenario, Budget, Narrow, TargetFault, BodyTrap, BadTrace, Illegal, Unbuilt}
+use Rattle.pst_outcome.specs.declared.answer.Answer.TheVariants.{Done, Solved, Placed, Whole, Prefix, NoScenario, Budget, NoRoom, Narrow, TargetFault, BodyTrap, BadTrace, Illegal, Unbuilt}
 use Rattle.pst_outcome.specs.declared.task.Task.{Task}
 use Rattle.pst_outcome.specs.declared.task.Work.{Work}
 use Rattle.pst_outcome.specs.declared.task.Work.TheVariants as work
@@ -46,6 +50,10 @@ answer_of_check checked.Whole = Whole
 answer_of_check checked.Prefix = Prefix
 answer_of_check (checked.BadTrace number) = BadTrace number
 answer_of_check (checked.Illegal number rule) = Illegal number rule
+
+abbrev pub answer_of_places : PlaceAnswer → Answer
+answer_of_places (place.Placed asks) = Placed asks
+answer_of_places (place.NoRoom action) = NoRoom action
 
 -- ---- generated models
 
@@ -79,8 +87,8 @@ pub data ShowsSharedCounts (names : List (List ℕ)) (m : ModelTree) (s : Scenar
 
 -- ---- scenarios
 
--- The scenario is run on the first lane, or on so many of the first ones, of a generated model too; its header is printed; or a trace is judged
--- against it.
+-- The scenario is run on the first lane, or on so many of the first ones, of a generated model too; its header is printed; a trace is judged
+-- against it; or what its actions ask for is placed in a space.
 pub data OfScenario (names : List (List ℕ)) (m : ModelTree) (s : Scenario) (plan : Entries) (trace : List ℕ) (lanes : List Lane) : Work → Answer → List ℕ → Type 0 where
   IsRun : (count : ℕ) (l : Lane) (others : List Lane) (answer : RunAnswer) (text : List ℕ) → count ≡ 1 → lanes ≡ l ∷ others → AreUncalled others
       → ShowsRun names m s plan l.before l.after l.faults_before l.faults_after answer text → OfScenario names m s plan trace lanes (work.Run count) (answer_of_run answer) text
@@ -93,6 +101,8 @@ pub data OfScenario (names : List (List ℕ)) (m : ModelTree) (s : Scenario) (pl
   IsSolved : AreUncalled lanes → OfScenario names m s plan trace lanes work.Solve (Solved (length s.actions)) (trace_text names m s [] last.Solved)
   IsJudged : (answer : CheckAnswer) → AreUncalled lanes → IsChecked names m s trace answer
       → OfScenario names m s plan trace lanes work.Check (answer_of_check answer) (answer_text answer)
+  IsPlacing : (space : Space) (answer : PlaceAnswer) (text : List ℕ) → AreUncalled lanes → ShowsPlaces names m s plan space answer text
+      → OfScenario names m s plan trace lanes (work.Place space) (answer_of_places answer) text
 
 -- ---- models
 

@@ -1,11 +1,11 @@
 -- What a line asks for: its root, its sources, how the first legal scenario is sought, and what is done with it.
-use Rattle.std.specs.Prelude.{◌≡◌, ℕ, ◌^◌, ◌<◌, ◌≤◌, List, [], ◌∷◌, ◌++◌, codes, decimal, Some, None}
+use Rattle.std.specs.Prelude.{◌≡◌, ℕ, ◌+◌, ◌^◌, ◌<◌, ◌≤◌, List, [], ◌∷◌, ◌++◌, codes, decimal, Some, None}
 use Rattle.pst_token.specs.Lexemes.{IsName}
 use Rattle.pst_generated.specs.Generated.{generated_text}
 use Rattle.pst_words.specs.declared.command.Command.{Command}
 use Rattle.pst_words.specs.declared.command.Command.TheVariants.{Run, Solve, Check, Gen, Static, Place, Sweep}
 use Rattle.pst_words.specs.declared.key.Key.{Key}
-use Rattle.pst_words.specs.declared.key.Key.TheVariants.{Root, Seed, Infer, Budget, Lanes, Size}
+use Rattle.pst_words.specs.declared.key.Key.TheVariants.{Root, Seed, Infer, Budget, Lanes, Size, Space, Base}
 use Rattle.pst_words.specs.Lines.{given}
 use Rattle.pst_outcome.specs.declared.task.Task.{Task}
 use Rattle.pst_outcome.specs.declared.task.Work.{Work}
@@ -45,13 +45,14 @@ IsWork Solve arguments done = done ≡ work.Solve
 IsWork Check arguments done = done ≡ work.Check
 IsWork Gen arguments done = (size : ℕ) × (lanes : ℕ) × IsNumberGiven Size arguments 0 size × IsNumberGiven Lanes arguments 1 lanes × (done ≡ work.Generate size lanes)
 IsWork Static arguments done = done ≡ work.Unbuilt
-IsWork Place arguments done = done ≡ work.Unbuilt
+IsWork Place arguments done = (base : ℕ) × (size : ℕ) × IsNumberGiven Base arguments 0 base × IsNumberGiven Space arguments 0 size × (done ≡ work.Place (record { base = base; size = size }))
 IsWork Sweep arguments done = done ≡ work.Unbuilt
 
--- where it is run on lanes, so many are there
+-- where it is run on lanes, so many are there; and the addresses of a space end within 2^63
 abbrev pub FitsLanes : ℕ → Work → Type 0
 FitsLanes have (work.Run lanes) = (1 ≤ lanes) × (lanes ≤ have)
 FitsLanes have (work.Generate size lanes) = (1 ≤ lanes) × (lanes ≤ have)
+FitsLanes have (work.Place space) = space.base + space.size ≤ 2 ^ 63
 FitsLanes have other = Unit {0}
 
 -- it is run on several

@@ -30,6 +30,12 @@ pub enum Answer {
         /// How many actions it has.
         actions: u32,
     },
+    /// Each action of the first legal scenario that asks for memory has an address, and these were
+    /// printed.
+    Placed {
+        /// How many asks there are.
+        asks: u32,
+    },
     /// The trace file is that of a whole legal trace of the first legal scenario.
     Whole,
     /// The trace file begins that of one, up to an action that failed or trapped.
@@ -86,6 +92,12 @@ pub enum Answer {
         /// The number of inferred actions.
         level: u32,
     },
+    /// An action of the first legal scenario asks for memory and has no address, and those before it
+    /// have one.
+    NoRoom {
+        /// The action.
+        action: u32,
+    },
     /// The widest group of actions that start together needs more lanes than there are. No lane was
     /// called.
     Narrow {
@@ -139,11 +151,12 @@ impl Answer {
         ensures { result ≡ status_of self.now }
     {
         match self {
-            Answer::Done { .. } | Answer::Solved { .. } | Answer::Whole | Answer::Prefix => 0,
+            Answer::Done { .. } | Answer::Solved { .. } | Answer::Placed { .. } => 0,
+            Answer::Whole | Answer::Prefix => 0,
             Answer::Lexical { .. } | Answer::Syntax { .. } | Answer::Rule { .. } => 1,
             Answer::BadTrace { .. } => 1,
             Answer::Usage { .. } | Answer::NoFile { .. } | Answer::Narrow { .. } => 2,
-            Answer::NoScenario | Answer::Illegal { .. } => 3,
+            Answer::NoScenario | Answer::Illegal { .. } | Answer::NoRoom { .. } => 3,
             Answer::Budget { .. } => 4,
             Answer::TargetFault { .. } | Answer::BodyTrap { .. } => 5,
             Answer::ReadFault { .. } => 6,

@@ -6,6 +6,7 @@ use pst_elab_rules::{answers_are_apart, first_breaches_are_one};
 use pst_legal::{bodies_end_once, first_is_one};
 use pst_lexer::laws::each_text_has_one_outcome;
 use pst_order::core_is_one;
+use pst_place_answers::place_answers_are_one;
 use pst_run_alone::{runs_are_one, traces_are_one};
 use pst_scenario_answers::checks_are_one;
 use pst_sources_read::at_most_one_unit;
@@ -32,4 +33,5 @@ pub fn answers_are_one()
     checks_are_one();
     bodies_end_once();
     core_is_one();
+    place_answers_are_one();
 }

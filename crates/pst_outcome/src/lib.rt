@@ -10,5 +10,6 @@ mod task;
 
 pub use answer::{Answer, What};
 pub use laws::answers_are_one;
+pub use pst_place_answers::Space;
 pub use reply::Reply;
 pub use task::{Task, Work};

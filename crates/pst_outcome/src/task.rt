@@ -1,4 +1,5 @@
 //! What a line asks for.
+use pst_place_answers::Space;
 
 /// What is done with the first legal scenario.
 #[derive(Clone, Copy, Debug, PartialEq, Eq)]
@@ -12,6 +13,11 @@ pub enum Work {
     Solve,
     /// A trace is judged against it.
     Check,
+    /// What its actions ask for is placed in a space.
+    Place {
+        /// The space.
+        space: Space,
+    },
     /// It is one of a generated model: it is run, and counts are printed.
     Generate {
         /// The size of the model.

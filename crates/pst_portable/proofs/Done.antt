@@ -25,7 +25,7 @@ use Rattle.pst_outcome.specs.declared.task.Work.{Work}
 use Rattle.pst_outcome.specs.Texts.{usage_text}
 use Rattle.pst_outcome.specs.Tasks.{FitsLanes}
 use Rattle.pst_outcome.specs.Sources.{Front, Ends, HasModel}
-use Rattle.pst_outcome.specs.Models.{OfScenario, IsRun, IsSharedRun, IsGenerated, IsSharedGenerated, IsSolved, IsJudged, ShowsCounts, OfModel, HasNone, IsSpent, IsFound, IsUnbuilt}
+use Rattle.pst_outcome.specs.Models.{OfScenario, IsRun, IsSharedRun, IsGenerated, IsSharedGenerated, IsSolved, IsJudged, IsPlacing, ShowsCounts, OfModel, HasNone, IsSpent, IsFound, IsUnbuilt}
 use Rattle.pst_outcome.specs.Outcome.{IsOwed, IsUsage, EndsAtFiles, EndsAtSources, IsServed, HasFront, bytes_of}
 use Rattle.pst_shared_answers.proofs.PassedOn.{all_made}
 use Rattle.pst_front.specs.declared.front.LineFront.{LineFront}
@@ -78,6 +78,7 @@ module _ (l : Lane) (others : List Lane) (none : AreUncalled others) where
   scenario_beside names m s plan trace w _ _ fits (IsSharedGenerated size n a t several h) = absurd (too_many n w several fits)
   scenario_beside names m s plan trace _ _ _ fits (IsSolved calm) = IsSolved (beside calm)
   scenario_beside names m s plan trace _ _ _ fits (IsJudged a calm h) = IsJudged a (beside calm) h
+  scenario_beside names m s plan trace _ _ _ fits (IsPlacing space a t calm h) = IsPlacing space a t (beside calm) h
 
   model_beside : (names : List (List ℕ)) (m : ModelTree) (root : ℕ) (task : Task) (trace : List ℕ) (a : Answer) (t : List ℕ) → FitsLanes 1 task.work
       → OfModel names m root task trace (l ∷ []) a t → OfModel names m root task trace (l ∷ others) a t

@@ -12,6 +12,8 @@ use Rattle.pst_lanes.specs.Lanes.{starts_on, ends_on}
 use Rattle.pst_scen.specs.Plan.{Entries}
 use Rattle.pst_scenario_answers.specs.declared.check.CheckAnswer.{CheckAnswer}
 use Rattle.pst_scenario_answers.specs.declared.check.CheckAnswer.TheVariants as checked
+use Rattle.pst_place_answers.specs.declared.answer.PlaceAnswer.{PlaceAnswer}
+use Rattle.pst_place_answers.specs.declared.answer.PlaceAnswer.TheVariants as place
 use Rattle.pst_run_alone.specs.declared.answer.RunAnswer.{RunAnswer}
 use Rattle.pst_run_alone.specs.declared.answer.RunAnswer.TheVariants as ran
 use Rattle.pst_run_alone.specs.Lanes.{Lane, HasMade, AreUncalled, HaveMade}
@@ -24,7 +26,7 @@ use Rattle.pst_outcome.specs.declared.task.Task.{Task}
 use Rattle.pst_outcome.specs.declared.task.Work.{Work}
 use Rattle.pst_outcome.specs.Sources.{Front, Ends, HasModel, OfUnits, BreaksRule, HasManyInstances, AreElaborated, OfTokens, IsSyntaxFault, HasUnits, OfTexts, IsLexicalFault, HasManyTokens, HasTokens}
 use Rattle.pst_outcome.specs.SharedRuns.{Break, HasRun, HasBroken, AtCall, InTrap, HasStopped, BetweenBodies, InBody, AreUncalledFrom, HaveRun, HaveStopped, ShowsSharedRun, IsTooWide as AreTooWide, EndsWhole, EndsEarly}
-use Rattle.pst_outcome.specs.Models.{answer_of_run, answer_of_check, ShowsCounts, HasEnded as HasEndedWhole, EndsElse, ShowsSharedCounts, HaveEnded, EndElse, OfScenario, IsRun, IsSharedRun, IsGenerated, IsSharedGenerated, IsSolved, IsJudged, OfModel, HasNone, IsSpent, IsFound, IsUnbuilt}
+use Rattle.pst_outcome.specs.Models.{answer_of_run, answer_of_check, answer_of_places, ShowsCounts, HasEnded as HasEndedWhole, EndsElse, ShowsSharedCounts, HaveEnded, EndElse, OfScenario, IsRun, IsSharedRun, IsGenerated, IsSharedGenerated, IsSolved, IsJudged, IsPlacing, OfModel, HasNone, IsSpent, IsFound, IsUnbuilt}
 use Rattle.pst_outcome.specs.Outcome.{OfFiles, IsNoFile, IsUnread, HasManyBytes, HasLongTrace, IsOwed, IsUsage, EndsAtFiles, EndsAtSources, IsServed, bytes_of}
 use Rattle.pst_outcome.specs.Delivered.{Answers, Writing}
 use Rattle.pst_portable.specs.Replies.{Delivers}
@@ -50,6 +52,10 @@ check_said checked.Prefix = tt
 check_said (checked.BadTrace number) = tt
 check_said (checked.Illegal number rule) = tt
 
+places_said : (a : PlaceAnswer) → IsSaid (answer_of_places a)
+places_said (place.Placed asks) = tt
+places_said (place.NoRoom action) = tt
+
 scenario_said : (names : List (List ℕ)) (m : ModelTree) (s : Scenario) (plan : Entries) (trace : List ℕ) (told : List Lane) (work : Work) (a : Answer) (t : List ℕ) → OfScenario names m s plan trace told work a t → IsSaid a
 scenario_said names m s plan trace told _ _ _ (IsRun n l ls a text one is calm h) = run_said a
 scenario_said names m s plan trace told _ _ _ (IsSharedRun n a text several h) = run_said a
@@ -57,6 +63,7 @@ scenario_said names m s plan trace told _ _ _ (IsGenerated size n l ls a text on
 scenario_said names m s plan trace told _ _ _ (IsSharedGenerated size n a text several h) = run_said a
 scenario_said names m s plan trace told _ _ _ (IsSolved none) = tt
 scenario_said names m s plan trace told _ _ _ (IsJudged a none h) = check_said a
+scenario_said names m s plan trace told _ _ _ (IsPlacing space a text none h) = places_said a
 
 model_said : (names : List (List ℕ)) (m : ModelTree) (root : ℕ) (task : Task) (trace : List ℕ) (told : List Lane) (a : Answer) (t : List ℕ) → OfModel names m root task trace told a t → IsSaid a
 model_said names m root task trace told _ _ (HasNone sought none h) = tt
@@ -158,6 +165,7 @@ scenario_made names m s plan trace told _ _ _ (IsGenerated size n l ls a t one i
 scenario_made names m s plan trace told _ _ _ (IsSharedGenerated size n a t several h) = shared_counts_made names m s plan size n told a t h
 scenario_made names m s plan trace told _ _ _ (IsSolved none) = all_made told none
 scenario_made names m s plan trace told _ _ _ (IsJudged a none h) = all_made told none
+scenario_made names m s plan trace told _ _ _ (IsPlacing space a text none h) = all_made told none
 
 model_made : (names : List (List ℕ)) (m : ModelTree) (root : ℕ) (task : Task) (trace : List ℕ) (told : List Lane) (a : Answer) (t : List ℕ) → OfModel names m root task trace told a t → HaveMade told
 model_made names m root task trace told _ _ (HasNone sought none h) = all_made told none
@@ -189,6 +197,8 @@ answered lines have words files old new told w reply result owed (inl d) = subst
     by_answer (answer.Lexical wide place) o = record { text = string_bytes reply.text; owed = o; writes = d.1 }
     by_answer (answer.Syntax deep place) o = record { text = string_bytes reply.text; owed = o; writes = d.1 }
     by_answer (answer.Rule place rule) o = record { text = string_bytes reply.text; owed = o; writes = d.1 }
+    by_answer (answer.Placed asks) o = record { text = string_bytes reply.text; owed = o; writes = d.1 }
+    by_answer (answer.NoRoom action) o = record { text = string_bytes reply.text; owed = o; writes = d.1 }
     by_answer answer.NoScenario o = record { text = string_bytes reply.text; owed = o; writes = d.1 }
     by_answer (answer.Budget level) o = record { text = string_bytes reply.text; owed = o; writes = d.1 }
     by_answer (answer.Narrow need have) o = record { text = string_bytes reply.text; owed = o; writes = d.1 }

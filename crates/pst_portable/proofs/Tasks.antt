@@ -24,6 +24,7 @@ fits_more (work.Run lanes) a b more (low, high) = (low, omega (arith, more, high
 fits_more work.Solve a b more fits = tt
 fits_more work.Check a b more fits = tt
 fits_more (work.Generate size lanes) a b more (low, high) = (low, omega (arith, more, high))
+fits_more (work.Place space) a b more fits = fits
 fits_more work.Unbuilt a b more fits = tt
 
 at_most : (n : ℕ) → (1 < n → ⊥) → (1 < n) ⊎ (n ≤ 1) → n ≤ 1
@@ -36,4 +37,5 @@ fits_one (work.Run lanes) have (low, high) alone = (low, at_most lanes alone (ca
 fits_one work.Solve have fits alone = tt
 fits_one work.Check have fits alone = tt
 fits_one (work.Generate size lanes) have (low, high) alone = (low, at_most lanes alone (cases_lt 1 lanes))
+fits_one (work.Place space) have fits alone = fits
 fits_one work.Unbuilt have fits alone = tt

@@ -84,6 +84,7 @@ fn is_several(work: Work) -> bool
         Work::Generate { size: _, lanes } => lanes > 1,
         Work::Solve => false,
         Work::Check => false,
+        Work::Place { space: _ } => false,
         Work::Unbuilt => false,
     }
 }

@@ -51,7 +51,8 @@ fn reply_to_words<S: Shelf, T: Target>(
 
 /// Answers words on one lane, for every command but `sweep`: it reads the words and the files of the
 /// line, makes the model of its sources, seeks its first legal scenario, and runs it on the lane, prints
-/// its header, or judges a trace against it. `static` and `place` aren't built yet. It returns.
+/// its header, judges a trace against it, or places what its actions ask for. `static` isn't built yet.
+/// It returns.
 pub fn portable_alone<S: Shelf, K: Sink, T: Target>(
     alloc: Global,
     words: &[String],

@@ -126,6 +126,7 @@ sought (work.Run lanes) several = tt
 sought work.Solve several = absurd several
 sought work.Check several = absurd several
 sought (work.Generate size lanes) several = tt
+sought (work.Place space) several = absurd several
 sought work.Unbuilt several = absurd several
 
 module _ (names : List (List ℕ)) (m : ModelTree) (root : ℕ) (task : Task) (told : List Lane) where

@@ -1,7 +1,8 @@
 use Rattle.std.proofs.Common.{refl, subst}
 use Rattle.pst_model.specs.ModelView.{view_model}
+use Rattle.pst_outcome.specs.Tasks.{FitsLanes}
 use Rattle.pst_outcome.specs.Models.{IsSought}
-use Rattle.pst_model_answers.proofs.Runs.{run_on_one, generated_on_one, solved_replied, check_replied, replied_as}
+use Rattle.pst_model_answers.proofs.Runs.{run_on_one, generated_on_one, solved_replied, check_replied, place_replied, replied_as}
 use Rattle.pst_model_answers.proofs.found.reply_to_found.Goals as goal
 
 pub reply_to_solve-requires : goal.reply_to_solve-requires
@@ -27,3 +28,14 @@ returns-in-Check g c =
 pub returns-in-Generate : goal.returns-in-Generate
 returns-in-Generate g c =
     generated_on_one c.args.names.now (view_model c.args.model.now) c.args.scenario.now c.args.plan.now _ c.args.trace.now c.args.work _ _ c.reply_to_counts.result c.in-Generate.is c.requires.alone (c.reply_to_counts.ensures c.args.trace.now)
+
+pub reply_to_place-requires-clause-ready : goal.reply_to_place-requires-clause-ready
+reply_to_place-requires-clause-ready g c = c.requires.ready
+
+pub reply_to_place-requires-clause-room : goal.reply_to_place-requires-clause-room
+reply_to_place-requires-clause-room g c = subst (FitsLanes 1) c.in-Place.is c.requires.alone
+
+pub returns-in-Place : goal.returns-in-Place
+returns-in-Place g c =
+    replied_as c.args.names.now (view_model c.args.model.now) c.args.scenario.now c.args.plan.now _ c.args.trace.now c.args.work _ c.reply_to_place.result c.in-Place.is
+    (place_replied c.args.names.now (view_model c.args.model.now) c.args.scenario.now c.args.plan.now _ c.in-Place.space c.reply_to_place.result (record { calls = refl; count = refl }) c.reply_to_place.ensures c.args.trace.now)

@@ -12,3 +12,8 @@ pub returns-in-Gen : goal.returns-in-Gen
 returns-in-Gen c =
     subst (λ (k : Command). IsWork k (map string_bytes c.args.line.now.arguments.now) (work.Generate c.size_given-size.result c.lanes_given-lanes-in-Gen.result)) (sym c.in-Gen.is)
     (c.size_given-size.result, c.lanes_given-lanes-in-Gen.result, c.size_given-size.ensures, c.lanes_given-lanes-in-Gen.ensures, refl)
+
+pub returns-in-Place : goal.returns-in-Place
+returns-in-Place c =
+    subst (λ (k : Command). IsWork k (map string_bytes c.args.line.now.arguments.now) (work.Place c.space_given-space.result)) (sym c.in-Place.is)
+    (c.space_given-space.result.base, c.space_given-space.result.size, c.space_given-space.ensures.base, c.space_given-space.ensures.size, refl)

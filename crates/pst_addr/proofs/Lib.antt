@@ -1,0 +1,6 @@
+mod Multiples
+mod Passing
+mod OneMore
+mod Placed
+mod Asking
+mod OfPlan

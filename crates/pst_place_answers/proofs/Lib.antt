@@ -1,0 +1,4 @@
+mod Plans
+mod OneAnswer
+mod Lines
+mod Showing
