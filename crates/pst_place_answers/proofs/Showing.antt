@@ -1,5 +1,5 @@
 -- What is shown is right.
-use Rattle.std.proofs.Common.{◌≡◌, ℕ, ◌<◌, ◌≤◌, ◌^◌, List, length, get_or, Some, slice_get, refl, sym, subst, ap, arith}
+use Rattle.std.proofs.Common.{◌≡◌, ℕ, ◌<◌, ◌≤◌, List, length, get_or, sym, subst, arith}
 use Rattle.std.specs.Prelude.{Result, Ok, Err, IfOk, string_bytes}
 use Rattle.std.proofs.lemmas.Option.{get_or_from_slice_get, slice_get_within}
 use Rattle.pst_base.specs.declared.memory.NoMemory.{NoMemory}
