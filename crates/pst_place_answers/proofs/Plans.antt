@@ -18,7 +18,7 @@ meet_too s p q first second a b a_in b_in (inr (before, behind, conflict)) =
     )
 
 -- the asks are of actions of the scenario
-abbrev AreWithin : Scenario → List Ask → Type 0
+abbrev pub AreWithin : Scenario → List Ask → Type 0
 AreWithin s asks = (k : ℕ) (ask : Ask) → slice_get asks k ≡ Some ask → ask.action < length s.actions
 
 pub are_within : (s : Scenario) (p : Entries) (asks : List Ask) → IsPlanOf s p → AreAsks p asks → AreWithin s asks
