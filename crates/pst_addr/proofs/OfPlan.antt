@@ -1,5 +1,5 @@
 -- What a scenario's actions ask for is of its plan.
-use Rattle.std.proofs.Common.{◌≡◌, ℕ, zero, suc, ◌+◌, ◌<◌, ◌≤◌, List, [], ◌∷◌, ◌++◌, length, Option, Some, None, arith, length-append}
+use Rattle.std.proofs.Common.{ℕ, zero, suc, ◌+◌, ◌<◌, ◌≤◌, List, [], ◌∷◌, length, Option, Some, None, arith, length-append}
 use Rattle.std.specs.Prelude.{ℤ, pos, negsuc, slice_get, position, codes, All}
 use Rattle.std.specs.Option.{option_and_then, option_map, option_to_list, unwrap_or}
 use Rattle.std.proofs.lemmas.List.Elements.{All-append, All-cons, All-nil}
@@ -8,9 +8,8 @@ use Rattle.pst_model.specs.ModelTree.{ModelTree}
 use Rattle.pst_scen.specs.declared.act.Act.{Act}
 use Rattle.pst_scen.specs.Plan.{Entries}
 use Rattle.pst_trace_texts.specs.Named.{action_fields}
-use Rattle.pst_addr.specs.declared.ask.Ask.{Ask}
 use Rattle.pst_addr.specs.Places.{IsAsk}
-use Rattle.pst_addr.specs.Asks.{is_field, above_zero, wanted, asked_by, asked, asks_from}
+use Rattle.pst_addr.specs.Asks.{is_field, above_zero, wanted, asked, asks_from}
 use Rattle.pst_addr.specs.Laws.{AsksAreOfPlan}
 
 -- a number that there is isn't 0

@@ -1,4 +1,4 @@
 mod Plans
 mod OneAnswer
-mod Lines
+mod Written
 mod Showing

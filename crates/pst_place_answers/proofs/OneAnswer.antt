@@ -1,5 +1,5 @@
 -- At most one answer with one text is right.
-use Rattle.std.proofs.Common.{◌≡◌, ◌∙◌, ℕ, List, length, Some, slice_get, refl, sym, ap, subst}
+use Rattle.std.proofs.Common.{◌≡◌, ◌∙◌, ℕ, List, Some, slice_get, refl, sym, ap}
 use Rattle.std.proofs.lemmas.Option.{same_Some}
 use Rattle.pst_model.specs.ModelTree.{ModelTree}
 use Rattle.pst_scen.specs.declared.scenario.Scenario.{Scenario}
@@ -8,7 +8,6 @@ use Rattle.pst_scen.specs.Plans.{IsPlanOf}
 use Rattle.pst_addr.specs.declared.ask.Ask.{Ask}
 use Rattle.pst_addr.specs.declared.ask.Space.{Space}
 use Rattle.pst_addr.specs.Asks.{asks_of}
-use Rattle.pst_addr.specs.Places.{HasNoRoom}
 use Rattle.pst_addr.specs.Laws.{PlacesAreOne, PlacedOrNot, NoRoomIsOne, AsksAreOfPlan}
 use Rattle.pst_place_answers.specs.declared.answer.PlaceAnswer.{PlaceAnswer}
 use Rattle.pst_place_answers.specs.declared.answer.PlaceAnswer.TheVariants.{NoRoom}

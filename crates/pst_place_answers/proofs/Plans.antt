@@ -1,12 +1,12 @@
 -- Asks have the same places by two plans of one scenario.
-use Rattle.std.proofs.Common.{◌≡◌, ◌⊎◌, ℕ, ◌<◌, List, length, get_or, take, Some, slice_get, inl, inr, sym, subst, ap, arith}
+use Rattle.std.proofs.Common.{◌≡◌, ℕ, ◌<◌, List, length, get_or, take, Some, slice_get, inl, inr, subst}
 use Rattle.std.proofs.lemmas.Option.{get_or_from_slice_get, slice_get_within}
 use Rattle.pst_scen.specs.declared.scenario.Scenario.{Scenario}
 use Rattle.pst_scen.specs.Plan.{Entries}
 use Rattle.pst_scen.specs.Plans.{IsPlanOf}
 use Rattle.pst_addr.specs.declared.ask.Ask.{Ask}
 use Rattle.pst_addr.specs.declared.ask.Space.{Space}
-use Rattle.pst_addr.specs.Places.{Meet, Fits, IsPlaced, AreFirst, ArePlaced, HasNoRoom, IsAsk, AreAsks}
+use Rattle.pst_addr.specs.Places.{Meet, Fits, AreFirst, ArePlaced, HasNoRoom, IsAsk, AreAsks}
 
 meet_too : (s : Scenario) (p q : Entries) → IsPlanOf s p → IsPlanOf s q → (a b : ℕ) → a < length s.actions → b < length s.actions → Meet p a b → Meet q a b
 meet_too s p q first second a b a_in b_in (inl same) = inl same
@@ -18,7 +18,7 @@ meet_too s p q first second a b a_in b_in (inr (before, behind, conflict)) =
     )
 
 -- the asks are of actions of the scenario
-abbrev AreWithin : Scenario → List Ask → Type 0
+abbrev pub AreWithin : Scenario → List Ask → Type 0
 AreWithin s asks = (k : ℕ) (ask : Ask) → slice_get asks k ≡ Some ask → ask.action < length s.actions
 
 pub are_within : (s : Scenario) (p : Entries) (asks : List Ask) → IsPlanOf s p → AreAsks p asks → AreWithin s asks

@@ -1,11 +1,12 @@
 -- What is shown is right.
-use Rattle.std.proofs.Common.{◌≡◌, ℕ, ◌<◌, ◌≤◌, ◌^◌, List, length, get_or, Some, slice_get, refl, sym, subst, ap, arith}
-use Rattle.std.specs.Prelude.{Result, Ok, Err, IfOk, string_bytes}
+use Rattle.std.proofs.Common.{◌≡◌, ℕ, ◌<◌, ◌≤◌, List, length, get_or, Some, refl, inl, sym, subst, arith}
+use Rattle.std.specs.Prelude.{Option, None, Result, Ok, Err, IfOk, MatchOption, string_bytes}
 use Rattle.std.proofs.lemmas.Option.{get_or_from_slice_get, slice_get_within}
 use Rattle.pst_base.specs.declared.memory.NoMemory.{NoMemory}
 use Rattle.pst_model.specs.ModelTree.{ModelTree}
 use Rattle.pst_scen.specs.declared.scenario.Scenario.{Scenario}
 use Rattle.pst_scen.specs.Plan.{Entries}
+use Rattle.pst_trace_texts.specs.Elements.{HasHeader}
 use Rattle.pst_addr.specs.declared.ask.Ask.{Ask}
 use Rattle.pst_addr.specs.declared.ask.Space.{Space}
 use Rattle.pst_addr.specs.Places.{ArePlaced, HasNoRoom}
@@ -14,6 +15,11 @@ use Rattle.pst_place_answers.specs.declared.answer.PlaceAnswer.TheVariants.{Plac
 use Rattle.pst_place_answers.specs.declared.answer.ShownPlaces.{ShownPlaces}
 use Rattle.pst_place_answers.specs.Texts.{placed_text, no_room_text}
 use Rattle.pst_place_answers.specs.Shown.{Says, ShowsAsks, AllHavePlaces, OneHasNone}
+
+-- each scenario has a header in format 2
+pub no_header : {T : Type 0} (m : ModelTree) (s : Scenario) (found : Option T) (P : T → Type 0) → found ≡ None → MatchOption found (HasHeader 2 m s → ⊥) P → ⊥
+no_header m s None P is none = none (inl refl)
+no_header m s (Some text) P is some = absurd cc
 
 module _ (names : List (List ℕ)) (m : ModelTree) (s : Scenario) (plan : Entries) (space : Space) (asks : List Ask) where
   abbrev IsRight : ShownPlaces → Type 0

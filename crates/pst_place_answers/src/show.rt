@@ -25,7 +25,8 @@ fn header_of(
 ) -> Result<String, NoMemory>
     ensures { IfOk result (λ text. string_bytes text ≡ header_text 2 names.now (view_model model.now) scenario.now) }
 {
-    match header(alloc, names, model, scenario, 2)? {
+    let found = header(alloc, names, model, scenario, 2)?;
+    match found {
         Some(text) => Ok(text),
         None => unreachable!(),
     }

@@ -1,4 +1,3 @@
-use Rattle.std.proofs.Common.{arith}
 use Rattle.pst_addr.proofs.Passing.{stops_before, goes_on}
 use Rattle.pst_addr.proofs.first_fit.first_fit.Goals as goal
 

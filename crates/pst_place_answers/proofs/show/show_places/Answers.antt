@@ -1,4 +1,3 @@
-use Rattle.std.proofs.Common.{sym}
 use Rattle.pst_model.specs.ModelView.{view_model}
 use Rattle.pst_place_answers.proofs.show.show_places.Goals as goal
 
