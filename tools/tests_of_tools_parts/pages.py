@@ -113,6 +113,10 @@ def run_all(tests):
         if told and name == "dma":
             for word in ["examples/dma.pss:29:", "do dma_c::copy_out", "pss_top.dma.channels[1]", "its buffer is written"]:
                 tests.is_true(f"the details of dma tell '{word}'", word in told["details"], told["details"])
+        bare = tests.folder / f"{name}.bare.html"
+        tests.ends_well(f"the page of {name} without sources", [TIMELINE, tests.traces[name], bare])
+        if name == "device":
+            looked_at(tests, "device without sources", bare, tests.traces[name], "inferred", None)
         plain = run([TIMELINE, "--svg", tests.traces[name]])
         tests.is_true(f"the picture of {name}", plain.status == 0 and b"no time" in plain.out, plain.errors.decode())
     page = tests.folder / "large.html"
