@@ -625,7 +625,7 @@ document.getElementById("previous").onclick = () => step(-1);
 document.getElementById("in").onclick = () => zoom(1.5);
 document.getElementById("out").onclick = () => zoom(1 / 1.5);
 document.getElementById("fit").onclick = fit;
-new ResizeObserver(ask).observe(canvas);
+new ResizeObserver(draw).observe(canvas);
 
 function begin() {
   const outcome = document.getElementById("outcome");
