@@ -129,10 +129,8 @@ def in_time(tests):
 
 
 def run_all(tests):
-    import jsonschema
-
-    validator = jsonschema.Draft7Validator(json.loads((TOP / "docs" / "trace.schema.json").read_text()))
-    if not tests.has("dot", "nop", "vcd2fst", "fst2vcd"):
+    validator = tests.validator(TOP / "docs" / "trace.schema.json")
+    if not tests.has("dot", "nop", "vcd2fst", "fst2vcd") or validator is None:
         return
     for name in tests.traces:
         files = {kind: written(tests, name, kind) for kind in FORMATS}
