@@ -1,6 +1,8 @@
 """The Chrome trace format (JSON), which ui.perfetto.dev and chrome://tracing open. One step of the trace is shown as 1 ms."""
 import json
 
+from reading_parts.story import tracks_of
+
 ENCODER = json.JSONEncoder(separators=(",", ":"))
 
 STEP = 1000  # a step in the format's unit, a millionth of a second
@@ -60,9 +62,11 @@ def lane_events(story):
 
 
 def resource_events(story):
-    for thread, ((pool, instance), holds) in enumerate(story.resources().items()):
-        yield named("thread_name", RESOURCES, thread, f"{pool}[{instance}]")
-        for hold in holds:
+    tracks = [(f"{pool}[{instance}]", track) for (pool, instance), holds in story.resources().items() for track in tracks_of(holds)]
+    for thread, (name, track) in enumerate(tracks):
+        yield named("thread_name", RESOURCES, thread, name)
+        yield {"ph": "M", "pid": RESOURCES, "tid": thread, "name": "thread_sort_index", "args": {"sort_index": thread}}
+        for hold in track:
             action = hold.action
             more = {"claim": hold.claim, "shared": story.is_shared(hold), **story.shown(action, hold.claim, hold.fields)}
             yield slice_of(RESOURCES, thread, f"{action.number} {action.short()}", hold.start, hold.stop, more)

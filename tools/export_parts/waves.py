@@ -1,6 +1,6 @@
 """Value change dump (VCD) for GTKWave, Surfer and others: a wire for each lane, resource instance and field of a state pool.
 
-Wires of texts are of the type `string`, which these viewers read beside the types of IEEE 1364; fields with numbers are of the
+Wires of texts are of the type `string`, which these viewers read beside the types that the format has by itself; fields with numbers are of the
 type `integer`, 64 bits in two's complement. A step of the trace is 1 ms."""
 import re
 

@@ -3,8 +3,8 @@ import os
 import re
 import subprocess
 
-from reading_parts.messages import message_of
-from reading_parts.syntax import Fault, read_source
+from reading_parts.messages import Message, message_of
+from reading_parts.syntax import Fault, read_source, read_sources
 
 HEAD = re.compile(r"^\s*(?://|\*|/\*)\s*(?:\$\s*)?(?:\S*pstim )?\s*(?:run|solve) +(.*root=.*?)\s*(?:\*/)?\s*$")
 SECONDS = 20
@@ -69,12 +69,25 @@ def answer_of(program, task):
     return ran.returncode, ran.stdout.decode("ascii", "replace").split("\n")[0]
 
 
+def without_scenario(task, line):
+    """The message that there is no scenario, at the name of the root's action."""
+    component, _, action = task.root.partition("::")
+    said = f"no legal scenario of {task.root} infers at most {line.split(' ')[-1]} actions"
+    parts = read_sources([os.path.join(task.folder, it) for it in task.files])
+    inner = [it for part in parts if part.kind == "component" and part.name == component for it in part.parts]
+    place = next(it.place for it in inner if it.kind == "action" and it.name == action)
+    return Message("noscenario", line, place.file, place.line, place.column, said)
+
+
 def finding(program, task):
     """The message, the file in which it stands, and whether it is a warning. No message is nothing."""
     status, line = answer_of(program, task)
     message = message_of(line)
     if message and not (message.file == "root" and task.guessed):
         return message, os.path.join(task.folder, message.file if message.file != "root" else task.files[-1]), False
-    if status == 3 or status in (2, 6, 8, 9):
-        return line or f"the program ended with status {status}", os.path.join(task.folder, task.files[-1]), status == 3
+    if status == 3:
+        message = without_scenario(task, line)
+        return message, message.file, True
+    if status in (2, 6, 8, 9):
+        return line or f"the program ended with status {status}", os.path.join(task.folder, task.files[-1]), False
     return None

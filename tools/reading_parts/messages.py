@@ -39,11 +39,11 @@ LINE = re.compile(r"(lexical bad|lexical wide|syntax deep|syntax|rule ([0-9]+)) 
 class Message:
     """A refusal of sources: the name of the rule, the text that was printed, a sentence, and the place."""
 
-    def __init__(self, rule, printed, file, line, column):
-        self.rule, self.printed, self.file, self.line, self.column = rule, printed, file, line, column
+    def __init__(self, rule, printed, file, line, column, said=None):
+        self.rule, self.printed, self.file, self.line, self.column, self.said = rule, printed, file, line, column, said
 
     def sentence(self):
-        return OTHER.get(self.rule) or RULES.get(int(self.rule.partition("-")[2] or 0), self.printed)
+        return self.said or OTHER.get(self.rule) or RULES.get(int(self.rule.partition("-")[2] or 0), self.printed)
 
 
 def message_of(line):

@@ -167,3 +167,15 @@ class Story:
             if lane in last:
                 yield number, last[lane]
             last[lane] = number
+
+
+def tracks_of(holds):
+    """Holds in as few tracks as can be, so that none overlap in one: actions that share an instance have it at the same time."""
+    tracks = []
+    for hold in holds:
+        track = next((it for it in tracks if it[-1].stop <= hold.start), None)
+        if track is None:
+            tracks.append([hold])
+        else:
+            track.append(hold)
+    return tracks or [[]]

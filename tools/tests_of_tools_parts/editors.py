@@ -154,6 +154,13 @@ def session(tests):
     again = client.ask("textDocument/documentSymbol", document)["result"]
     tests.is_same("no message any more", client.published["one.pss"], [])
     tests.is_same("the outline stays while the text is broken", outline(again), outline(symbols))
+    none = good.replace("do hello", "do hello with 1 == 2")
+    source.write_text(none)
+    client.send("textDocument/didChange", {**document, "contentChanges": [{"text": none}]})
+    client.send("textDocument/didSave", document)
+    client.ask("textDocument/documentSymbol", document)
+    found = client.published["one.pss"]
+    tests.is_true("a warning where no scenario exists", found and (found[0]["severity"], found[0]["code"], found[0]["range"]["start"]["line"]) == (2, "noscenario", 2), str(found))
     tests.is_same("another request is refused", client.ask("textDocument/hover", document)["error"]["code"], -32601)
     tests.is_same("the server ends", client.end(), 0)
 

@@ -61,6 +61,11 @@ def read_back_events(tests, name, file):
         if line.startswith("end"):
             bar = bars.get(int(line.split()[1]), {"ts": 0, "dur": 0})
             tests.is_same(f"the end in {name}: {line}", bar["ts"] + bar["dur"], (step + 1) * 1000)
+    tracks = {}
+    for event in sorted((it for it in events if it["ph"] == "X"), key=lambda it: it["ts"]):
+        last = tracks.get((event["pid"], event["tid"]), 0)
+        tests.is_true(f"bars of {name} don't overlap in a track", last <= event["ts"], str(event))
+        tracks[event["pid"], event["tid"]] = event["ts"] + event["dur"]
     for event in events:
         if event["ph"] in "sf":
             inside = [it for it in bars.values() if it["tid"] == event["tid"] and it["ts"] <= event["ts"] <= it["ts"] + it["dur"]]
@@ -124,10 +129,8 @@ def in_time(tests):
 
 
 def run_all(tests):
-    import jsonschema
-
-    validator = jsonschema.Draft7Validator(json.loads((TOP / "docs" / "trace.schema.json").read_text()))
-    if not tests.has("dot", "nop", "vcd2fst", "fst2vcd"):
+    validator = tests.validator(TOP / "docs" / "trace.schema.json")
+    if not tests.has("dot", "nop", "vcd2fst", "fst2vcd") or validator is None:
         return
     for name in tests.traces:
         files = {kind: written(tests, name, kind) for kind in FORMATS}

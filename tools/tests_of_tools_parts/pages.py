@@ -38,6 +38,15 @@ lanes.dispatchEvent(new WheelEvent("wheel", { deltaY: -300, ctrlKey: true, clien
 t.draw();
 told.zoomed = t.view.scale / before.scale;
 told.kept = [before.first + (400 - 190) / before.scale, t.view.first + (400 - 190) / t.view.scale];
+const was = t.view.first, corner = lanes.getBoundingClientRect();
+mouse("mousedown", 500, 150);
+window.dispatchEvent(new MouseEvent("mousemove", { clientX: corner.left + 430, clientY: corner.top + 150 }));
+window.dispatchEvent(new MouseEvent("mouseup", { clientX: corner.left + 430, clientY: corner.top + 150 }));
+t.draw();
+told.dragged = (t.view.first - was) * t.view.scale;
+window.dispatchEvent(new KeyboardEvent("keydown", { key: "f" }));
+t.draw();
+told.whole = [t.view.first, t.view.scale === before.scale];
 const box = document.getElementById("search");
 box.value = "QUERY";
 box.dispatchEvent(new Event("input"));
@@ -60,7 +69,7 @@ def tried(tests, name, page, some, query):
     trial = TRIAL.replace("SOME", json.dumps(some)).replace("QUERY", query)
     file = tests.folder / f"{name}.trial.html"
     file.write_text(page.read_text().replace("</body>", trial + "</body>"))
-    shown = run([*BROWSER, f"--user-data-dir={tests.folder}/browser", "--dump-dom", f"file://{file}"], limit=60)
+    shown = run([*BROWSER, f"--user-data-dir={tests.folder}/browser", "--dump-dom", f"file://{file}"], limit=120)
     found = re.search(r'<pre id="told">([^<]+)</pre>', shown.out.decode("utf-8", "replace"))
     tests.is_true(f"the page of {name} answers", found, shown.errors.decode("utf-8", "replace")[-300:])
     return json.loads(found[1].replace("&gt;", ">").replace("&amp;", "&")) if found else None
@@ -97,6 +106,8 @@ def looked_at(tests, name, page, trace, query, owed):
     # In a trace of few steps the end of the trace stops the step under the mouse from staying there.
     kept = abs(told["kept"][0] - told["kept"][1]) < 0.01 or len(starts) < 3
     tests.is_true(f"zoom in {name}", abs(told["zoomed"] - 2.718) < 0.01 and kept, str(told["kept"]))
+    tests.is_true(f"a drag in {name}", abs(told["dragged"] - 70) < 0.5 or len(starts) < 3, str(told["dragged"]))
+    tests.is_same(f"the key for the whole trace of {name}", told["whole"], [0, True])
     if owed:
         tests.is_same(f"search in {name}", told["found"][:4], owed[:4])
         tests.is_same(f"the first match in {name}", (told["next"], told["nextAt"]), (owed[0], owed[0]))
@@ -113,6 +124,10 @@ def run_all(tests):
         if told and name == "dma":
             for word in ["examples/dma.pss:29:", "do dma_c::copy_out", "pss_top.dma.channels[1]", "its buffer is written"]:
                 tests.is_true(f"the details of dma tell '{word}'", word in told["details"], told["details"])
+        bare = tests.folder / f"{name}.bare.html"
+        tests.ends_well(f"the page of {name} without sources", [TIMELINE, tests.traces[name], bare])
+        if name == "device":
+            looked_at(tests, "device without sources", bare, tests.traces[name], "inferred", None)
         plain = run([TIMELINE, "--svg", tests.traces[name]])
         tests.is_true(f"the picture of {name}", plain.status == 0 and b"no time" in plain.out, plain.errors.decode())
     page = tests.folder / "large.html"

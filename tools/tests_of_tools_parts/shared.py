@@ -1,4 +1,5 @@
 """What the tests of the tools share: the program, a folder, traces of all examples, a large trace, and the count of what failed."""
+import json
 import os
 import pathlib
 import shutil
@@ -96,6 +97,15 @@ class Tests:
         for tool in lacking:
             self.is_true(f"{tool} is there", False, "README.md has the line that installs what the tests need")
         return not lacking
+
+    def validator(self, path):
+        """What judges JSON by a schema; nothing, and a failed test, where its package isn't there."""
+        try:
+            import jsonschema
+        except ImportError:
+            self.is_true("jsonschema is there", False, "README.md has the line that installs what the tests need")
+            return None
+        return jsonschema.Draft7Validator(json.loads(path.read_text()))
 
     def prepare(self):
         """Writes the traces of all examples, each run on up to sixteen lanes, and the large one."""

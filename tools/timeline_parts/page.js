@@ -282,7 +282,7 @@ function drawNames() {
   pen.fillRect(0, TOP, LEFT, view.height - TOP - OVERVIEW);
   pen.textAlign = "left";
   for (const row of data.rows) {
-    if (row.heading !== undefined) {
+    if (row.heading !== undefined && TOP + row.heading - view.down < view.height) {
       const y = TOP + row.heading - view.down;
       pen.fillStyle = "#eef2f6";
       pen.fillRect(0, y, view.width, HEADING);
@@ -290,11 +290,14 @@ function drawNames() {
       pen.font = "600 " + FONT;
       pen.fillText(row.group, 8, y + 15);
     }
+    if (yOf(row) + row.height < TOP || yOf(row) > view.height) continue;
     pen.font = FONT;
     pen.fillStyle = "#1c2733";
-    let name = row.name;
-    while (pen.measureText(name).width > LEFT - 16) name = "\u2026" + name.slice(2);
-    pen.fillText(name, 8, yOf(row) + row.height / 2 + 4);
+    if (row.shown === undefined) {
+      row.shown = row.name;
+      while (pen.measureText(row.shown).width > LEFT - 16) row.shown = "\u2026" + row.shown.slice(2);
+    }
+    pen.fillText(row.shown, 8, yOf(row) + row.height / 2 + 4);
     pen.fillStyle = "#e4e9ee";
     pen.fillRect(0, yOf(row) + row.height - 1, view.width, 1);
   }
@@ -428,7 +431,8 @@ function showDetails() {
   table("objects", (action.links || []).map(linkRow), panel);
   table("waited until", (action.waited || []).map(([why, before, what]) => [why, (cell) => {
     linked(before, cell);
-    if (what) cell.append(" (" + what + ")");
+    const last = actions.get(before);
+    cell.append((what ? " (" + what + ")" : "") + (last ? ", until step " + last.stop : ""));
   }]), panel);
   table("read or replaced by", (readers.get(action.number) || []).map(([target, reference]) => [reference + " of", (cell) => linked(target, cell)]), panel);
   table("within", (action.parents || []).map((index) => {
@@ -621,7 +625,7 @@ document.getElementById("previous").onclick = () => step(-1);
 document.getElementById("in").onclick = () => zoom(1.5);
 document.getElementById("out").onclick = () => zoom(1 / 1.5);
 document.getElementById("fit").onclick = fit;
-new ResizeObserver(ask).observe(canvas);
+new ResizeObserver(draw).observe(canvas);
 
 function begin() {
   const outcome = document.getElementById("outcome");

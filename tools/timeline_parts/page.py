@@ -3,6 +3,8 @@ import json
 import pathlib
 from html import escape
 
+from reading_parts.story import tracks_of
+
 from .colours import ARROWS, FAULT, TYPES
 
 HERE = pathlib.Path(__file__).resolve().parent
@@ -46,25 +48,13 @@ def action_data(story, action, waited, types):
         "outputs": outputs,
         "claims": claims,
         "links": [[name, story.kinds[number, name], *(source or (-1, ""))] for name, source in action.links.items()],
-        "waited": [[SAID[why], before, what] for why, before, what in waited],
+        "waited": [[SAID[why], before, what] for why, before, what in sorted(waited, key=lambda it: -story.stop(it[1]))],
         "place": [place.file, place.line, place.column] if place else None,
         "parents": [it.index for it in story.parents(number)],
         "handle": handle,
     }
     # What is empty is left out: a large page opens faster so.
     return {name: value for name, value in found.items() if value is not None and value is not False and value != []}
-
-
-def tracks_of(bars):
-    """Bars in as few tracks as can be, so that none overlap in one."""
-    tracks = []
-    for bar in bars:
-        track = next((it for it in tracks if it[-1][1] <= bar[0]), None)
-        if track is None:
-            tracks.append([bar])
-        else:
-            track.append(bar)
-    return tracks or [[]]
 
 
 def rows_of(story):
@@ -74,8 +64,8 @@ def rows_of(story):
         lanes[story.lanes[number]].append([story.starts[number], story.stop(number), number])
     rows = [{"group": "Lanes", "name": f"lane {lane}", "tracks": [bars]} for lane, bars in lanes.items()]
     for (pool, instance), holds in story.resources().items():
-        bars = [[hold.start, hold.stop, hold.action.number] for hold in holds]
-        rows.append({"group": "Resource instances, by holder", "name": f"{pool}[{instance}]", "tracks": tracks_of(bars)})
+        tracks = [[[hold.start, hold.stop, hold.action.number] for hold in track] for track in tracks_of(holds)]
+        rows.append({"group": "Resource instances, by holder", "name": f"{pool}[{instance}]", "tracks": tracks})
     for pool, objects in story.states().items():
         stops = [it.start for it in objects[1:]] + [story.steps]
         bars = []
