@@ -4,7 +4,7 @@ use Rattle.std.specs.Prelude.{slice_get}
 use Rattle.std.proofs.lemmas.Option.{none-some, same_Some, option_and_then_some}
 use Rattle.pst_expr.specs.declared.ranges.Span.{Span}
 use Rattle.pst_domain.specs.Bounds.{Holds as HoldsIn, IsInside}
-use Rattle.pst_model.specs.ConstraintTree.{SlotTree, Own, Through, ConstraintTree}
+use Rattle.pst_model.specs.ConstraintTree.{SlotTree, Own, ConstraintTree}
 use Rattle.pst_model.specs.ActivityTree.{StepTree, Traverse}
 use Rattle.pst_model.specs.ModelTree.{ModelTree, ActionTree}
 use Rattle.pst_model.specs.Sound.{IsSound}
