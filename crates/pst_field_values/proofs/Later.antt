@@ -4,7 +4,7 @@ use Rattle.std.specs.Prelude.{slice_get}
 use Rattle.std.proofs.lemmas.Option.{none-some, same_Some, option_and_then_some}
 use Rattle.pst_expr.specs.declared.ranges.Span.{Span}
 use Rattle.pst_domain.specs.Bounds.{Holds as HoldsIn, IsInside}
-use Rattle.pst_model.specs.ConstraintTree.{SlotTree, Own, Through, ConstraintTree}
+use Rattle.pst_model.specs.ConstraintTree.{SlotTree, Own, ConstraintTree}
 use Rattle.pst_model.specs.ActivityTree.{StepTree, Traverse}
 use Rattle.pst_model.specs.ModelTree.{ModelTree, ActionTree}
 use Rattle.pst_model.specs.Sound.{IsSound}
@@ -102,10 +102,11 @@ module _ (m : ModelTree) (s t : Scenario) (sound : IsSound m) (later : IsLater m
 
   pub inline_lasts : (n top action : ℕ) (handle : Option ℕ) (inline : List ConstraintTree) (indices : List ℕ) (k : ConstraintTree)
       → StandsFor m s.nodes top n (Traverse action handle inline) indices → Contains inline k → HasAt m t (AtTraversal n top indices) k
-  inline_lasts n top action handle inline indices k stands has =
-      (inline_slot m t n top indices,
-      Inline n top action handle inline indices k (stands_more s t later.onward m top n (Traverse action handle inline) indices stands) has,
-      λ slot. refl)
+  inline_lasts n top action handle inline indices k stands has = (
+    inline_slot m t n top indices,
+    Inline n top action handle inline indices k (stands_more s t later.onward m top n (Traverse action handle inline) indices stands) has,
+    λ slot. refl,
+  )
 
   -- ---- slots
 

@@ -14,8 +14,8 @@ use Rattle.pst_scen.specs.declared.tree.Node.{Node}
 use Rattle.pst_scen.specs.declared.scenario.Scenario.{Scenario}
 use Rattle.pst_legal.specs.Standing.{value_of, bound_of}
 use Rattle.pst_legal.specs.Slots.{compound_in, node_slot}
-use Rattle.pst_constraint_sites.specs.Sites.{SiteTree, AtNode, slot_at}
-use Rattle.pst_field_values.specs.Fields.{count_of, field_count, IsLater}
+use Rattle.pst_constraint_sites.specs.Sites.{SiteTree, slot_at}
+use Rattle.pst_field_values.specs.Fields.{count_of, field_count}
 use Rattle.pst_field_values.specs.Quantities.{Quantity, standing_of, quantity_values, quantity_bounds, own_quantity, own_quantities, slot_quantities, BeginWithFields}
 use Rattle.pst_field_values.specs.Subjects.{HasNode, IsThere}
 

@@ -1,5 +1,5 @@
 -- The values of fields, under the constraints that rest on them.
-use Rattle.std.proofs.Common.{◌≡◌, ◌⊎◌, ℕ, ◌<◌, ◌≤◌, ℤ, List, [], ◌∷◌, ◌++◌, length, map, All, Contains, Option, Some, None, refl, sym, ap, ◌∙◌, subst, inl, inr, ⊎_elim, arith}
+use Rattle.std.proofs.Common.{◌≡◌, ◌⊎◌, ℕ, ◌<◌, ◌≤◌, ℤ, List, [], ◌∷◌, ◌++◌, length, map, Option, Some, None, sym, ap, ◌∙◌, subst, inl, inr, arith}
 use Rattle.std.specs.Prelude.{slice_get}
 use Rattle.std.proofs.lemmas.Bool.{cases_lt}
 use Rattle.std.proofs.lemmas.List.{append_assoc, append-nil}
@@ -12,20 +12,18 @@ use Rattle.pst_domain.specs.Bounds.{Holds as HoldsIn, AreWithin, bound_of as bou
 use Rattle.pst_narrow.specs.Solutions.{AreMet}
 use Rattle.pst_narrow.specs.Local.{LiesWithin}
 use Rattle.pst_narrow.specs.Narrowing.{HaveVariablesBelow}
-use Rattle.pst_model.specs.ConstraintTree.{Own}
 use Rattle.pst_model.specs.ModelTree.{ModelTree}
 use Rattle.pst_model.specs.Sound.{IsSound}
 use Rattle.pst_scen.specs.declared.scenario.Scenario.{Scenario}
 use Rattle.pst_legal.specs.Standing.{value_of, bound_of}
-use Rattle.pst_legal.specs.Slots.{node_slot}
 use Rattle.pst_legal.specs.Constraints.{Holds}
 use Rattle.pst_value_search.specs.Values.{Kept, Begins, with_value}
 use Rattle.pst_value_search.proofs.Points.{values_agree}
 use Rattle.pst_field_values.specs.Fields.{values_at, field_count, IsLater}
-use Rattle.pst_field_values.specs.Quantities.{Quantity, standing_of, quantity_values, quantity_bounds, own_quantity, BeginWithFields}
-use Rattle.pst_field_values.specs.Kept.{AreFieldsKeptBy, AreOfFields, with_values}
+use Rattle.pst_field_values.specs.Quantities.{Quantity, standing_of, quantity_values, own_quantity}
+use Rattle.pst_field_values.specs.Kept.{AreOfFields, with_values}
 use Rattle.pst_field_values.specs.Laws.{ExcludedFieldsHoldNothing}
-use Rattle.pst_field_values.specs.Writing.{AreValuesOf, IsKept, AreOverAt}
+use Rattle.pst_field_values.specs.Writing.{AreOverAt}
 use Rattle.pst_field_values.proofs.Later.{quantity_holds, values_stay, value_read}
 use Rattle.pst_field_values.proofs.Tables.{length_mapped, value_mapped, no_value_past, all_hold}
 

@@ -8,12 +8,11 @@ use Rattle.pst_expr.specs.Tree.{Expression, Constant, Variable, Unary, Binary, E
 use Rattle.pst_expr.specs.Value.{value, variable_value}
 use Rattle.pst_domain.specs.Bounds.{HasVariablesBelow}
 use Rattle.pst_narrow.specs.Solutions.{IsTruth}
-use Rattle.pst_model.specs.ConstraintTree.{SlotTree, Own, ConstraintTree}
+use Rattle.pst_model.specs.ConstraintTree.{SlotTree, ConstraintTree}
 use Rattle.pst_model.specs.ModelTree.{ModelTree}
 use Rattle.pst_model.specs.Sound.{IsSound}
 use Rattle.pst_scen.specs.declared.scenario.Scenario.{Scenario}
 use Rattle.pst_legal.specs.Standing.{value_of, bound_of}
-use Rattle.pst_legal.specs.Constraints.{Holds}
 use Rattle.pst_built.proofs.Lists.{get_below, get_mapped}
 use Rattle.pst_constraint_sites.specs.Sites.{SiteTree, slot_at}
 use Rattle.pst_written_constraints.specs.declared.term.Term.{Term}

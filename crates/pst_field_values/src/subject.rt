@@ -33,9 +33,7 @@ pub(crate) enum Position {
     /// At the action itself.
     Itself,
     /// At its traversal, in turns of these numbers.
-    Traversal {
-        indices: Vec<u32>,
-    },
+    Traversal { indices: Vec<u32> },
     /// At the action round it.
     Around,
 }

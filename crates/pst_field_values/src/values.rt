@@ -8,7 +8,6 @@ ghost use Rattle.pst_model.specs.Sound.{IsSound};
 ghost use Rattle.pst_known.specs.Known.{seen};
 ghost use Rattle.pst_value_search.specs.Values.{Begins};
 ghost use Rattle.pst_field_values.specs.Fields.{values_at, values_in};
-
 ghost use Rattle.pst_field_values.specs.Kept.{AreOfFields, with_values};
 
 use crate::written::{Written, write_fields};

@@ -45,13 +45,7 @@ fn variable_behind(base: usize, index: usize) -> Term
 
 // What the slot of that number is written as: the variable of a field of the action, or one of its own, so many
 // behind the first one.
-fn term_of(
-    subject: &Subject,
-    position: &Position,
-    slot: &Slot,
-    base: usize,
-    index: usize,
-) -> Term
+fn term_of(subject: &Subject, position: &Position, slot: &Slot, base: usize, index: usize) -> Term
     ensures { IsTermAt subject.now position.now (view_slot slot.now) base index result }
 {
     let Some(field) = field_of(subject, position, slot) else {
@@ -206,7 +200,14 @@ fn write_around(
     if subject.handle.is_none() {
         return Ok(());
     }
-    write_at(alloc, scene, subject, &Position::Around, subject.top, written)
+    write_at(
+        alloc,
+        scene,
+        subject,
+        &Position::Around,
+        subject.top,
+        written,
+    )
 }
 
 // No constraint on the fields of the action.

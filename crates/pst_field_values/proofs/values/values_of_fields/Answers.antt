@@ -21,11 +21,11 @@ returns-in-None c =
     none_of_fields (view_model c.args.scene.now.model.now) (seen c.args.scene.now) c.requires c.args.node w.constraints.items w.bounds.items c.in_ok-written.ensures
     (subst (Begins w.constraints.items w.bounds.items) c.in-None.is c.in_ok-begun.ensures)
 
-pub returns-in-Some : goal.returns-in-Some
-returns-in-Some c =
+pub returns-in_ok-given-in-Some : goal.returns-in_ok-given-in-Some
+returns-in_ok-given-in-Some c =
     let m = view_model c.args.scene.now.model.now in
     let s = seen c.args.scene.now in
     let w = c.in_ok-written.written in
-    subst (AreFieldsKeptBy m s c.args.node) (sym (c.in_ok-given.ensures ∙ ap (with_values c.in-Some.valued) c.values_at.ensures))
+    subst (AreFieldsKeptBy m s c.args.node) (sym (c.in_ok-given-in-Some.ensures ∙ ap (with_values c.in-Some.valued) c.values_at.ensures))
     (given_of_fields m s c.requires c.args.node w.constraints.items w.bounds.items c.in_ok-written.ensures c.in-Some.valued
     (subst (Begins w.constraints.items w.bounds.items) c.in-Some.is c.in_ok-begun.ensures))

@@ -1,9 +1,7 @@
 use Rattle.std.proofs.Common.{Contains, sym, subst}
 use Rattle.pst_model.specs.ModelView.{view_model}
-use Rattle.pst_scen.specs.declared.scenario.Scenario.{Scenario}
 use Rattle.pst_known.specs.Known.{seen}
 use Rattle.pst_constraint_sites.specs.Laws.{HasAt}
-use Rattle.pst_field_values.specs.Fields.{IsLater}
 use Rattle.pst_field_values.specs.Subjects.{IsThere}
 use Rattle.pst_field_values.proofs.Later.{compound_there, type_lasts}
 use Rattle.pst_field_values.proofs.written.write_at.Goals as goal
