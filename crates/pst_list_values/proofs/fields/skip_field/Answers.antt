@@ -42,8 +42,8 @@ skip-requires-clause-start c =
     let is : answer k ≡ Options s c.args.count = options_of (answer k) c.args.count s c.requires.options c.requires.read in
     let some = c.requires.some in
     let most = c.requires.named in
-    subst (λ n. c.in_ok-start.start < n) (size_is k c.args.node c.args.field.now c.requires.field.0 c.requires.field.1 s c.args.count is c.fields_are_places.ensures)
-    (subst (λ b. b < c.args.count) (sym c.in_ok-start.ensures) (start_below k.seed _ c.args.count (omega (arith, some, most))))
+    subst (λ n. c.in_ok-start-in-Some.start < n) (size_is k c.args.node c.args.field.now c.requires.field.0 c.requires.field.1 s c.args.count is c.fields_are_places.ensures)
+    (subst (λ b. b < c.args.count) (sym c.in_ok-start-in-Some.ensures) (start_below k.seed _ c.args.count (omega (arith, some, most))))
 
 pub skip-requires-clause-from : goal.skip-requires-clause-from
 skip-requires-clause-from c =
@@ -60,6 +60,6 @@ returns-in_ok-passed-in-Some c =
     let is : answer k ≡ Options s c.args.count = options_of (answer k) c.args.count s c.requires.options c.requires.read in
     let kept = subst (AreOfFields (view_model k.model) s c.args.node) c.in-Some.is (subst (λ m. AreOfFields (view_model m) s c.args.node c.in_ok-found.found) c.model.ensures c.in_ok-found.ensures) in
     some_skipped k c.args.node f c.requires.field.0 c.requires.field.1 s c.args.count is c.fields_are_places.ensures c.requires.sound c.nodes_stand_for_pieces.ensures.leaves c.handles_have_their_types.ensures
-    c.legal_scenarios_are_in_domains.ensures c.longer_lists_keep_what_is_known.ensures c.barren_lists_conflict.ensures c.fields_have_values.ensures c.excluded_fields_hold_nothing.ensures c.in-Some.valued kept c.in_ok-start.start c.in_ok-start.ensures
+    c.legal_scenarios_are_in_domains.ensures c.longer_lists_keep_what_is_known.ensures c.barren_lists_conflict.ensures c.fields_have_values.ensures c.excluded_fields_hold_nothing.ensures c.in-Some.valued kept c.in_ok-start-in-Some.start c.in_ok-start-in-Some.ensures
     (c.domains_list_values.ensures f.domain c.is_domain.ensures) c.earlier-conflict.result
-    (subst (IsEarlier c.earlier-conflict.result) c.in_ok-places.ensures c.earlier-conflict.ensures) c.args.from c.in_ok-passed.passed c.in_ok-passed.ensures.skips
+    (subst (IsEarlier c.earlier-conflict.result) c.in_ok-places.ensures c.earlier-conflict.ensures) c.args.from c.in_ok-passed-in-Some.passed c.in_ok-passed-in-Some.ensures.skips
