@@ -1,13 +1,12 @@
 -- Options of a compound action's field that are skipped.
-use Rattle.std.proofs.Common.{◌≡◌, ℕ, ◌+◌, ◌%◌, ◌<◌, ◌≤◌, ℤ, pos, List, [], ◌∷◌, ◌++◌, take, length, get_or, true, Option, Some, None, refl, sym, ap, ◌∙◌, subst, inl, inr, ⊎_elim, append_assoc, length-append, arith}
+use Rattle.std.proofs.Common.{◌≡◌, ℕ, ◌+◌, ◌%◌, ◌<◌, ◌≤◌, ℤ, pos, List, [], ◌∷◌, ◌++◌, length, get_or, true, Option, Some, None, refl, sym, ap, ◌∙◌, subst, inl, inr, ⊎_elim, append_assoc, length-append, arith}
 use Rattle.std.specs.Prelude.{slice_get}
 use Rattle.std.specs.Option.{option_and_then}
 use Rattle.std.proofs.Math.Nat.{mod-lt}
 use Rattle.std.proofs.lemmas.Bool.{cases_lt}
 use Rattle.std.proofs.lemmas.List.{take_all, take-append-le}
-use Rattle.std.proofs.lemmas.Option.{none-some, same_Some, slice_get-get_or, slice_get_within, option_and_then_some}
+use Rattle.std.proofs.lemmas.Option.{none-some, slice_get-get_or, slice_get_within}
 use Rattle.pst_rng.specs.Words.{start_of}
-use Rattle.pst_expr.specs.declared.ranges.Span.{Span}
 use Rattle.pst_expr.specs.Spans.{values, size_of}
 use Rattle.pst_expr.specs.Laws.{ListsValues}
 use Rattle.pst_model.specs.declared.action.Field.{Field}
@@ -15,18 +14,15 @@ use Rattle.pst_model.specs.ModelTree.{ModelTree, ActionTree}
 use Rattle.pst_model.specs.ModelView.{view_model}
 use Rattle.pst_model.specs.Sound.{IsSound}
 use Rattle.pst_scen.specs.declared.tree.Node.{Node}
-use Rattle.pst_scen.specs.declared.tree.Fill.{Fill}
-use Rattle.pst_scen.specs.declared.tree.Fill.TheVariants as fill
 use Rattle.pst_scen.specs.declared.scenario.Scenario.{Scenario}
 use Rattle.pst_legal.specs.Types.{type_of, action_field}
 use Rattle.pst_legal.specs.Standing.{field_span}
-use Rattle.pst_legal.specs.Slots.{compound_in, compound_at}
-use Rattle.pst_legal.specs.Constraints.{Holds}
+use Rattle.pst_legal.specs.Slots.{compound_in}
 use Rattle.pst_legal.specs.Reading.{option_at, value_number}
 use Rattle.pst_legal.specs.ValueReading.{Answer, Options, Dead, Whole, read}
 use Rattle.pst_legal.specs.First.{ReadsLegal}
 use Rattle.pst_built.specs.SoFar.{HasRead}
-use Rattle.pst_built.specs.Known.{Allows, InDomains}
+use Rattle.pst_built.specs.Known.{Allows}
 use Rattle.pst_built.specs.ReadOnwardLaws.{LongerListsKeepWhatIsKnown}
 use Rattle.pst_read_domains.specs.ReadNodesLaws.{ReadLeavesHaveActions, HandlesHaveTheirTypes}
 use Rattle.pst_read_domains.specs.RefusalsStayLaws.{LegalScenariosAreInDomains}
@@ -42,12 +38,11 @@ use Rattle.pst_shape.specs.Walks.{IfRead}
 use Rattle.pst_link_walk.specs.Walks.{Kept}
 use Rattle.pst_list_walk.specs.Walks.{answer}
 use Rattle.pst_search_loop.specs.declared.conflict.Conflict.{Conflict}
-use Rattle.pst_search_loop.specs.Conflicts.{Has, IsEarlier}
-use Rattle.pst_search_loop.specs.Kept.{HasOptions, Agrees, Sought, Excludes, Skips, with_choice}
+use Rattle.pst_search_loop.specs.Conflicts.{IsEarlier}
+use Rattle.pst_search_loop.specs.Kept.{HasOptions, Agrees, Excludes, Skips, with_choice}
 use Rattle.pst_search_loop.specs.Kept.{Kept as Walked}
 use Rattle.pst_search_places.specs.Laws.{IsByPlaces, BarrenListsConflict}
 use Rattle.pst_list_values.specs.Walked.{kept_of}
-use Rattle.pst_list_values.specs.FieldValues.{IsFieldOf}
 
 -- ---- an option is excluded where no longer list that has it reads a legal scenario
 

@@ -1,5 +1,4 @@
 use Rattle.std.proofs.Common.{◌≡◌, ◌<◌, ◌≤◌, sym, subst, arith}
-use Rattle.pst_expr.specs.Spans.{size_of}
 use Rattle.pst_model.specs.ModelView.{view_model}
 use Rattle.pst_model.specs.Sound.{IsSound}
 use Rattle.pst_legal.specs.ValueReading.{Options}
