@@ -163,11 +163,6 @@ sharing_first p lanes group old loads used e many none are =
     append_nil (x ∷ xs) = ap (λ v. x ∷ v) (append_nil xs)
 
 module _ (p : Entries) (lanes group act : ℕ) (old now : Dealt) (loads : List ℕ) (used : List Bool) (sh : Sharing p lanes group act old now loads used) where
-  distinct : Distinct sh.lent
-  distinct i j l m e =
-      let c = sh.fewest.ascending i j l m in
-      comes_never old (get_or sh.lent i 0) (get_or sh.lent j 0) c (subst (λ v. ComesBefore old v (get_or sh.lent i 0)) e (subst (λ v. ComesBefore old (get_or sh.lent i 0) v) (sym e) c))
-
   module _ (next : ℕ) (step : places_from (drop act p.groups) act group ≡ act ∷ places_from (drop next p.groups) next group) where
     abbrev rest : List ℕ
     rest = places_from (drop next p.groups) next group

@@ -29,10 +29,6 @@ moved_set [] lane l = absurd (omega (arith, l))
 moved_set (x ∷ places) zero l = let e : x + 1 ≡ suc x = omega arith in ap (λ v. v ∷ places) e
 moved_set (x ∷ places) (suc lane) l = ap (λ v. x ∷ v) (moved_set places lane (omega (arith, l)))
 
--- a lane stands at one instruction
-pub stands_at_one : (programs : List Program) (places : List ℕ) (lane : ℕ) (i j : Instruction) → IsAt programs places lane i → IsAt programs places lane j → i ≡ j
-stands_at_one programs places lane i j a b = some_one i j (sym a ∙ b)
-
 -- ---- programs by their lanes
 
 pub program_read : (programs : List Program) (lane : ℕ) (d : Program) → lane < length programs → program_at programs lane ≡ (get_or programs lane d).steps

@@ -224,11 +224,7 @@ module _ (dealt : Dealt) (latest : List (Vec ℕ)) (heard : List ℕ) (a l : ℕ
             (λ e. f.1 q z (omega (arith, b, e)) k) (cases_eq q m),
       )
 
-  -- a place that isn't behind what is awaited
-  pub news_past : (m place : ℕ) → ((row : Vec ℕ) → slice_get latest m ≡ Some row → place ≡ get_or row.items a 0) → place ≤ get_or heard m 0 → (x : ℕ) → IsNews dealt latest heard a l m x → ⊥
-  news_past m place is past x n = let e = is n.row n.is_row in let h = n.later in omega (arith, e, h, past)
-
-  -- and one that is
+  -- a place that is behind what is awaited
   pub news_here : (m place x : ℕ) → HavePlaces dealt latest a → m < length latest → m ≢ l → ((row : Vec ℕ) → slice_get latest m ≡ Some row → place ≡ get_or row.items a 0) → get_or heard m 0 < place
       → ((y o : ℕ) → IsDealtAt dealt place y o → x ≡ y) → IsNews dealt latest heard a l m x
   news_here m place x have m_in other is later one =

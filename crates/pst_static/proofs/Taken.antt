@@ -85,19 +85,6 @@ hinted_on p awaited lowered taken new hints marked act many h long kept marks lo
           (has_or p.must act g);
     }
 
--- a block in which no group can be taken needs no mark
-pub hinted_off : (p : Entries) (awaited : List ℕ) (taken hints : List Bool) (place : ℕ) → AreHinted p awaited taken hints → ((g : ℕ) → g / 64 ≡ place → g < length p.groups → CanBeTaken p awaited taken g → ⊥)
-    → AreHinted p awaited taken (set hints place false)
-hinted_off p awaited taken hints place h none =
-    record {
-      many = length-set hints place false ∙ h.many;
-      marked = λ g l can. ⊎_elim (λ e. absurd (none g e l can)) (λ n. get_or-set_other hints place (g / 64) false false n ∙ h.marked g l can) (cases_eq (g / 64) place);
-    }
-
--- a block without a mark has none
-pub none_hinted : (p : Entries) (awaited : List ℕ) (taken hints : List Bool) (place : ℕ) → AreHinted p awaited taken hints → get_or hints place false ≡ false → (g : ℕ) → g / 64 ≡ place → g < length p.groups → CanBeTaken p awaited taken g → ⊥
-none_hinted p awaited taken hints place h off g e l can = no_both (subst (λ v. get_or hints v false ≡ true) e (h.marked g l can)) off
-
 -- ---- one group after another
 
 -- what the tables say of the groups that were taken

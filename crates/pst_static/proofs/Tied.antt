@@ -170,13 +170,12 @@ module _ (p : Entries) (programs : List Program) (run : Progress) (t : IsRun p p
   told_on lane a places signals told' told_room' a_in at e f g up =
       let step : Steps p programs state (move.Pass lane) (record { places = places; signals = signals; trace = state.trace }) =
       subst (λ v. Steps p programs state (move.Pass lane) (record { places = v; signals = signals; trace = state.trace })) (sym e)
-      (subst (λ v. Steps p programs state (move.Pass lane) (record { places = moved_on state.places lane; signals = v; trace = state.trace })) (sym f) (Tells lane a at)) in
-      (
+      (subst (λ v. Steps p programs state (move.Pass lane) (record { places = moved_on state.places lane; signals = v; trace = state.trace })) (sym f) (Tells lane a at)) in (
         step,
         tied_next (move.Pass lane) (record { places = places; signals = signals; trace = state.trace }) step started told' room told_room' t.many_started
-        (ap (λ (v : List Bool). length v) g ∙ length-set told a true ∙ t.many_told) t.started_is
-        (λ b b_in. subst (λ v. (get_or v b false ≡ true) ↔ Contains signals b) (sym g) (subst (λ v. (get_or (set told a true) b false ≡ true) ↔ Contains v b) (sym f) (marked b b_in)))
-        (omega arith) up,
+            (ap (λ (v : List Bool). length v) g ∙ length-set told a true ∙ t.many_told) t.started_is
+            (λ b b_in. subst (λ v. (get_or v b false ≡ true) ↔ Contains signals b) (sym g) (subst (λ v. (get_or (set told a true) b false ≡ true) ↔ Contains v b) (sym f) (marked b b_in)))
+            (omega arith) up,
       )
     where
       marked : (b : ℕ) → b < length p.groups → (get_or (set told a true) b false ≡ true) ↔ Contains (state.signals ++ a ∷ []) b
@@ -198,11 +197,10 @@ module _ (p : Entries) (programs : List Program) (run : Progress) (t : IsRun p p
   ended_on lane a places trace room' at runs e f up =
       let step : Steps p programs state (move.End lane) (record { places = places; signals = state.signals; trace = trace }) =
       subst (λ v. Steps p programs state (move.End lane) (record { places = v; signals = state.signals; trace = trace })) (sym e)
-      (subst (λ v. Steps p programs state (move.End lane) (record { places = moved_on state.places lane; signals = state.signals; trace = v })) (sym f) (Ends lane a at runs)) in
-      (
+      (subst (λ v. Steps p programs state (move.End lane) (record { places = moved_on state.places lane; signals = state.signals; trace = v })) (sym f) (Ends lane a at runs)) in (
         step,
         tied_next (move.End lane) (record { places = places; signals = state.signals; trace = trace }) step started told room' told_room t.many_started t.many_told
-        (λ b b_in. subst (λ v. (get_or started b false ≡ true) ↔ Started v b) (sym f) (same b b_in)) t.told_is up (omega arith),
+            (λ b b_in. subst (λ v. (get_or started b false ≡ true) ↔ Started v b) (sym f) (same b b_in)) t.told_is up (omega arith),
       )
     where
       same : (b : ℕ) → b < length p.groups → (get_or started b false ≡ true) ↔ Started (state.trace ++ event.End a ∷ []) b
@@ -220,11 +218,10 @@ module _ (p : Entries) (programs : List Program) (run : Progress) (t : IsRun p p
   begun_on those lane a trace started' room' at all long taken begun up =
       let step : Steps p programs state (move.Begin lane) (record { places = state.places; signals = state.signals; trace = trace }) =
       subst (λ v. Steps p programs state (move.Begin lane) (record { places = state.places; signals = state.signals; trace = v })) (sym begun.new_is)
-      (Begins lane a begun.used at begun.are_at (λ b c. fresh b c)) in
-      (
+      (Begins lane a begun.used at begun.are_at (λ b c. fresh b c)) in (
         step,
         tied_next (move.Begin lane) (record { places = state.places; signals = state.signals; trace = trace }) step started' told room' told_room (long ∙ t.many_started) t.many_told
-        (λ b b_in. subst (λ v. (get_or started' b false ≡ true) ↔ Started v b) (sym begun.new_is) (now b b_in)) t.told_is up (omega arith),
+            (λ b b_in. subst (λ v. (get_or started' b false ≡ true) ↔ Started v b) (sym begun.new_is) (now b b_in)) t.told_is up (omega arith),
       )
     where
       fresh : (b : ℕ) → Contains (members p.groups (group_of p a)) b → Started state.trace b → ⊥
@@ -240,7 +237,7 @@ module _ (p : Entries) (programs : List Program) (run : Progress) (t : IsRun p p
           (λ n. (
             (λ s. started_more state.trace (starts_of (members p.groups (group_of p a)) begun.used) b ((t.started_is b b_in).0 (sym (taken.others b n) ∙ s))),
             (λ h. taken.others b n
-            ∙ (t.started_is b b_in).1 (⊎_elim (λ k. k) (λ k. absurd (n ((those p.groups (group_of p a) b).0 (starts_member (members p.groups (group_of p a)) begun.used b k)).1)) (started_cases state.trace (starts_of (members p.groups (group_of p a)) begun.used) b h))),
+                ∙ (t.started_is b b_in).1 (⊎_elim (λ k. k) (λ k. absurd (n ((those p.groups (group_of p a) b).0 (starts_member (members p.groups (group_of p a)) begun.used b k)).1)) (started_cases state.trace (starts_of (members p.groups (group_of p a)) begun.used) b h))),
           ))
           (cases_eq (group_of p b) (group_of p a))
 
@@ -332,8 +329,8 @@ run_first p programs run planned are few wide next_is places signals trace told 
       reached = (
         [],
         subst (λ v. Reaches p programs [] (record { places = v; signals = run.signals.items; trace = run.trace.items })) (sym places)
-        (subst (λ v. Reaches p programs [] (record { places = replicate (length programs) 0; signals = v; trace = run.trace.items })) (sym signals)
-        (subst (λ v. Reaches p programs [] (record { places = replicate (length programs) 0; signals = []; trace = v })) (sym trace) machine.First)),
+            (subst (λ v. Reaches p programs [] (record { places = replicate (length programs) 0; signals = v; trace = run.trace.items })) (sym signals)
+            (subst (λ v. Reaches p programs [] (record { places = replicate (length programs) 0; signals = []; trace = v })) (sym trace) machine.First)),
       );
       next_is = next_is;
       many_started = ap (λ (v : List Bool). length v) started ∙ length-replicate (length p.groups) false;

@@ -17,10 +17,6 @@ pub record View : Type 0 where
   pub programs : List Program
   pub state : State
 
--- the view in another state
-abbrev pub with_state : View → State → View
-with_state view state = record { plan = view.plan; programs = view.programs; state = state }
-
 -- Moves led to the state, and the tables tell which actions started and of which lanes were told.
 pub record IsTied (view : View) (next : List ℕ) (started told : List Bool) (room told_room : ℕ) : Type 0 where
   pub planned : (s : Scenario) × LinksStates s × IsPlanOf s view.plan

@@ -12,11 +12,7 @@ use pst_programs::{Instruction, Program};
 use pst_scen::{Event, Plan};
 
 /// The instruction at which the lane stands, if it is a lane and not at its end.
-fn instruction_at(
-    programs: &[Program],
-    places: &[usize],
-    lane: u32,
-) -> Option<Instruction>
+fn instruction_at(programs: &[Program], places: &[usize], lane: u32) -> Option<Instruction>
     requires { length places.now ≡ length programs.now }
     ensures at { MatchOption result ((i : Instruction) → IsAt programs.now places.now lane i → ⊥) (λ i. IsAt programs.now places.now lane i) }
     ensures room { IsSome result → get_or places.now lane 0 + 1 < 2 ^ 64 }
