@@ -1,4 +1,4 @@
-use Rattle.std.proofs.Common.{◌≡◌, ◌≤◌, ◌*◌, length, take}
+use Rattle.std.proofs.Common.{◌≡◌, ◌≤◌, ◌*◌, take}
 use Rattle.pst_programs.specs.Laws.{instructions}
 use Rattle.pst_program_texts.proofs.writer.count_instructions.Given as goal
 
