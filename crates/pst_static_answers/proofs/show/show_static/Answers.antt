@@ -1,4 +1,4 @@
-use Rattle.std.proofs.Common.{◌≡◌, ◌∙◌, ◌<◌, ℕ, List, string_bytes, ap, subst, sym, arith}
+use Rattle.std.proofs.Common.{◌∙◌, ℕ, List, string_bytes, ap, subst, sym, arith}
 use Rattle.pst_model.specs.ModelView.{view_model}
 use Rattle.pst_scen.specs.Plan.{widest}
 use Rattle.pst_static_answers.specs.declared.answer.StaticAnswer.TheVariants.{Narrow}
