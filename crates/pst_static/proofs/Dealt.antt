@@ -7,7 +7,7 @@ use Rattle.std.proofs.lemmas.List.Elements.{Contains-append_left, Contains-push,
 use Rattle.std.proofs.lemmas.Bool.{cases_Bool, cases_eq, cases_lt, cases_order, eqb-true, eq-eqb}
 use Rattle.pst_scen.specs.Plan.{Entries, places_from, members, member_count, widest_among, widest}
 use Rattle.pst_book.proofs.Elements.{none_in, cons_cases, contains_or}
-use Rattle.pst_book.proofs.Lists.{at_push, at_end, Distinct}
+use Rattle.pst_book.proofs.Lists.{at_push, at_end}
 use Rattle.pst_book.proofs.Numbers.{at_most, numbers_below}
 use Rattle.pst_programs.specs.Lanes.{Dealt, load, ComesBefore, AreFewest, Deals, Done, Then}
 use Rattle.pst_static.specs.Loads.{Precedes, IsFirstFree, AreLoads, IsDealtOut}

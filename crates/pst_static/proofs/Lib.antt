@@ -9,3 +9,4 @@ mod Moved
 mod Drafting
 mod Tied
 mod Beginning
+mod Few

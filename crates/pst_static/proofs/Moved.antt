@@ -20,7 +20,6 @@ use Rattle.pst_programs.specs.Safe.{AreSafe}
 use Rattle.pst_programs.proofs.Kept.{Kept}
 use Rattle.pst_programs.proofs.Moves.{reached_kept}
 use Rattle.pst_programs.specs.Programs.{program_at}
-use Rattle.pst_programs.proofs.Places.{some_one}
 use Rattle.pst_programs.proofs.Written.{get_below}
 
 -- one lane's place is raised by one

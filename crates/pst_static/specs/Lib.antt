@@ -7,3 +7,4 @@ pub mod Standing
 pub mod Views
 pub mod Runs
 pub mod Kept
+pub mod Laws

@@ -8,6 +8,7 @@ mod awaits;
 mod deal;
 mod drafts;
 mod latest;
+mod laws;
 mod machine;
 mod order;
 mod programs;
@@ -16,5 +17,6 @@ mod run;
 mod standing;
 mod tables;
 
+pub use laws::programs_are_few;
 pub use machine::Machine;
 pub use programs::lane_programs;

@@ -78,10 +78,10 @@ fn programs_of(
 /// The programs of a scenario's plan for so many lanes, which are enough for its widest group: those
 /// of the definition, and no others.
 ///
-/// Each row of the plan's square of `must` is read three times, and each of the square of conflicts
-/// once: a word without pairs costs one step, each other one 64. For each action all lanes are
-/// looked at, once for the action and once for each that it awaits. Nothing else grows faster than
-/// the programs.
+/// Each row of the plan's square of `must` is read four times, and each of the square of conflicts
+/// once: a word without pairs costs one step, each other one at most 64. For each action all lanes
+/// are looked at, once for the action and once for each that it awaits. Nothing else grows faster
+/// than the programs.
 pub fn lane_programs(alloc: Global, plan: &Plan, lanes: u32) -> Result<Vec<Program>, NoMemory>
     requires planned { (s : Scenario) × IsPlanOf s plan.now }
     requires some { 1 ≤ lanes }
