@@ -14,18 +14,17 @@ use std::rt::Env;
 /// The status where the program itself finds no memory.
 const NO_MEMORY: u8 = 8;
 
-/// The bytes of room in which a word is read at first, and the most: no system hands in a longer one.
-const LEAST_ROOM: usize = 1 << 10;
+/// The logarithms of the bytes of room in which a word is read at first, and at last: no system hands in a longer one.
+const LEAST_ROOM: u32 = 10;
 
-const MOST_ROOM: usize = 1 << 18;
+const MOST_ROOM: u32 = 18;
 
 /// The word at a place of the command line, none behind the last. A word that isn't UTF-8, or is too
 /// long for any room, is handed in as an empty one: no line has that, wherever it is.
 fn word_at<R: Env + AllocGlobal>(rt: &R, place: usize) -> Result<Option<String>, NoMemory> {
-    let mut room = LEAST_ROOM;
-    while room <= MOST_ROOM {
+    for room in LEAST_ROOM..=MOST_ROOM {
         let mut bytes = Vec::new(rt.alloc());
-        bytes.resize(room, 0u8)?;
+        bytes.resize(1 << room, 0u8)?;
         match rt.arg(place, &mut bytes) {
             Ok(length) => {
                 bytes.truncate(length);
@@ -35,7 +34,7 @@ fn word_at<R: Env + AllocGlobal>(rt: &R, place: usize) -> Result<Option<String>,
                 }));
             }
             Err(FillError::NotPresent) => return Ok(None),
-            Err(FillError::TooLong) => room *= 2,
+            Err(FillError::TooLong) => {}
         }
     }
     Ok(Some(String::new(rt.alloc())))
