@@ -121,12 +121,6 @@ class Activities:
             self.need(":")
         return (guard, self.nested(self.statement))
 
-    def round(self):
-        self.need("(")
-        inner = self.expression()
-        self.need(")")
-        return inner
-
     def counted(self):
         """The name of an index, where there is one, and the count of a `repeat`."""
         self.need("(")
@@ -145,13 +139,13 @@ class Activities:
 
     def conditional(self, place):
         self.take()
-        condition, first = self.round(), self.nested(self.statement)
+        condition, first = self.bracketed(), self.nested(self.statement)
         other = self.nested(self.statement) if self.skip("else") else None
         return Step("if", place, condition=condition, first=first, other=other)
 
     def match(self, place):
         self.take()
-        value = self.round()
+        value = self.bracketed()
         self.need("{")
         arms = [self.arm()]
         while not self.skip("}"):
@@ -204,7 +198,7 @@ class Activities:
         if self.skip(";"):
             return
         if self.skip("if"):
-            self.round()
+            self.bracketed()
             self.constraint_set()
             if self.skip("else"):
                 self.constraint_set()
@@ -250,7 +244,7 @@ class Activities:
         if kind == "{":
             self.block(self.body_statement)
         elif self.skip("if"):
-            self.round()
+            self.bracketed()
             self.nested(self.body_statement)
             if self.skip("else"):
                 self.nested(self.body_statement)

@@ -121,6 +121,13 @@ def outline(symbols):
     return [(it["name"], outline(it["children"])) for it in symbols]
 
 
+def save(client, source, document, text, shown=None):
+    """Saves a text; the editor shows it, or another one."""
+    source.write_text(text)
+    client.send("textDocument/didChange", {**document, "contentChanges": [{"text": shown or text}]})
+    client.send("textDocument/didSave", document)
+
+
 def session(tests):
     """A file is opened, broken, saved, mended and saved again."""
     folder = tests.folder / "session"
@@ -141,23 +148,17 @@ def session(tests):
     tests.is_same("a place behind letters of two bytes", symbols[0]["selectionRange"]["start"], {"line": 0, "character": 19})
     tests.is_same("no message", client.published["one.pss"], [])
     bad = good.replace("do hello", "do hallo")
-    source.write_text(bad)
-    client.send("textDocument/didChange", {**document, "contentChanges": [{"text": bad}]})
-    client.send("textDocument/didSave", document)
+    save(client, source, document, bad)
     client.ask("textDocument/documentSymbol", document)
     found = client.published["one.pss"]
     tests.is_true("a message at its place", found and found[0]["range"] == {"start": {"line": 2, "character": 31}, "end": {"line": 2, "character": 36}}, str(found))
     tests.is_true("the rule of the message", found and found[0]["code"] == "rule-2" and found[0]["severity"] == 1, str(found))
-    source.write_text(good)
-    client.send("textDocument/didChange", {**document, "contentChanges": [{"text": good + "component"}]})
-    client.send("textDocument/didSave", document)
+    save(client, source, document, good, good + "component")
     again = client.ask("textDocument/documentSymbol", document)["result"]
     tests.is_same("no message any more", client.published["one.pss"], [])
     tests.is_same("the outline stays while the text is broken", outline(again), outline(symbols))
     none = good.replace("do hello", "do hello with 1 == 2")
-    source.write_text(none)
-    client.send("textDocument/didChange", {**document, "contentChanges": [{"text": none}]})
-    client.send("textDocument/didSave", document)
+    save(client, source, document, none)
     client.ask("textDocument/documentSymbol", document)
     found = client.published["one.pss"]
     tests.is_true("a warning where no scenario exists", found and (found[0]["severity"], found[0]["code"], found[0]["range"]["start"]["line"]) == (2, "noscenario", 2), str(found))
