@@ -29,7 +29,7 @@ ENDS = {
     "trap": "the body trapped",
 }
 KINDS = {1: "an expression has no value", 2: "a value is outside its range", 3: "more than 1,000 statements"}
-FAILED = ("usage", "nofile", "narrow", "readfault", "large", "unbuilt")
+FAILED = ("usage", "nofile", "narrow", "readfault", "large")
 
 
 def rule_table():

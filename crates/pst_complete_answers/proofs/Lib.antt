@@ -2,3 +2,4 @@ mod Whole
 mod Good
 mod Served
 mod Complete
+mod Rows

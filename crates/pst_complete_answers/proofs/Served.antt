@@ -18,7 +18,13 @@ use Rattle.pst_outcome.proofs.OneReading.{not_all_read, trace_not_read, one_trac
 use Rattle.pst_outcome.proofs.OneLine.{one_line, not_wrong}
 use Rattle.pst_outcome.proofs.OneTask.{one_task}
 use Rattle.pst_outcome.proofs.OneFront.{SourceLaws, one_front}
-use Rattle.pst_complete_answers.specs.Complete.{Asked, AreAsking}
+use Rattle.pst_complete_answers.specs.Complete.{Asked, AreAsking, AreSweeping}
+
+-- the words are a line that asks this, whatever is asked
+record IsAsked (lines : Lines) (have : ℕ) (words : List (List ℕ)) (files : Files) (old new : ℕ) (asked : Asked) : Type 0 where
+  pub line : IsLine lines have words asked.command asked.arguments
+  pub front : HasFront (Some files) old new asked.command asked.arguments asked.trace (HasModel asked.names asked.model asked.root)
+  pub asks : IsTask asked.command asked.arguments asked.task
 
 ends_apart : {a : Answer} {s : List ℕ} {names : List (List ℕ)} {m : ModelTree} {root : ℕ} → Ends a s ≡ HasModel names m root → ⊥
 ends_apart e = cc
@@ -28,7 +34,7 @@ abbrev Does : Front → Task → Option (List ℕ) → List Lane → Answer → 
 Does (Ends b t) task trace told a s = ⊥
 Does (HasModel names m root) task trace told a s = OfModel names m root task (bytes_of trace) told a s
 
-module _ (laws : SourceLaws) (lines : Lines) (have : ℕ) (words : List (List ℕ)) (f : Files) (old new : ℕ) (told : List Lane) (asked : Asked) (asking : AreAsking lines have words f old new asked) where
+module _ (laws : SourceLaws) (lines : Lines) (have : ℕ) (words : List (List ℕ)) (f : Files) (old new : ℕ) (told : List Lane) (asked : Asked) (asking : IsAsked lines have words f old new asked) where
   -- ---- files
 
   -- the line's files are read
@@ -74,12 +80,21 @@ module _ (laws : SourceLaws) (lines : Lines) (have : ℕ) (words : List (List �
       let same = one_line lines have words command asked.command arguments asked.arguments line asking.line in
       subst (λ (z : List (List ℕ)). P asked.command z) same.1 (subst (λ (z : Command). P z arguments) same.0 h)
 
-  pub of_asked : (a : Answer) (s : List ℕ) → (HasRisen old new → ⊥) → IsOwed lines have words (Some f) old new told a s → OfModel asked.names asked.model asked.root asked.task (bytes_of asked.trace) told a s
-  of_asked _ _ calm (IsUsage word _ _ wrong) = absurd (not_wrong lines have words asked.command asked.arguments word asking.line wrong)
-  of_asked _ _ calm (EndsAtFiles command arguments a s _ line of_files) =
+  of_line : (a : Answer) (s : List ℕ) → (HasRisen old new → ⊥) → IsOwed lines have words (Some f) old new told a s → OfModel asked.names asked.model asked.root asked.task (bytes_of asked.trace) told a s
+  of_line _ _ calm (IsUsage word _ _ wrong) = absurd (not_wrong lines have words asked.command asked.arguments word asking.line wrong)
+  of_line _ _ calm (EndsAtFiles command arguments a s _ line of_files) =
       absurd (no_files a s calm (on_line (λ c xs. OfFiles (Some f) old new xs a s) command arguments line of_files))
-  of_asked _ _ calm (EndsAtSources command arguments trace a s _ line front) =
+  of_line _ _ calm (EndsAtSources command arguments trace a s _ line front) =
       absurd (ends_apart (same_front trace (Ends a s) (on_line (λ c xs. HasFront (Some f) old new c xs trace (Ends a s)) command arguments line front)))
-  of_asked _ _ calm (IsServed command arguments trace names m root task a s line front asks does) =
+  of_line _ _ calm (IsServed command arguments trace names m root task a s line front asks does) =
       served trace names m root task a s (on_line (λ c xs. HasFront (Some f) old new c xs trace (HasModel names m root)) command arguments line front)
       (on_line (λ c xs. IsTask c xs task) command arguments line asks) does
+
+pub of_asked : (laws : SourceLaws) (lines : Lines) (have : ℕ) (words : List (List ℕ)) (f : Files) (old new : ℕ) (told : List Lane) (asked : Asked) → AreAsking lines have words f old new asked
+    → (a : Answer) (s : List ℕ) → (HasRisen old new → ⊥) → IsOwed lines have words (Some f) old new told a s → OfModel asked.names asked.model asked.root asked.task (bytes_of asked.trace) told a s
+of_asked laws lines have words f old new told asked asking = of_line laws lines have words f old new told asked (record { line = asking.line; front = asking.front; asks = asking.asks })
+
+-- the same of a line that asks for a sweep
+pub of_swept : (laws : SourceLaws) (lines : Lines) (have : ℕ) (words : List (List ℕ)) (f : Files) (old new : ℕ) (told : List Lane) (asked : Asked) → AreSweeping lines have words f old new asked
+    → (a : Answer) (s : List ℕ) → (HasRisen old new → ⊥) → IsOwed lines have words (Some f) old new told a s → OfModel asked.names asked.model asked.root asked.task (bytes_of asked.trace) told a s
+of_swept laws lines have words f old new told asked asking = of_line laws lines have words f old new told asked (record { line = asking.line; front = asking.front; asks = asking.asks })

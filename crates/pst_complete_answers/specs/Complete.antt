@@ -17,15 +17,16 @@ use Rattle.pst_addr.specs.declared.ask.Space.{Space}
 use Rattle.pst_addr.specs.Places.{HasNoRoom}
 use Rattle.pst_addr.specs.Asks.{asks_of}
 use Rattle.pst_words.specs.declared.command.Command.{Command}
-use Rattle.pst_words.specs.declared.command.Command.TheVariants.{Run, Solve, Check, Gen, Place}
+use Rattle.pst_words.specs.declared.command.Command.TheVariants.{Run, Solve, Check, Gen, Static, Place}
 use Rattle.pst_words.specs.declared.command.Lines.{Lines}
 use Rattle.pst_words.specs.Lines.{IsLine}
 use Rattle.pst_outcome.specs.declared.answer.Answer.{Answer}
 use Rattle.pst_outcome.specs.declared.answer.Answer.TheVariants.{Done, Solved, Placed, Whole, Prefix, BadTrace, Illegal}
+use Rattle.pst_outcome.specs.declared.answer.Answer.TheVariants as answer
 use Rattle.pst_outcome.specs.declared.task.Task.{Task}
 use Rattle.pst_outcome.specs.declared.task.Work.{Work}
 use Rattle.pst_outcome.specs.declared.task.Work.TheVariants as work
-use Rattle.pst_outcome.specs.Tasks.{IsTask}
+use Rattle.pst_outcome.specs.Tasks.{IsSweep, IsTask}
 use Rattle.pst_outcome.specs.Sources.{HasModel}
 use Rattle.pst_outcome.specs.Models.{IsSought}
 use Rattle.pst_outcome.specs.Outcome.{HasFront}
@@ -51,6 +52,13 @@ pub record AreAsking (lines : Lines) (have : ℕ) (words : List (List ℕ)) (fil
   pub front : HasFront (Some files) old new asked.command asked.arguments asked.trace (HasModel asked.names asked.model asked.root)
   pub asks : IsTask asked.command asked.arguments asked.task
   pub sought : IsSought asked.task.work
+
+-- The same of a line that asks for a sweep over seeds.
+pub record AreSweeping (lines : Lines) (have : ℕ) (words : List (List ℕ)) (files : Files) (old new : ℕ) (asked : Asked) : Type 0 where
+  pub line : IsLine lines have words asked.command asked.arguments
+  pub front : HasFront (Some files) old new asked.command asked.arguments asked.trace (HasModel asked.names asked.model asked.root)
+  pub asks : IsTask asked.command asked.arguments asked.task
+  pub swept : IsSweep asked.task.work
 
 -- neither the shelf's count of faults rose nor the sink's, and neither stands at its last value
 pub record CallsSucceed (old new : ℕ) (w : Writing) : Type 0 where
@@ -94,17 +102,23 @@ pub record RunsFreely (m : ModelTree) (s : Scenario) (count : ℕ) (told : List 
 abbrev pub HasRoom : List (List ℕ) → ModelTree → Scenario → Space → Type 0
 HasRoom names m s space = (plan : Entries) (number : ℕ) → IsPlanOf s plan → HasNoRoom plan space (asks_of names m s) number → ⊥
 
--- where the scenario is run, it runs freely on the lanes that the line says; and the space of a line has room for its asks
+-- the widest group of the scenario's plan fits so many lanes
+abbrev pub FitsOver : Scenario → ℕ → Type 0
+FitsOver s over = (plan : Entries) → IsPlanOf s plan → widest plan.groups ≤ over
+
+-- where the scenario is run, it runs freely on the lanes that the line says; the space of a line has room for its asks, and the lanes for which a line
+-- asks for programs are enough
 abbrev pub CanBeDone : List (List ℕ) → ModelTree → Scenario → List Lane → Work → Type 0
 CanBeDone names m s told (work.Run count) = RunsFreely m s count told
 CanBeDone names m s told (work.Generate size count) = RunsFreely m s count told
 CanBeDone names m s told (work.Place space) = HasRoom names m s space
+CanBeDone names m s told (work.Static over) = FitsOver s over
 CanBeDone names m s told other = Unit {0}
 
 -- ---- good answers
 
 -- the good answers of a line whose first legal scenario has so many actions: all of them were run, the scenario's header was printed, the trace file
--- was judged, or what the actions ask for has addresses
+-- was judged, what the actions ask for has addresses, or the lanes have programs
 pub data IsGood (actions : ℕ) : Command → Answer → Type 0 where
   WasRun : IsGood actions Run (Done actions)
   WasGenerated : IsGood actions Gen (Done actions)
@@ -114,6 +128,7 @@ pub data IsGood (actions : ℕ) : Command → Answer → Type 0 where
   IsNoTrace : (line : ℕ) → IsGood actions Check (BadTrace line)
   IsIllegal : (line rule : ℕ) → IsGood actions Check (Illegal line rule)
   WasPlaced : (asks : ℕ) → IsGood actions Place (Placed asks)
+  WasProgrammed : (instructions : ℕ) → IsGood actions Static (answer.Static instructions)
 
 -- there is a first legal scenario, and the answer is good for it
 pub record IsGoodForFirst (asked : Asked) (answer : Answer) : Type 0 where

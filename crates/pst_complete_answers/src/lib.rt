@@ -6,4 +6,4 @@
 
 mod laws;
 
-pub use laws::lines_are_complete;
+pub use laws::{lines_are_complete, rows_are_fixed};

@@ -9,7 +9,7 @@ use Rattle.std.proofs.Math.Seq.{drop-append_seam}
 use Rattle.pst_words.specs.declared.command.Command.{Command}
 use Rattle.pst_words.specs.declared.command.Command.TheVariants.{Run, Solve, Check, Gen, Static, Place, Sweep}
 use Rattle.pst_words.specs.declared.key.Key.{Key}
-use Rattle.pst_words.specs.declared.key.Key.TheVariants.{Root, Infer, Lanes, Size}
+use Rattle.pst_words.specs.declared.key.Key.TheVariants.{Root, Infer, Lanes, Size, Over, Count}
 use Rattle.pst_words.specs.Table.{key_start, needed, most_of, IsRoot, IsSize, IsNumber, IsValue}
 use Rattle.pst_words.specs.Lines.{is_file, is_of, is_given, given, IsArgument, AKey, AFile, IsWhole}
 use Rattle.pst_words.proofs.Given.{given_here, given_later}
@@ -88,10 +88,22 @@ small_lanes command arguments (have, whole) text e = of_number (value_given comm
         let few = few_lanes have (nat_lt have 16) refl in
         (s.number, s.spelled, omega (arith, high, few))
 
+pub small_over : (command : Command) (arguments : List (List ℕ)) → AreBehind command arguments → (text : List ℕ) → given Over arguments ≡ Some text → (n : ℕ) × (text ≡ decimal n) × (n < 2 ^ 32)
+small_over command arguments (have, whole) text e = of_number (value_given command have arguments whole.right.each Over text e)
+  where
+    of_number : IsNumber 1 16 text → IsSmall text
+    of_number s = let high = s.high in (s.number, s.spelled, omega (arith, high))
+
 pub small_infer : (command : Command) (arguments : List (List ℕ)) → AreBehind command arguments → (text : List ℕ) → given Infer arguments ≡ Some text → (n : ℕ) × (text ≡ decimal n) × (n < 2 ^ 32)
 small_infer command arguments (have, whole) text e = of_number (value_given command have arguments whole.right.each Infer text e)
   where
     of_number : IsNumber 0 8 text → IsSmall text
+    of_number s = let high = s.high in (s.number, s.spelled, omega (arith, high))
+
+pub small_count : (command : Command) (arguments : List (List ℕ)) → AreBehind command arguments → (text : List ℕ) → given Count arguments ≡ Some text → (n : ℕ) × (text ≡ decimal n) × (n < 2 ^ 32)
+small_count command arguments (have, whole) text e = of_number (value_given command have arguments whole.right.each Count text e)
+  where
+    of_number : IsNumber 1 4096 text → IsSmall text
     of_number s = let high = s.high in (s.number, s.spelled, omega (arith, high))
 
 -- what is given is below 2^32, as what stands for it otherwise is

@@ -8,7 +8,7 @@ mod printing;
 mod root;
 
 pub use generated::source_of;
-pub use numbers::{infer_given, lanes_given, size_given, space_given};
+pub use numbers::{infer_given, lanes_given, over_given, seeds_given, size_given, space_given};
 pub use printing::{
     large_text, lexical_text, no_file_text, read_fault_text, rule_text, source_name, syntax_text,
 };

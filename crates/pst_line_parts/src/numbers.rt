@@ -32,6 +32,14 @@ pub fn lanes_given(line: &Line<'_>) -> u32
     small_number(line, Key::Lanes, 1)
 }
 
+/// Over how many lanes a line asks for programs.
+pub fn over_given(line: &Line<'_>) -> u32
+    requires { AreBehind line.now.command (map string_bytes line.now.arguments.now) }
+    ensures { IsNumberGiven Key.Over (map string_bytes line.now.arguments.now) 1 result }
+{
+    small_number(line, Key::Over, 1)
+}
+
 /// The most inferred actions that a line allows.
 pub fn infer_given(line: &Line<'_>) -> u32
     requires { AreBehind line.now.command (map string_bytes line.now.arguments.now) }
@@ -49,4 +57,15 @@ pub fn space_given(line: &Line<'_>) -> Space
         base: line.number(Key::Base, 0),
         size: line.number(Key::Space, 0),
     }
+}
+
+/// The first seed that a line gives, and how many; the first is 1 where the line doesn't say so.
+pub fn seeds_given(line: &Line<'_>) -> (u64, u32)
+    requires { AreBehind line.now.command (map string_bytes line.now.arguments.now) }
+    ensures first { IsNumberGiven Key.First (map string_bytes line.now.arguments.now) 1 result.0 }
+    ensures count { IsNumberGiven Key.Count (map string_bytes line.now.arguments.now) 0 result.1 }
+{
+    let first = line.number(Key::First, 1);
+    let count = small_number(line, Key::Count, 0);
+    (first, count)
 }

@@ -25,8 +25,8 @@ use Rattle.pst_outcome.specs.declared.reply.Reply.{Reply}
 use Rattle.pst_outcome.specs.declared.task.Work.{Work}
 use Rattle.pst_outcome.specs.declared.task.Work.TheVariants as work
 use Rattle.pst_outcome.specs.Tasks.{FitsLanes}
-use Rattle.pst_outcome.specs.Models.{OfScenario, IsRun, IsGenerated, IsSolved, IsJudged, IsPlacing, HasEnded, EndsElse, count_ended, answer_of_run, answer_of_places}
-use Rattle.pst_model_answers.specs.Replies.{Says, Tells, TellsEnd, SaysCheck, SaysPlaces, Replies}
+use Rattle.pst_outcome.specs.Models.{OfScenario, IsRun, IsGenerated, IsSolved, IsJudged, IsPlacing, IsProgrammed, HasEnded, EndsElse, count_ended, answer_of_run, answer_of_places, answer_of_programs}
+use Rattle.pst_model_answers.specs.Replies.{Says, Tells, TellsEnd, SaysCheck, SaysPlaces, SaysPrograms, Replies}
 
 -- without a call no calls were made
 pub none_made : (l : Lane) → IsUncalled l → HasMade l
@@ -98,6 +98,11 @@ module _ (names : List (List ℕ)) (m : ModelTree) (s : Scenario) (plan : Entrie
   place_replied space (Ok reply) none (answer, shows, answer_is) trace =
       subst (λ (a : Answer). OfScenario names m s plan trace (l ∷ []) (work.Place space) a (string_bytes reply.text)) (sym answer_is) (IsPlacing space answer (string_bytes reply.text) (one_uncalled l none) shows)
   place_replied space (Err e) none says trace = none_made l none
+
+  pub static_replied : (over : ℕ) (r : Result Reply NoMemory) → IsUncalled l → IfOk r (SaysPrograms names m s plan over) → (trace : List ℕ) → Replies names m s plan trace l (work.Static over) r
+  static_replied over (Ok reply) none (answer, shows, answer_is) trace =
+      subst (λ (a : Answer). OfScenario names m s plan trace (l ∷ []) (work.Static over) a (string_bytes reply.text)) (sym answer_is) (IsProgrammed over answer (string_bytes reply.text) (one_uncalled l none) shows)
+  static_replied over (Err e) none says trace = none_made l none
 
   -- what is done is that
   pub replied_as : (trace : List ℕ) (done other : Work) (r : Result Reply NoMemory) → done ≡ other → Replies names m s plan trace l other r → Replies names m s plan trace l done r

@@ -14,12 +14,14 @@ use Rattle.pst_scenario_answers.specs.Checked.{IsChecked, answer_text}
 use Rattle.pst_addr.specs.declared.ask.Space.{Space}
 use Rattle.pst_place_answers.specs.declared.answer.PlaceAnswer.{PlaceAnswer}
 use Rattle.pst_place_answers.specs.Shown.{ShowsPlaces}
+use Rattle.pst_static_answers.specs.declared.answer.StaticAnswer.{StaticAnswer}
+use Rattle.pst_static_answers.specs.Shown.{ShowsStatic}
 use Rattle.pst_outcome.specs.declared.answer.Answer.{Answer}
 use Rattle.pst_outcome.specs.declared.answer.Answer.TheVariants.{NoScenario, Budget}
 use Rattle.pst_outcome.specs.declared.reply.Reply.{Reply}
 use Rattle.pst_outcome.specs.declared.task.Work.{Work}
 use Rattle.pst_outcome.specs.Texts.{no_scenario_text, budget_text}
-use Rattle.pst_outcome.specs.Models.{OfScenario, answer_of_run, answer_of_check, answer_of_places}
+use Rattle.pst_outcome.specs.Models.{OfScenario, answer_of_run, answer_of_check, answer_of_places, answer_of_programs}
 
 -- the reply has this answer and this text
 pub record Says (answer : Answer) (text : List ℕ) (reply : Reply) : Type 0 where
@@ -48,6 +50,10 @@ SaysCheck names m s trace reply = (answer : CheckAnswer) × IsChecked names m s 
 -- the reply that places what the scenario's actions ask for
 abbrev pub SaysPlaces : List (List ℕ) → ModelTree → Scenario → Entries → Space → Reply → Type 0
 SaysPlaces names m s plan space reply = (answer : PlaceAnswer) × ShowsPlaces names m s plan space answer (string_bytes reply.text) × (reply.answer ≡ answer_of_places answer)
+
+-- the reply that gives programs to so many lanes
+abbrev pub SaysPrograms : List (List ℕ) → ModelTree → Scenario → Entries → ℕ → Reply → Type 0
+SaysPrograms names m s plan over reply = (answer : StaticAnswer) × ShowsStatic names m s plan over answer (string_bytes reply.text) × (reply.answer ≡ answer_of_programs answer)
 
 -- the reply to the scenario on one lane; where memory ran out, calls may have been made
 abbrev pub Replies : List (List ℕ) → ModelTree → Scenario → Entries → List ℕ → Lane → Work → {E : Type 0} → Result Reply E → Type 0

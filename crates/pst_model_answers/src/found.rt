@@ -6,9 +6,9 @@ ghost use Rattle.pst_trace_texts.specs.declared.last.Last.TheVariants.{Solved as
 ghost use Rattle.pst_trace_texts.specs.Texts.{trace_text};
 ghost use Rattle.pst_run_alone.specs.Lanes.{lane as lane_of};
 ghost use Rattle.pst_outcome.specs.Tasks.{FitsLanes};
-ghost use Rattle.pst_outcome.specs.Models.{answer_of_check as answer_of, answer_of_places as answer_of_placing, IsSought};
+ghost use Rattle.pst_outcome.specs.Models.{answer_of_check as answer_of, answer_of_places as answer_of_placing, answer_of_programs as answer_of_programming, IsSought};
 ghost use Rattle.pst_model_answers.specs.Ready.{IsReady};
-ghost use Rattle.pst_model_answers.specs.Replies.{Says, SaysCheck, SaysPlaces, Replies};
+ghost use Rattle.pst_model_answers.specs.Replies.{Says, SaysCheck, SaysPlaces, SaysPrograms, Replies};
 
 use crate::counts::reply_to_counts;
 use crate::run::reply_to_run;
@@ -18,6 +18,7 @@ use pst_outcome::{Answer, Reply, Space, Work};
 use pst_place_answers::{PlaceAnswer, show_places};
 use pst_scen::{Plan, Scenario};
 use pst_scenario_answers::{CheckAnswer, checked, solved_text};
+use pst_static_answers::{StaticAnswer, show_static};
 use pst_target::Target;
 use std::alloc::Global;
 
@@ -81,6 +82,36 @@ fn reply_to_place(
     })
 }
 
+// The answer of the program to programs of lanes.
+fn answer_of_programs(answer: StaticAnswer) -> Answer
+    ensures { result ≡ answer_of_programming answer }
+{
+    match answer {
+        StaticAnswer::Static { instructions } => Answer::Static { instructions },
+        StaticAnswer::Narrow { need, have } => Answer::Narrow { need, have },
+    }
+}
+
+// The reply that gives programs to so many lanes.
+fn reply_to_static(
+    alloc: Global,
+    names: &Names,
+    model: &Model,
+    scenario: &Scenario,
+    plan: &Plan,
+    over: u32,
+) -> Result<Reply, NoMemory>
+    requires ready { IsReady (view_model model.now) scenario.now plan.now }
+    requires lanes { (1 ≤ over) × (over ≤ 16) }
+    ensures { IfOk result (SaysPrograms names.now (view_model model.now) scenario.now plan.now over) }
+{
+    let shown = show_static(alloc, names, model, scenario, plan, over)?;
+    Ok(Reply {
+        answer: answer_of_programs(shown.answer),
+        text: shown.text,
+    })
+}
+
 // The reply to a trace.
 fn reply_to_check(
     alloc: Global,
@@ -102,8 +133,8 @@ fn reply_to_check(
     })
 }
 
-/// The reply where the scenario was found: it is run on one lane, printed, compared with the trace, or
-/// what its actions ask for is placed.
+/// The reply where the scenario was found: it is run on one lane, printed, compared with the trace,
+/// what its actions ask for is placed, or lanes get programs for it.
 pub(crate) fn reply_to_found<T: Target>(
     alloc: Global,
     names: &Names,
@@ -128,6 +159,7 @@ pub(crate) fn reply_to_found<T: Target>(
             reply_to_counts(alloc, names, model, scenario, plan, size, lane)
         }
         Work::Place { space } => reply_to_place(alloc, names, model, scenario, plan, space),
-        Work::Unbuilt => unreachable!(),
+        Work::Static { over } => reply_to_static(alloc, names, model, scenario, plan, over),
+        Work::Sweep { .. } => unreachable!(),
     }
 }

@@ -1,5 +1,5 @@
 //! What is answered of a model.
-ghost use Rattle.std.specs.Prelude.{◌≡◌, ◌<◌, ◌^◌, ◌-◌, List, [], ◌∷◌, nat_eq, IfOk, IfErr, MatchBool, string_bytes};
+ghost use Rattle.std.specs.Prelude.{◌≡◌, ◌<◌, ◌^◌, ◌-◌, List, [], ◌∷◌, nat_eq, IfOk, IfErr, string_bytes};
 ghost use Rattle.std.specs.List.{count_by};
 ghost use Rattle.pst_target.specs.declared.call.Call.{Call as Answered};
 ghost use Rattle.pst_model.specs.ModelView.{view_model};
@@ -8,29 +8,18 @@ ghost use Rattle.pst_built.specs.Laws.{IsConcreteRoot};
 ghost use Rattle.pst_body.specs.Doing.{with_calls};
 ghost use Rattle.pst_outcome.specs.Texts as Texts;
 ghost use Rattle.pst_run_alone.specs.Lanes.{lane as lane_of};
-ghost use Rattle.pst_outcome.specs.Tasks.{FitsLanes};
-ghost use Rattle.pst_outcome.specs.Models.{IsSought, OfModel};
+ghost use Rattle.pst_outcome.specs.Tasks.{FitsLanes, IsSweep};
+ghost use Rattle.pst_outcome.specs.Models.{OfModel};
 ghost use Rattle.pst_model_answers.specs.Replies.{Says, SaysEnd};
 
 use crate::found::reply_to_found;
 use pst_base::{Names, NoMemory};
 use pst_built::whole_readings_are_built;
 use pst_model::Model;
-use pst_outcome::{Answer, Reply, Task, Work};
+use pst_outcome::{Answer, Reply, Task};
 use pst_search::{SearchEnd, search};
 use pst_target::Target;
 use std::alloc::Global;
-
-// Whether something is done with the first legal scenario.
-fn is_sought(work: Work) -> bool
-    ensures { MatchBool result (IsSought work) (work ≡ Work.Unbuilt) }
-{
-    match work {
-        Work::Run { .. } | Work::Solve | Work::Check | Work::Generate { .. } => true,
-        Work::Place { .. } => true,
-        Work::Unbuilt => false,
-    }
-}
 
 // The reply where no scenario with so few inferred actions is legal.
 fn no_scenario(alloc: Global, infer: u32) -> Result<Reply, NoMemory>
@@ -54,17 +43,6 @@ fn spent(alloc: Global, level: u32) -> Result<Reply, NoMemory>
     })
 }
 
-// The reply where nothing is sought yet.
-fn unbuilt(alloc: Global) -> Result<Reply, NoMemory>
-    ensures { IfOk result (Says Answer.Unbuilt Texts.unbuilt_text) }
-{
-    let text = String::from_str(alloc, "unbuilt\n")?;
-    Ok(Reply {
-        answer: Answer::Unbuilt,
-        text,
-    })
-}
-
 /// The reply where the search gave no scenario with so few inferred actions.
 pub fn reply_to_search_end(alloc: Global, infer: u32, end: SearchEnd) -> Result<Reply, NoMemory>
     ensures { IfOk result (SaysEnd infer end) }
@@ -78,11 +56,11 @@ pub fn reply_to_search_end(alloc: Global, infer: u32, end: SearchEnd) -> Result<
 
 /// What is answered of the model of sources, and the text that is to be written for it: its first legal
 /// scenario is sought and run on the lane, a generated model's too, its header is printed, a trace is
-/// judged against it, or what its actions ask for is placed.
+/// judged against it, what its actions ask for is placed, or lanes get programs for it.
 ///
 /// The model is sound, the root is an action type that isn't abstract, the trace has fewer than
-/// 2^32 - 2 line feeds, and no more than one lane is asked for. The lane is called by runs alone. Where memory runs out, the calls made stay in
-/// the lane's list.
+/// 2^32 - 2 line feeds, no more than one lane is asked for, and no sweep. The lane is called by runs
+/// alone. Where memory runs out, the calls made stay in the lane's list.
 pub fn answer_model<T: Target>(
     alloc: Global,
     names: &Names,
@@ -96,13 +74,11 @@ pub fn answer_model<T: Target>(
     requires concrete { IsConcreteRoot (view_model model.now) root }
     requires few { count_by (nat_eq 10) trace.now < 2 ^ 32 - 2 }
     requires alone { FitsLanes 1 task.work }
+    requires unswept { IsSweep task.work → ⊥ }
     ensures owed { IfOk result (λ reply. OfModel names.now (view_model model.now) root task trace.now (lane_of (T.calls lane.old) (T.calls lane.new) (T.faults lane.old) (T.faults lane.new) ∷ []) reply.answer (string_bytes reply.text)) }
     ensures memory { IfErr result (λ e. (made : List Answered) × (T.calls lane.new ≡ with_calls (T.calls lane.old) made)) }
 {
     whole_readings_are_built();
-    if !is_sought(task.work) {
-        return unbuilt(alloc);
-    }
     match search(alloc, model, root, task.seed, task.infer, task.budget) {
         Ok((scenario, plan)) => reply_to_found(
             alloc, names, model, &scenario, &plan, task.work, trace, lane,

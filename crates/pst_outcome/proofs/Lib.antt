@@ -7,5 +7,6 @@ pub mod OneFront
 pub mod OneStop
 mod OneCounts
 mod OneRuns
+mod OneSweep
 mod OneModel
 mod OneAnswer

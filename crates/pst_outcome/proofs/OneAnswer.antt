@@ -14,6 +14,8 @@ use Rattle.pst_order.specs.Laws.{CoreIsOne}
 use Rattle.pst_legal.specs.Laws.{FirstIsOne, BodiesEndOnce}
 use Rattle.pst_scenario_answers.specs.Checked.{ChecksAreOne}
 use Rattle.pst_place_answers.specs.Shown.{PlaceAnswersAreOne}
+use Rattle.pst_static_answers.specs.Shown.{StaticAnswersAreOne}
+use Rattle.pst_sweep_table.specs.Laws.{RowsAreOne}
 use Rattle.pst_run_alone.specs.Lanes.{Lane}
 use Rattle.pst_run_alone.specs.Shown.{RunsAreOne, TracesAreOne}
 use Rattle.pst_words.specs.declared.command.Command.{Command}
@@ -84,8 +86,9 @@ module _ (sources : SourceLaws) (models : ModelLaws) (lines : Lines) (have : ℕ
       → AgreeOnModel names m lanes task.work a b s t → Agree lines have words lanes a b s t
   agree command arguments names m task a b s t line asks (inl same) = inl same
   agree command arguments names m task a b s t line asks (inr (inl spent)) = inr (inl spent)
-  agree command arguments names m task a b s t line asks (inr (inr (scenario, count, on, several, runs))) =
-      inr (inr (record {
+  agree command arguments names m task a b s t line asks (inr (inr (inr sweep))) = inr (inr (inr sweep))
+  agree command arguments names m task a b s t line asks (inr (inr (inl (scenario, count, on, several, runs)))) =
+      inr (inr (inl (record {
         command = command;
         arguments = arguments;
         line = line;
@@ -96,7 +99,7 @@ module _ (sources : SourceLaws) (models : ModelLaws) (lines : Lines) (have : ℕ
         model = m;
         scenario = scenario;
         runs = runs;
-      }))
+      })))
 
   of_served : (command : Command) (arguments : List (List ℕ)) (a b : Answer) (s t : List ℕ) (trace other : Option (List ℕ)) (names others : List (List ℕ)) (m n : ModelTree) (root number : ℕ) (task ask : Task)
       → IsLine lines have words command arguments
@@ -149,10 +152,10 @@ module _ (sources : SourceLaws) (models : ModelLaws) (lines : Lines) (have : ℕ
   two_answers _ _ _ _ (Right c xs a s line h) (Right d ys b t other k) = two_lines c d xs ys a b s t line other h k
 
 -- words have one answer and one text, but for the budget
-pub one_answer : EachTextHasOneReading → EachTextHasOneOutcome → TokensOfTextsAreOne → AtMostOneTree TheUnit → AnswersAgree → FirstBreachesAreOne → AnswersAreApart → FirstIsOne → RunsAreOne → TracesAreOne → ChecksAreOne → BodiesEndOnce → CoreIsOne → PlaceAnswersAreOne
+pub one_answer : EachTextHasOneReading → EachTextHasOneOutcome → TokensOfTextsAreOne → AtMostOneTree TheUnit → AnswersAgree → FirstBreachesAreOne → AnswersAreApart → FirstIsOne → RunsAreOne → TracesAreOne → ChecksAreOne → BodiesEndOnce → CoreIsOne → PlaceAnswersAreOne → StaticAnswersAreOne → RowsAreOne
     → AnswersAreOne
-one_answer readings outcomes texts trees agree breaches apart firsts runs traces checks bodies cores places lines have words files faults lanes a b s t below told h k =
-    two_answers (record { readings = readings; outcomes = outcomes; texts = texts; trees = trees; agree = agree; breaches = breaches; apart = apart }) (record { first = firsts; runs = runs; traces = traces; checks = checks; bodies = bodies; cores = cores; places = places })
+one_answer readings outcomes texts trees agree breaches apart firsts runs traces checks bodies cores places statics rows lines have words files faults lanes a b s t below told h k =
+    two_answers (record { readings = readings; outcomes = outcomes; texts = texts; trees = trees; agree = agree; breaches = breaches; apart = apart }) (record { first = firsts; runs = runs; traces = traces; checks = checks; bodies = bodies; cores = cores; places = places; statics = statics; rows = rows })
     lines have words files faults lanes told a b s t
     (of_words lines have words files faults lanes a s below h)
     (of_words lines have words files faults lanes b t below k)

@@ -16,6 +16,11 @@ use Rattle.pst_trace_texts.specs.declared.last.Last.TheVariants as last
 use Rattle.pst_trace_texts.specs.Texts.{trace_text}
 use Rattle.pst_scenario_answers.specs.Checked.{ChecksAreOne, answer_text}
 use Rattle.pst_place_answers.specs.Shown.{PlaceAnswersAreOne}
+use Rattle.pst_static_answers.specs.Shown.{StaticAnswersAreOne}
+use Rattle.pst_sweep_table.specs.declared.row.SweepRow.{SweepRow}
+use Rattle.pst_sweep_table.specs.Laws.{RowsAreOne}
+use Rattle.pst_sweep_table.specs.Rows.{IsTable}
+use Rattle.pst_sweep_answers.specs.Shown.{ShowsSweep}
 use Rattle.pst_run_alone.specs.declared.answer.RunAnswer.{RunAnswer}
 use Rattle.pst_run_alone.specs.declared.answer.RunAnswer.TheVariants as ran
 use Rattle.pst_run_alone.specs.Lanes.{Lane}
@@ -24,14 +29,16 @@ use Rattle.pst_run_alone.specs.Shown as shown
 use Rattle.pst_run_alone.proofs.OneAnswer.{groups_same}
 use Rattle.pst_generated.specs.Generated.{counts_text}
 use Rattle.pst_outcome.specs.declared.answer.Answer.{Answer}
+use Rattle.pst_outcome.specs.declared.answer.Answer.TheVariants.{Swept}
 use Rattle.pst_outcome.specs.declared.task.Task.{Task}
 use Rattle.pst_outcome.specs.declared.task.Work.{Work}
 use Rattle.pst_outcome.specs.declared.task.Work.TheVariants as work
 use Rattle.pst_outcome.specs.SharedRuns.{Break, HaveStopped, answer_of_break, last_of_break, ShowsSharedRun, IsTooWide, EndsWhole, EndsEarly}
-use Rattle.pst_outcome.specs.Models.{answer_of_run, answer_of_check, answer_of_places, count_ended, ShowsCounts, HasEnded, EndsElse, ShowsSharedCounts, HaveEnded, EndElse, OfScenario, IsRun, IsSharedRun, IsGenerated, IsSharedGenerated, IsSolved, IsJudged, IsPlacing, IsSought, OfModel, HasNone, IsSpent, IsFound, IsUnbuilt}
-use Rattle.pst_outcome.specs.Laws.{IsSpentBudget, Telling, Whole, Counts, Stop, TellsRun, TellTwoRuns, IsTold}
+use Rattle.pst_outcome.specs.Models.{answer_of_run, answer_of_check, answer_of_places, answer_of_programs, count_ended, ShowsCounts, HasEnded, EndsElse, ShowsSharedCounts, HaveEnded, EndElse, OfScenario, IsRun, IsSharedRun, IsGenerated, IsSharedGenerated, IsSolved, IsJudged, IsPlacing, IsProgrammed, IsSought, OfModel, HasNone, IsSpent, IsFound, IsSwept}
+use Rattle.pst_outcome.specs.Laws.{IsSpentBudget, Telling, Whole, Counts, Stop, TellsRun, TellTwoRuns, AreOfOneSweep, IsTold}
 use Rattle.pst_outcome.proofs.OneTask.{IsOnLanes}
 use Rattle.pst_outcome.proofs.OneRuns.{IsOf, two_tellings}
+use Rattle.pst_outcome.proofs.OneSweep.{two_sweeps}
 
 -- the laws that tell what a model is answered
 pub record ModelLaws : Type 0 where
@@ -42,15 +49,17 @@ pub record ModelLaws : Type 0 where
   pub bodies : BodiesEndOnce
   pub cores : CoreIsOne
   pub places : PlaceAnswersAreOne
+  pub statics : StaticAnswersAreOne
+  pub rows : RowsAreOne
 
 -- one answer with one text, or runs of the scenario on several lanes that may differ
 abbrev pub AreAlike : List (List ℕ) → ModelTree → List Lane → Scenario → Work → Answer → Answer → List ℕ → List ℕ → Type 0
 AreAlike names m lanes s w a b t u = ((a ≡ b) × (t ≡ u)) ⊎ ((count : ℕ) × IsOnLanes count w × (1 < count) × TellTwoRuns names m s count lanes a b t u)
 
--- the same of a model, or a spent budget
+-- the same of a model, or a spent budget, or rows of a sweep of which one is
 abbrev pub AgreeOnModel : List (List ℕ) → ModelTree → List Lane → Work → Answer → Answer → List ℕ → List ℕ → Type 0
 AgreeOnModel names m lanes w a b t u =
-    ((a ≡ b) × (t ≡ u)) ⊎ ((IsSpentBudget a ⊎ IsSpentBudget b) ⊎ ((s : Scenario) × (count : ℕ) × IsOnLanes count w × (1 < count) × TellTwoRuns names m s count lanes a b t u))
+    ((a ≡ b) × (t ≡ u)) ⊎ ((IsSpentBudget a ⊎ IsSpentBudget b) ⊎ (((s : Scenario) × (count : ℕ) × IsOnLanes count w × (1 < count) × TellTwoRuns names m s count lanes a b t u) ⊎ AreOfOneSweep a b t u))
 
 head_same : {X : Type 0} {x y : X} {xs ys : List X} → x ∷ xs ≡ y ∷ ys → x ≡ y
 head_same e = cc
@@ -170,6 +179,7 @@ module _ (laws : ModelLaws) (names : List (List ℕ)) (m : ModelTree) (lanes : L
     of_scenario trace _ _ _ _ _ (IsSolved _) (IsSolved _) = inl (refl, refl)
     of_scenario trace _ _ _ _ _ (IsJudged u _ h) (IsJudged v _ k) = let same = laws.checks names m s trace u v h k in inl (ap answer_of_check same, ap answer_text same)
     of_scenario trace _ _ _ _ _ (IsPlacing space u t _ h) (IsPlacing _ v r _ k) = let same = laws.places names m s p q space u v t r first second h k in inl (ap answer_of_places same.0, same.1)
+    of_scenario trace _ _ _ _ _ (IsProgrammed over u t _ h) (IsProgrammed _ v r _ k) = let same = laws.statics names m s p q over u v t r first second h k in inl (ap answer_of_programs same.0, same.1)
 
   -- ---- models
 
@@ -181,9 +191,29 @@ module _ (laws : ModelLaws) (names : List (List ℕ)) (m : ModelTree) (lanes : L
   sought_by s plan trace _ _ _ (IsSolved calm) = tt
   sought_by s plan trace _ _ _ (IsJudged u calm h) = tt
   sought_by s plan trace _ _ _ (IsPlacing space u t calm h) = tt
+  sought_by s plan trace _ _ _ (IsProgrammed over u t calm h) = tt
 
-  not_sought : (w : Work) → w ≡ work.Unbuilt → IsSought w → ⊥
-  not_sought w unbuilt sought = subst IsSought unbuilt sought
+  not_swept : (w : Work) (first count : ℕ) → w ≡ work.Sweep first count → IsSought w → ⊥
+  not_swept w first count swept sought = subst IsSought swept sought
+
+  same_first : (first count other many : ℕ) → work.Sweep first count ≡ work.Sweep other many → other ≡ first
+  same_first first count other many e = cc
+
+  same_count : (first count other many : ℕ) → work.Sweep first count ≡ work.Sweep other many → many ≡ count
+  same_count first count other many e = cc
+
+  of_sweeps : (root : ℕ) (task : Task) (first count other many found others_found : ℕ) (rows others : List SweepRow) (t u : List ℕ) → task.work ≡ work.Sweep first count → task.work ≡ work.Sweep other many
+      → IsTable m root task.infer task.budget first count rows → IsTable m root task.infer task.budget other many others → ShowsSweep names m rows found t → ShowsSweep names m others others_found u
+      → AgreeOnModel names m lanes task.work (Swept found) (Swept others_found) t u
+  of_sweeps root task first count other many found others_found rows others t u is too h k shown shows =
+      let e : work.Sweep first count ≡ work.Sweep other many = sym is ∙ too in
+      by (two_sweeps laws.rows names m root task.infer task.budget first count found others_found rows others t u h
+      (subst (λ (n : ℕ). IsTable m root task.infer task.budget n count others) (same_first first count other many e)
+      (subst (λ (n : ℕ). IsTable m root task.infer task.budget other n others) (same_count first count other many e) k)) shown shows)
+    where
+      by : ((Swept found ≡ Swept others_found) × (t ≡ u)) ⊎ AreOfOneSweep (Swept found) (Swept others_found) t u → AgreeOnModel names m lanes task.work (Swept found) (Swept others_found) t u
+      by (inl same) = inl same
+      by (inr sweep) = inr (inr (inr sweep))
 
   of_found : (root : ℕ) (task : Task) (trace : List ℕ) (s r : Scenario) (p q : Entries) (a b : Answer) (x y : List ℕ) → r ≡ s → IsPlanOf s p → IsPlanOf r q
       → OfScenario names m s p trace lanes task.work a x → OfScenario names m r q trace lanes task.work b y → AreAlike names m lanes s task.work a b x y
@@ -193,21 +223,22 @@ module _ (laws : ModelLaws) (names : List (List ℕ)) (m : ModelTree) (lanes : L
 
   agree : (s : Scenario) (w : Work) (a b : Answer) (x y : List ℕ) → AreAlike names m lanes s w a b x y → AgreeOnModel names m lanes w a b x y
   agree s w a b x y (inl same) = inl same
-  agree s w a b x y (inr (count, on, several, runs)) = inr (inr (s, count, on, several, runs))
+  agree s w a b x y (inr (count, on, several, runs)) = inr (inr (inl (s, count, on, several, runs)))
 
   pub of_model : (root : ℕ) (task : Task) (trace : List ℕ) (a b : Answer) (x y : List ℕ)
       → OfModel names m root task trace lanes a x → OfModel names m root task trace lanes b y → AgreeOnModel names m lanes task.work a b x y
   of_model root task trace _ _ _ _ (HasNone sought _ none) (HasNone _ _ other) = inl (refl, refl)
   of_model root task trace _ _ _ _ (HasNone sought _ none) (IsSpent level _ _ few spent) = inr (inl (inr tt))
   of_model root task trace _ _ _ _ (HasNone sought _ none) (IsFound s p b y first plan k) = absurd (none s first.few first.reads.legal)
-  of_model root task trace _ _ _ _ (HasNone sought _ none) (IsUnbuilt unbuilt _) = absurd (not_sought task.work unbuilt sought)
+  of_model root task trace _ _ _ _ (HasNone sought _ none) (IsSwept first count rows found y is _ _ _) = absurd (not_swept task.work first count is sought)
   of_model root task trace _ _ _ _ (IsSpent level _ _ few spent) other = inr (inl (inl tt))
   of_model root task trace _ _ _ _ (IsFound s p a x first plan h) (HasNone sought _ none) = absurd (none s first.few first.reads.legal)
   of_model root task trace _ _ _ _ (IsFound s p a x first plan h) (IsSpent level _ _ few spent) = inr (inl (inr tt))
   of_model root task trace _ _ _ _ (IsFound s p a x first plan h) (IsFound r q b y other planned k) =
       agree s task.work a b x y (of_found root task trace s r p q a b x y (laws.first m root task.seed task.infer r s other first) plan planned h k)
-  of_model root task trace _ _ _ _ (IsFound s p a x first plan h) (IsUnbuilt unbuilt _) = absurd (not_sought task.work unbuilt (sought_by s p trace task.work a x h))
-  of_model root task trace _ _ _ _ (IsUnbuilt unbuilt _) (HasNone sought _ none) = absurd (not_sought task.work unbuilt sought)
-  of_model root task trace _ _ _ _ (IsUnbuilt unbuilt _) (IsSpent level _ _ few spent) = inr (inl (inr tt))
-  of_model root task trace _ _ _ _ (IsUnbuilt unbuilt _) (IsFound s p b y first plan k) = absurd (not_sought task.work unbuilt (sought_by s p trace task.work b y k))
-  of_model root task trace _ _ _ _ (IsUnbuilt unbuilt _) (IsUnbuilt _ _) = inl (refl, refl)
+  of_model root task trace _ _ _ _ (IsFound s p a x first plan h) (IsSwept start count rows found y is _ _ _) = absurd (not_swept task.work start count is (sought_by s p trace task.work a x h))
+  of_model root task trace _ _ _ _ (IsSwept first count rows found x is _ _ _) (HasNone sought _ none) = absurd (not_swept task.work first count is sought)
+  of_model root task trace _ _ _ _ (IsSwept first count rows found x is _ _ _) (IsSpent level _ _ few spent) = inr (inl (inr tt))
+  of_model root task trace _ _ _ _ (IsSwept start count rows found x is _ _ _) (IsFound s p b y first plan k) = absurd (not_swept task.work start count is (sought_by s p trace task.work b y k))
+  of_model root task trace _ _ _ _ (IsSwept first count rows found x is _ h shown) (IsSwept other many others others_found y too _ k shows) =
+      of_sweeps root task first count other many found others_found rows others x y is too h k shown shows

@@ -1,22 +1,24 @@
 -- The words of a line ask for one thing.
 use Rattle.std.proofs.Common.{◌≡◌, ◌∙◌, ℕ, ◌+◌, ◌*◌, ◌^◌, ◌<◌, ◌≤◌, ◌⊎◌, inl, inr, Bool, true, false, List, [], ◌∷◌, ◌++◌, length, drop, decimal, nat_lt, cond, refl, ap, sym, subst, arith}
-use Rattle.std.specs.Prelude.{All, Some, None}
+use Rattle.std.specs.Prelude.{All, Some, None, IsTrue}
 use Rattle.std.proofs.lemmas.Bool.{ltb-true, ltb-false}
 use Rattle.std.proofs.lemmas.List.{append_cancel_left}
 use Rattle.std.proofs.lemmas.List.Elements.{All-head, All-tail}
 use Rattle.pst_generated.specs.Generated.{generated_text}
 use Rattle.pst_words.specs.declared.command.Command.{Command}
 use Rattle.pst_words.specs.declared.command.Command.TheVariants.{Run, Solve, Check, Gen, Static, Place, Sweep}
+use Rattle.pst_words.specs.declared.command.Lines.{Lines}
+use Rattle.pst_words.specs.declared.command.Lines.TheVariants as lines
 use Rattle.pst_words.specs.declared.key.Key.{Key}
-use Rattle.pst_words.specs.declared.key.Key.TheVariants.{Seed, Infer, Budget, Lanes, Size, Space, Base}
-use Rattle.pst_words.specs.Table.{key_start, IsValue}
-use Rattle.pst_words.specs.Lines.{IsArgument, AKey, AFile, is_of, given}
+use Rattle.pst_words.specs.declared.key.Key.TheVariants.{Seed, Infer, Budget, Lanes, Size, Over, Space, Base, First, Count}
+use Rattle.pst_words.specs.Table.{is_served, key_start, IsValue}
+use Rattle.pst_words.specs.Lines.{IsArgument, AKey, AFile, is_of, given, AreSeeds}
 use Rattle.pst_words.proofs.Keys.{word_is, is_word_of, one_key, key_no_file}
 use Rattle.pst_words.proofs.Given.{given_here, given_later}
 use Rattle.pst_outcome.specs.declared.task.Task.{Task}
 use Rattle.pst_outcome.specs.declared.task.Work.{Work}
 use Rattle.pst_outcome.specs.declared.task.Work.TheVariants as work
-use Rattle.pst_outcome.specs.Tasks.{IsNumberGiven, AreSources, IsWork, FitsLanes, AreLimits, IsTask}
+use Rattle.pst_outcome.specs.Tasks.{IsNumberGiven, AreSources, IsWork, FitsLanes, IsSweep, IsAskedBy, AreLimits, IsTask}
 
 -- ---- numbers
 
@@ -67,6 +69,9 @@ infers have text is = let high = is.high in (is.number, omega (arith, high), is.
 budgets : (have : ℕ) → IsNumberKey have Budget
 budgets have text is = let high = is.high in (is.number, omega (arith, high), is.spelled)
 
+overs : (have : ℕ) → IsNumberKey have Over
+overs have text is = let high = is.high in (is.number, omega (arith, high), is.spelled)
+
 few_lanes : (b : Bool) (have n : ℕ) → nat_lt have 16 ≡ b → n ≤ cond b have 16 → n < 2 ^ 64
 few_lanes true have n is high = let few : have < 16 = ltb-true have 16 is in omega (arith, few, high)
 few_lanes false have n is high = omega (arith, high)
@@ -82,6 +87,12 @@ spaces have text is = let high = is.high in (is.number, omega (arith, high), is.
 
 bases : (have : ℕ) → IsNumberKey have Base
 bases have text is = let high = is.high in (is.number, omega (arith, high), is.spelled)
+
+firsts : (have : ℕ) → IsNumberKey have First
+firsts have text is = let high = is.high in (is.number, omega (arith, high), is.spelled)
+
+counts : (have : ℕ) → IsNumberKey have Count
+counts have text is = let high = is.high in (is.number, omega (arith, high), is.spelled)
 
 -- the key is given no value, or a number that fits 64 bits
 cases : (command : Command) (have : ℕ) (key : Key) (words : List (List ℕ)) → IsNumberKey have key → All (IsArgument command have) words
@@ -119,10 +130,23 @@ one_place have arguments a b each h k =
     let size : h.1 ≡ k.1 = one_number Place have arguments each Space 0 h.1 k.1 (spaces have) h.3 k.3 in
     h.4 ∙ ap (λ (n : ℕ). work.Place (record { base = h.0; size = n })) size ∙ ap (λ (n : ℕ). work.Place (record { base = n; size = k.1 })) base ∙ sym k.4
 
+one_sweep : (have : ℕ) (arguments : List (List ℕ)) (a b : Work) → All (IsArgument Sweep have) arguments → IsWork Sweep arguments a → IsWork Sweep arguments b → a ≡ b
+one_sweep have arguments a b each h k =
+    let first : h.0 ≡ k.0 = one_number Sweep have arguments each First 1 h.0 k.0 (firsts have) h.2 k.2 in
+    let count : h.1 ≡ k.1 = one_number Sweep have arguments each Count 0 h.1 k.1 (counts have) h.3 k.3 in
+    h.4 ∙ ap (λ (n : ℕ). work.Sweep h.0 n) count ∙ ap (λ (n : ℕ). work.Sweep n k.1) first ∙ sym k.4
+
+one_static : (have : ℕ) (arguments : List (List ℕ)) (a b : Work) → All (IsArgument Static have) arguments → IsWork Static arguments a → IsWork Static arguments b → a ≡ b
+one_static have arguments a b each h k =
+    let same : h.0 ≡ k.0 = one_number Static have arguments each Over 1 h.0 k.0 (overs have) h.1 k.1 in
+    h.2 ∙ ap (λ (n : ℕ). work.Static n) same ∙ sym k.2
+
 one_work : (command : Command) (have : ℕ) (arguments : List (List ℕ)) (a b : Work) → All (IsArgument command have) arguments → IsWork command arguments a → IsWork command arguments b → a ≡ b
 one_work Run have arguments a b each h k = one_run have arguments a b each h k
 one_work Gen have arguments a b each h k = one_generation have arguments a b each h k
+one_work Static have arguments a b each h k = one_static have arguments a b each h k
 one_work Place have arguments a b each h k = one_place have arguments a b each h k
+one_work Sweep have arguments a b each h k = one_sweep have arguments a b each h k
 one_work command have arguments a b each h k = h ∙ sym k
 
 one_limits : (command : Command) (have : ℕ) (arguments : List (List ℕ)) (i j b c : ℕ) → All (IsArgument command have) arguments → AreLimits command arguments i b → AreLimits command arguments j c → (i ≡ j) × (b ≡ c)
@@ -162,6 +186,23 @@ few_given command have n arguments some few each is = by (value_cases command ha
     by (inr (text, given_is, (k, low, high, small, spells))) =
         let same = is.is_given k small (given_is ∙ ap Some spells) in (omega (arith, same, low), omega (arith, same, high))
 
+-- ---- programs
+
+abbrev SpellsOver : List ℕ → Type 0
+SpellsOver text = (k : ℕ) × (1 ≤ k) × (k ≤ 16) × (k < 2 ^ 64) × (text ≡ decimal k)
+
+few_overs : (have : ℕ) → EachValue have Over SpellsOver
+few_overs have text v = let high = v.high in (v.number, v.low, high, omega (arith, high), v.spelled)
+
+-- the number of lanes that a line gives for programs is 1 to 16
+over_given : (have n : ℕ) (arguments : List (List ℕ)) → All (IsArgument Static have) arguments → IsNumberGiven Over arguments 1 n → (1 ≤ n) × (n ≤ 16)
+over_given have n arguments each is = by (value_cases Static have Over arguments SpellsOver (few_overs have) each)
+  where
+    by : (given Over arguments ≡ None) ⊎ ((text : List ℕ) × (given Over arguments ≡ Some text) × SpellsOver text) → (1 ≤ n) × (n ≤ 16)
+    by (inl none) = let one = is.is_not none in (omega (arith, one), omega (arith, one))
+    by (inr (text, given_is, (k, low, high, small, spells))) =
+        let same = is.is_given k small (given_is ∙ ap Some spells) in (omega (arith, same, low), omega (arith, same, high))
+
 -- ---- spaces
 
 abbrev SpellsPart : List ℕ → Type 0
@@ -187,15 +228,60 @@ space_fits have arguments base size each base_is size_is =
     let many = part_given Place have size Space arguments (space_parts have) each size_is in
     omega (arith, low, many)
 
--- where so many lanes are there, and at most 16, the lanes of a line's task are there; and its space ends within 2^63
-pub work_fits : (command : Command) (have : ℕ) (arguments : List (List ℕ)) (w : Work) → 0 < have → have ≤ 16 → All (IsArgument command have) arguments → IsWork command arguments w → FitsLanes have w
-work_fits Run have arguments w some few each h = subst (FitsLanes have) (sym h.2) (few_given Run have h.0 arguments some few each h.1)
-work_fits Gen have arguments w some few each h = subst (FitsLanes have) (sym h.4) (few_given Gen have h.1 arguments some few each h.3)
-work_fits Solve have arguments w some few each h = subst (FitsLanes have) (sym h) tt
-work_fits Check have arguments w some few each h = subst (FitsLanes have) (sym h) tt
-work_fits Static have arguments w some few each h = subst (FitsLanes have) (sym h) tt
-work_fits Place have arguments w some few each h = subst (FitsLanes have) (sym h.4) (space_fits have arguments h.0 h.1 each h.2 h.3)
-work_fits Sweep have arguments w some few each h = subst (FitsLanes have) (sym h) tt
+-- ---- seeds
+
+abbrev SpellsCount : List ℕ → Type 0
+SpellsCount text = (k : ℕ) × (k ≤ 4096) × (k < 2 ^ 64) × (text ≡ decimal k)
+
+few_seeds : (have : ℕ) → EachValue have Count SpellsCount
+few_seeds have text v = let high = v.high in (v.number, high, omega (arith, high), v.spelled)
+
+-- the seeds of a sweep end within 2^64
+sweep_fits : (have : ℕ) (arguments : List (List ℕ)) (first count : ℕ) → All (IsArgument Sweep have) arguments → AreSeeds arguments → IsNumberGiven First arguments 1 first → IsNumberGiven Count arguments 0 count
+    → first + count ≤ 2 ^ 64
+sweep_fits have arguments first count each seeds first_is count_is = by (cases Sweep have First arguments (firsts have) each) (value_cases Sweep have Count arguments SpellsCount (few_seeds have) each)
+  where
+    by : (given First arguments ≡ None) ⊎ ((k : ℕ) × (k < 2 ^ 64) × (given First arguments ≡ Some (decimal k))) → (given Count arguments ≡ None) ⊎ ((text : List ℕ) × (given Count arguments ≡ Some text) × SpellsCount text)
+        → first + count ≤ 2 ^ 64
+    by (inl none) (inl missing) = let one = first_is.is_not none in let zero = count_is.is_not missing in omega (arith, one, zero)
+    by (inl none) (inr (text, given_is, (n, low, small, spells))) =
+        let one = first_is.is_not none in let same = count_is.is_given n small (given_is ∙ ap Some spells) in omega (arith, one, same, low)
+    by (inr (k, below, some)) (inl missing) = let same = first_is.is_given k below some in let zero = count_is.is_not missing in omega (arith, same, zero, below)
+    by (inr (k, below, some)) (inr (text, given_is, (n, low, small, spells))) =
+        let same = first_is.is_given k below some in
+        let too = count_is.is_given n small (given_is ∙ ap Some spells) in
+        let within = seeds k n below small some (given_is ∙ ap Some spells) in omega (arith, same, too, within)
+
+-- Where so many lanes are there, and at most 16, the lanes of a line's task are there; its programs are for 1 to 16 lanes, its space ends within 2^63,
+-- and the seeds of its sweep within 2^64.
+pub work_fits : (command : Command) (have : ℕ) (arguments : List (List ℕ)) (w : Work) → 0 < have → have ≤ 16 → All (IsArgument command have) arguments → AreSeeds arguments → IsWork command arguments w → FitsLanes have w
+work_fits Run have arguments w some few each seeds h = subst (FitsLanes have) (sym h.2) (few_given Run have h.0 arguments some few each h.1)
+work_fits Gen have arguments w some few each seeds h = subst (FitsLanes have) (sym h.4) (few_given Gen have h.1 arguments some few each h.3)
+work_fits Solve have arguments w some few each seeds h = subst (FitsLanes have) (sym h) tt
+work_fits Check have arguments w some few each seeds h = subst (FitsLanes have) (sym h) tt
+work_fits Static have arguments w some few each seeds h = subst (FitsLanes have) (sym h.2) (over_given have h.0 arguments each h.1)
+work_fits Place have arguments w some few each seeds h = subst (FitsLanes have) (sym h.4) (space_fits have arguments h.0 h.1 each h.2 h.3)
+work_fits Sweep have arguments w some few each seeds h = subst (FitsLanes have) (sym h.4) (sweep_fits have arguments h.0 h.1 each seeds h.2 h.3)
+
+-- ---- sweeps
+
+-- what a line asks for, one of these commands may ask for
+pub work_asked : (served : Lines) (command : Command) (arguments : List (List ℕ)) (w : Work) → IsTrue (is_served served command) → IsWork command arguments w → IsAskedBy served w
+work_asked lines.All command arguments w is h = tt
+work_asked lines.WithoutSweep Run arguments w is h = λ sweep. subst IsSweep h.2 sweep
+work_asked lines.WithoutSweep Solve arguments w is h = λ sweep. subst IsSweep h sweep
+work_asked lines.WithoutSweep Check arguments w is h = λ sweep. subst IsSweep h sweep
+work_asked lines.WithoutSweep Gen arguments w is h = λ sweep. subst IsSweep h.4 sweep
+work_asked lines.WithoutSweep Static arguments w is h = λ sweep. subst IsSweep h.2 sweep
+work_asked lines.WithoutSweep Place arguments w is h = λ sweep. subst IsSweep h.4 sweep
+work_asked lines.WithoutSweep Sweep arguments w is h = let both : false ≡ true = is in absurd cc
+work_asked lines.SweepAlone Run arguments w is h = let both : false ≡ true = is in absurd cc
+work_asked lines.SweepAlone Solve arguments w is h = let both : false ≡ true = is in absurd cc
+work_asked lines.SweepAlone Check arguments w is h = let both : false ≡ true = is in absurd cc
+work_asked lines.SweepAlone Gen arguments w is h = let both : false ≡ true = is in absurd cc
+work_asked lines.SweepAlone Static arguments w is h = let both : false ≡ true = is in absurd cc
+work_asked lines.SweepAlone Place arguments w is h = let both : false ≡ true = is in absurd cc
+work_asked lines.SweepAlone Sweep arguments w is h = subst IsSweep (sym h.4) tt
 
 -- ---- several lanes
 
@@ -211,9 +297,9 @@ lanes_given Run arguments w count h on = subst (λ (n : ℕ). IsNumberGiven Lane
 lanes_given Gen arguments w count h on = subst (λ (n : ℕ). IsNumberGiven Lanes arguments 1 n) (subst (IsOnLanes count) h.4 on) h.3
 lanes_given Solve arguments w count h on = absurd (subst (IsOnLanes count) h on)
 lanes_given Check arguments w count h on = absurd (subst (IsOnLanes count) h on)
-lanes_given Static arguments w count h on = absurd (subst (IsOnLanes count) h on)
+lanes_given Static arguments w count h on = absurd (subst (IsOnLanes count) h.2 on)
 lanes_given Place arguments w count h on = absurd (subst (IsOnLanes count) h.4 on)
-lanes_given Sweep arguments w count h on = absurd (subst (IsOnLanes count) h on)
+lanes_given Sweep arguments w count h on = absurd (subst (IsOnLanes count) h.4 on)
 
 -- ---- sources
 

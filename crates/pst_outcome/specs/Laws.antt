@@ -1,5 +1,6 @@
 -- The law of answers.
-use Rattle.std.specs.Prelude.{◌≡◌, ◌⊎◌, ℕ, ◌<◌, ℤ, List, [], length, get_or, codes, All, Some}
+use Rattle.std.specs.Prelude.{◌≡◌, ◌⊎◌, ℕ, ◌<◌, ℤ, List, [], ◌∷◌, length, get_or, codes, All, Some}
+use Rattle.std.specs.List.{AllZip}
 use Rattle.pst_base.specs.Fault.{last_count}
 use Rattle.pst_io.specs.Shelf.{Files}
 use Rattle.pst_target.specs.declared.call.Call.{Call as Answered}
@@ -12,12 +13,15 @@ use Rattle.pst_trace_texts.specs.declared.last.Last.TheVariants as last
 use Rattle.pst_trace_texts.specs.Texts.{trace_text}
 use Rattle.pst_run_alone.specs.Lanes.{Lane}
 use Rattle.pst_generated.specs.Generated.{counts_text}
+use Rattle.pst_sweep_table.specs.declared.row.SweepRow.{SweepRow}
+use Rattle.pst_sweep_table.specs.Laws.{IsBudget}
+use Rattle.pst_sweep_answers.specs.Shown.{ShowsSweep}
 use Rattle.pst_words.specs.declared.command.Command.{Command}
 use Rattle.pst_words.specs.declared.command.Lines.{Lines}
 use Rattle.pst_words.specs.declared.key.Key.TheVariants.{Lanes}
 use Rattle.pst_words.specs.Lines.{IsLine}
 use Rattle.pst_outcome.specs.declared.answer.Answer.{Answer}
-use Rattle.pst_outcome.specs.declared.answer.Answer.TheVariants.{Done, Budget}
+use Rattle.pst_outcome.specs.declared.answer.Answer.TheVariants.{Done, Swept, Budget}
 use Rattle.pst_outcome.specs.Tasks.{IsNumberGiven}
 use Rattle.pst_outcome.specs.SharedRuns.{Break, Failed, Trapped, HaveRun, HaveStopped, answer_of_break, last_of_break}
 use Rattle.pst_outcome.specs.Models.{answer_of_run, count_ended}
@@ -108,18 +112,49 @@ pub record AreOfOneRun (lines : Lines) (have : ℕ) (words : List (List ℕ)) (l
   pub scenario : Scenario
   pub runs : TellTwoRuns names model scenario count lanes a b t u
 
+-- ---- sweeps
+
+-- the rows of a seed are one, or one of them is a spent budget
+pub record RowsAreAlike (row other : SweepRow) : Type 0 where
+  pub seeds : row.seed ≡ other.seed
+  pub rows : (row ≡ other) ⊎ (IsBudget row.outcome ⊎ IsBudget other.outcome)
+
+-- some row is a spent budget
+abbrev pub HasSpentRow : List SweepRow → Type 0
+HasSpentRow [] = ⊥
+HasSpentRow (row ∷ rows) = IsBudget row.outcome ⊎ HasSpentRow rows
+
+-- the answer and its text tell of these rows
+pub record TellsRows (names : List (List ℕ)) (m : ModelTree) (rows : List SweepRow) (a : Answer) (t : List ℕ) : Type 0 where
+  pub found : ℕ
+  pub answer : a ≡ Swept found
+  pub shows : ShowsSweep names m rows found t
+
+-- Both answers tell of the rows of the same seeds, seed by seed alike, and in one of them some row is a spent budget.
+pub record AreOfOneSweep (a b : Answer) (t u : List ℕ) : Type 0 where
+  pub names : List (List ℕ)
+  pub model : ModelTree
+  pub rows : List SweepRow
+  pub others : List SweepRow
+  pub first : TellsRows names model rows a t
+  pub second : TellsRows names model others b u
+  pub alike : AllZip RowsAreAlike rows others
+  pub spent : HasSpentRow rows ⊎ HasSpentRow others
+
 -- ---- all words
 
--- The answers and their texts are one; or the budget is said to be spent in one of them; or both tell of a run on several lanes.
+-- The answers and their texts are one; or the budget is said to be spent in one of them; or both tell of a run on several lanes, or of a sweep of which
+-- some row is a spent budget.
 abbrev pub Agree : Lines → ℕ → List (List ℕ) → List Lane → Answer → Answer → List ℕ → List ℕ → Type 0
-Agree lines have words lanes a b t u = ((a ≡ b) × (t ≡ u)) ⊎ ((IsSpentBudget a ⊎ IsSpentBudget b) ⊎ AreOfOneRun lines have words lanes a b t u)
+Agree lines have words lanes a b t u = ((a ≡ b) × (t ≡ u)) ⊎ ((IsSpentBudget a ⊎ IsSpentBudget b) ⊎ (AreOfOneRun lines have words lanes a b t u ⊎ AreOfOneSweep a b t u))
 
 -- the lane tells its calls
 abbrev pub IsTold : Lane → Type 0
 IsTold l = (before : List Answered) × (after : List Answered) × (l.before ≡ Some before) × (l.after ≡ Some after)
 
 -- Where the files and the lanes' calls are told, no call of the shelf failed and its count of faults is below its last value, words have at most one
--- right answer with one text, but for the choice between a budget that is spent and another answer, and but for runs on several lanes.
+-- right answer with one text, but for the choice between a budget that is spent and another answer, of a seed in a sweep too, and but for runs on several
+-- lanes.
 abbrev pub AnswersAreOne : Type 0
 AnswersAreOne =
     (lines : Lines) (have : ℕ) (words : List (List ℕ)) (files : Files) (faults : ℕ) (lanes : List Lane) (a b : Answer) (t u : List ℕ)

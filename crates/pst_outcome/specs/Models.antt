@@ -23,18 +23,24 @@ use Rattle.pst_scenario_answers.specs.Checked.{IsChecked, answer_text}
 use Rattle.pst_place_answers.specs.declared.answer.PlaceAnswer.{PlaceAnswer}
 use Rattle.pst_place_answers.specs.declared.answer.PlaceAnswer.TheVariants as place
 use Rattle.pst_place_answers.specs.Shown.{ShowsPlaces}
+use Rattle.pst_static_answers.specs.declared.answer.StaticAnswer.{StaticAnswer}
+use Rattle.pst_static_answers.specs.declared.answer.StaticAnswer.TheVariants as programs
+use Rattle.pst_static_answers.specs.Shown.{ShowsStatic}
 use Rattle.pst_addr.specs.declared.ask.Space.{Space}
+use Rattle.pst_sweep_table.specs.declared.row.SweepRow.{SweepRow}
+use Rattle.pst_sweep_table.specs.Rows.{IsTable}
+use Rattle.pst_sweep_answers.specs.Shown.{ShowsSweep}
 use Rattle.pst_run_alone.specs.declared.answer.RunAnswer.{RunAnswer}
 use Rattle.pst_run_alone.specs.declared.answer.RunAnswer.TheVariants as ran
 use Rattle.pst_run_alone.specs.Lanes.{Lane, AreUncalled}
 use Rattle.pst_run_alone.specs.Shown.{ShowsRun}
 use Rattle.pst_generated.specs.Generated.{counts_text}
 use Rattle.pst_outcome.specs.declared.answer.Answer.{Answer}
-use Rattle.pst_outcome.specs.declared.answer.Answer.TheVariants.{Done, Solved, Placed, Whole, Prefix, NoScenario, Budget, NoRoom, Narrow, TargetFault, BodyTrap, BadTrace, Illegal, Unbuilt}
+use Rattle.pst_outcome.specs.declared.answer.Answer.TheVariants.{Done, Solved, Placed, Static, Swept, Whole, Prefix, NoScenario, Budget, NoRoom, Narrow, TargetFault, BodyTrap, BadTrace, Illegal}
 use Rattle.pst_outcome.specs.declared.task.Task.{Task}
 use Rattle.pst_outcome.specs.declared.task.Work.{Work}
 use Rattle.pst_outcome.specs.declared.task.Work.TheVariants as work
-use Rattle.pst_outcome.specs.Texts.{no_scenario_text, budget_text, unbuilt_text}
+use Rattle.pst_outcome.specs.Texts.{no_scenario_text, budget_text}
 use Rattle.pst_outcome.specs.SharedRuns.{HaveRun, ShowsSharedRun}
 
 -- ---- answers of the parts below
@@ -54,6 +60,10 @@ answer_of_check (checked.Illegal number rule) = Illegal number rule
 abbrev pub answer_of_places : PlaceAnswer → Answer
 answer_of_places (place.Placed asks) = Placed asks
 answer_of_places (place.NoRoom action) = NoRoom action
+
+abbrev pub answer_of_programs : StaticAnswer → Answer
+answer_of_programs (programs.Static instructions) = Static instructions
+answer_of_programs (programs.Narrow need have) = Narrow need have
 
 -- ---- generated models
 
@@ -88,7 +98,7 @@ pub data ShowsSharedCounts (names : List (List ℕ)) (m : ModelTree) (s : Scenar
 -- ---- scenarios
 
 -- The scenario is run on the first lane, or on so many of the first ones, of a generated model too; its header is printed; a trace is judged
--- against it; or what its actions ask for is placed in a space.
+-- against it; what its actions ask for is placed in a space; or lanes get programs for it.
 pub data OfScenario (names : List (List ℕ)) (m : ModelTree) (s : Scenario) (plan : Entries) (trace : List ℕ) (lanes : List Lane) : Work → Answer → List ℕ → Type 0 where
   IsRun : (count : ℕ) (l : Lane) (others : List Lane) (answer : RunAnswer) (text : List ℕ) → count ≡ 1 → lanes ≡ l ∷ others → AreUncalled others
       → ShowsRun names m s plan l.before l.after l.faults_before l.faults_after answer text → OfScenario names m s plan trace lanes (work.Run count) (answer_of_run answer) text
@@ -103,16 +113,18 @@ pub data OfScenario (names : List (List ℕ)) (m : ModelTree) (s : Scenario) (pl
       → OfScenario names m s plan trace lanes work.Check (answer_of_check answer) (answer_text answer)
   IsPlacing : (space : Space) (answer : PlaceAnswer) (text : List ℕ) → AreUncalled lanes → ShowsPlaces names m s plan space answer text
       → OfScenario names m s plan trace lanes (work.Place space) (answer_of_places answer) text
+  IsProgrammed : (over : ℕ) (answer : StaticAnswer) (text : List ℕ) → AreUncalled lanes → ShowsStatic names m s plan over answer text
+      → OfScenario names m s plan trace lanes (work.Static over) (answer_of_programs answer) text
 
 -- ---- models
 
 -- something is done with the first legal scenario
 abbrev pub IsSought : Work → Type 0
-IsSought work.Unbuilt = ⊥
+IsSought (work.Sweep first count) = ⊥
 IsSought done = Unit {0}
 
 -- No scenario with so few inferred actions is legal; the budget is spent in a level that may be searched; the first legal scenario in the seed's
--- order with the fewest inferred actions is found; or nothing is sought yet.
+-- order with the fewest inferred actions is found; or many seeds are searched, and there is a row for each.
 pub data OfModel (names : List (List ℕ)) (m : ModelTree) (root : ℕ) (task : Task) (trace : List ℕ) (lanes : List Lane) : Answer → List ℕ → Type 0 where
   HasNone : IsSought task.work → AreUncalled lanes → ((s : Scenario) → s.level ≤ task.infer → Legal m root s → ⊥)
       → OfModel names m root task trace lanes NoScenario (no_scenario_text task.infer)
@@ -120,4 +132,5 @@ pub data OfModel (names : List (List ℕ)) (m : ModelTree) (root : ℕ) (task : 
       → OfModel names m root task trace lanes (Budget level) (budget_text level)
   IsFound : (s : Scenario) (plan : Entries) (answer : Answer) (text : List ℕ) → IsFirst m root task.seed task.infer s → IsPlanOf s plan
       → OfScenario names m s plan trace lanes task.work answer text → OfModel names m root task trace lanes answer text
-  IsUnbuilt : task.work ≡ work.Unbuilt → AreUncalled lanes → OfModel names m root task trace lanes Unbuilt unbuilt_text
+  IsSwept : (first count : ℕ) (rows : List SweepRow) (found : ℕ) (text : List ℕ) → task.work ≡ work.Sweep first count → AreUncalled lanes
+      → IsTable m root task.infer task.budget first count rows → ShowsSweep names m rows found text → OfModel names m root task trace lanes (Swept found) text

@@ -1,12 +1,14 @@
 -- The exit status of each answer.
 use Rattle.std.specs.Prelude.{ℕ}
 use Rattle.pst_outcome.specs.declared.answer.Answer.{Answer}
-use Rattle.pst_outcome.specs.declared.answer.Answer.TheVariants.{Done, Solved, Placed, Whole, Prefix, Usage, NoFile, ReadFault, Large, Lexical, Syntax, Rule, NoScenario, Budget, Narrow, TargetFault, BodyTrap, BadTrace, Illegal, NoRoom, WriteFault, NoMemory, Unbuilt}
+use Rattle.pst_outcome.specs.declared.answer.Answer.TheVariants.{Done, Solved, Placed, Static, Swept, Whole, Prefix, Usage, NoFile, ReadFault, Large, Lexical, Syntax, Rule, NoScenario, Budget, Narrow, TargetFault, BodyTrap, BadTrace, Illegal, NoRoom, WriteFault, NoMemory}
 
 abbrev pub status_of : Answer → ℕ
 status_of (Done actions) = 0
 status_of (Solved actions) = 0
 status_of (Placed asks) = 0
+status_of (Static instructions) = 0
+status_of (Swept found) = 0
 status_of Whole = 0
 status_of Prefix = 0
 status_of (Lexical wide place) = 1
@@ -26,4 +28,3 @@ status_of (ReadFault word) = 6
 status_of WriteFault = 7
 status_of NoMemory = 8
 status_of (Large what number) = 9
-status_of Unbuilt = 10

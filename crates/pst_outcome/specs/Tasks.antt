@@ -4,8 +4,10 @@ use Rattle.pst_token.specs.Lexemes.{IsName}
 use Rattle.pst_generated.specs.Generated.{generated_text}
 use Rattle.pst_words.specs.declared.command.Command.{Command}
 use Rattle.pst_words.specs.declared.command.Command.TheVariants.{Run, Solve, Check, Gen, Static, Place, Sweep}
+use Rattle.pst_words.specs.declared.command.Lines.{Lines}
+use Rattle.pst_words.specs.declared.command.Lines.TheVariants as lines
 use Rattle.pst_words.specs.declared.key.Key.{Key}
-use Rattle.pst_words.specs.declared.key.Key.TheVariants.{Root, Seed, Infer, Budget, Lanes, Size, Space, Base}
+use Rattle.pst_words.specs.declared.key.Key.TheVariants.{Root, Seed, Infer, Budget, Lanes, Size, Over, Space, Base, First, Count}
 use Rattle.pst_words.specs.Lines.{given}
 use Rattle.pst_outcome.specs.declared.task.Task.{Task}
 use Rattle.pst_outcome.specs.declared.task.Work.{Work}
@@ -44,15 +46,18 @@ IsWork Run arguments done = (lanes : ℕ) × IsNumberGiven Lanes arguments 1 lan
 IsWork Solve arguments done = done ≡ work.Solve
 IsWork Check arguments done = done ≡ work.Check
 IsWork Gen arguments done = (size : ℕ) × (lanes : ℕ) × IsNumberGiven Size arguments 0 size × IsNumberGiven Lanes arguments 1 lanes × (done ≡ work.Generate size lanes)
-IsWork Static arguments done = done ≡ work.Unbuilt
+IsWork Static arguments done = (over : ℕ) × IsNumberGiven Over arguments 1 over × (done ≡ work.Static over)
 IsWork Place arguments done = (base : ℕ) × (size : ℕ) × IsNumberGiven Base arguments 0 base × IsNumberGiven Space arguments 0 size × (done ≡ work.Place (record { base = base; size = size }))
-IsWork Sweep arguments done = done ≡ work.Unbuilt
+IsWork Sweep arguments done = (first : ℕ) × (count : ℕ) × IsNumberGiven First arguments 1 first × IsNumberGiven Count arguments 0 count × (done ≡ work.Sweep first count)
 
--- where it is run on lanes, so many are there; and the addresses of a space end within 2^63
+-- where it is run on lanes, so many are there; programs are for 1 to 16 lanes, the addresses of a space end within 2^63, and the seeds of a sweep
+-- within 2^64
 abbrev pub FitsLanes : ℕ → Work → Type 0
 FitsLanes have (work.Run lanes) = (1 ≤ lanes) × (lanes ≤ have)
 FitsLanes have (work.Generate size lanes) = (1 ≤ lanes) × (lanes ≤ have)
+FitsLanes have (work.Static over) = (1 ≤ over) × (over ≤ 16)
 FitsLanes have (work.Place space) = space.base + space.size ≤ 2 ^ 63
+FitsLanes have (work.Sweep first count) = first + count ≤ 2 ^ 64
 FitsLanes have other = Unit {0}
 
 -- it is run on several
@@ -60,6 +65,17 @@ abbrev pub IsSeveral : Work → Type 0
 IsSeveral (work.Run lanes) = 1 < lanes
 IsSeveral (work.Generate size lanes) = 1 < lanes
 IsSeveral other = ⊥
+
+-- many seeds are searched
+abbrev pub IsSweep : Work → Type 0
+IsSweep (work.Sweep first count) = Unit {0}
+IsSweep other = ⊥
+
+-- a line of one of these commands may ask for it
+abbrev pub IsAskedBy : Lines → Work → Type 0
+IsAskedBy lines.All done = Unit {0}
+IsAskedBy lines.WithoutSweep done = IsSweep done → ⊥
+IsAskedBy lines.SweepAlone done = IsSweep done
 
 -- the most inferred actions, and the most live lists of choices; a generated model has its own
 abbrev pub AreLimits : Command → List (List ℕ) → ℕ → ℕ → Type 0

@@ -46,6 +46,3 @@ no_scenario_text infer = line (codes "noscenario " ++ decimal infer)
 
 abbrev pub budget_text : ℕ → List ℕ
 budget_text level = line (codes "budget " ++ decimal level)
-
-abbrev pub unbuilt_text : List ℕ
-unbuilt_text = line (codes "unbuilt")

@@ -36,6 +36,16 @@ pub enum Answer {
         /// How many asks there are.
         asks: u32,
     },
+    /// The first legal scenario has programs for so many lanes, and these were printed.
+    Static {
+        /// How many instructions they have.
+        instructions: u32,
+    },
+    /// Many seeds were searched, and what each search comes to was printed.
+    Swept {
+        /// How many of them have a scenario.
+        found: u32,
+    },
     /// The trace file is that of a whole legal trace of the first legal scenario.
     Whole,
     /// The trace file begins that of one, up to an action that failed or trapped.
@@ -98,12 +108,12 @@ pub enum Answer {
         /// The action.
         action: u32,
     },
-    /// The widest group of actions that start together needs more lanes than there are. No lane was
-    /// called.
+    /// The widest group of actions that start together needs more lanes than there are, or than the
+    /// programs are asked for. No lane was called.
     Narrow {
         /// How many lanes it needs.
         need: u32,
-        /// How many there are.
+        /// How many there are, or are asked for.
         have: u32,
     },
     /// A lane failed in the body of an action that runs on it: its count of faults rose, or stands at
@@ -141,8 +151,6 @@ pub enum Answer {
     WriteFault,
     /// Memory ran out; nothing was written.
     NoMemory,
-    /// The line has no answer yet: its sources keep all rules.
-    Unbuilt,
 }
 
 impl Answer {
@@ -152,6 +160,7 @@ impl Answer {
     {
         match self {
             Answer::Done { .. } | Answer::Solved { .. } | Answer::Placed { .. } => 0,
+            Answer::Static { .. } | Answer::Swept { .. } => 0,
             Answer::Whole | Answer::Prefix => 0,
             Answer::Lexical { .. } | Answer::Syntax { .. } | Answer::Rule { .. } => 1,
             Answer::BadTrace { .. } => 1,
@@ -163,7 +172,6 @@ impl Answer {
             Answer::WriteFault => 7,
             Answer::NoMemory => 8,
             Answer::Large { .. } => 9,
-            Answer::Unbuilt => 10,
         }
     }
 }

@@ -10,13 +10,15 @@ use pst_place_answers::place_answers_are_one;
 use pst_run_alone::{runs_are_one, traces_are_one};
 use pst_scenario_answers::checks_are_one;
 use pst_sources_read::at_most_one_unit;
+use pst_static_answers::static_answers_are_one;
+use pst_sweep_table::rows_are_one;
 use pst_texts::tokens_of_texts_are_one;
 use pst_token::laws::each_text_has_one_reading;
 
 /// Where the files and the lane's calls are told and no call of the shelf failed, words have at most
 /// one right answer with one text, but for the choice between a budget that is spent and another
-/// answer, and but for runs on several lanes whose actions start and end in another order, or of which
-/// each stopped and tells of another lane.
+/// answer, of a seed in a sweep too, and but for runs on several lanes whose actions start and end in
+/// another order, or of which each stopped and tells of another lane.
 pub fn answers_are_one()
     ensures { AnswersAreOne }
 {
@@ -34,4 +36,6 @@ pub fn answers_are_one()
     bodies_end_once();
     core_is_one();
     place_answers_are_one();
+    static_answers_are_one();
+    rows_are_one();
 }

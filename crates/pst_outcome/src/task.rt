@@ -18,6 +18,11 @@ pub enum Work {
         /// The space.
         space: Space,
     },
+    /// Programs of lanes are made for it, and printed.
+    Static {
+        /// Over how many lanes.
+        over: u32,
+    },
     /// It is one of a generated model: it is run, and counts are printed.
     Generate {
         /// The size of the model.
@@ -25,8 +30,13 @@ pub enum Work {
         /// On how many lanes.
         lanes: u32,
     },
-    /// Nothing yet.
-    Unbuilt,
+    /// Nothing: many seeds are searched instead, in their order.
+    Sweep {
+        /// The first of them.
+        first: u64,
+        /// How many there are.
+        count: u32,
+    },
 }
 
 /// How the first legal scenario is sought, and what is done with it.

@@ -25,7 +25,7 @@ use Rattle.pst_outcome.specs.declared.task.Work.{Work}
 use Rattle.pst_outcome.specs.Texts.{usage_text}
 use Rattle.pst_outcome.specs.Tasks.{FitsLanes}
 use Rattle.pst_outcome.specs.Sources.{Front, Ends, HasModel}
-use Rattle.pst_outcome.specs.Models.{OfScenario, IsRun, IsSharedRun, IsGenerated, IsSharedGenerated, IsSolved, IsJudged, IsPlacing, ShowsCounts, OfModel, HasNone, IsSpent, IsFound, IsUnbuilt}
+use Rattle.pst_outcome.specs.Models.{OfScenario, IsRun, IsSharedRun, IsGenerated, IsSharedGenerated, IsSolved, IsJudged, IsPlacing, IsProgrammed, ShowsCounts, OfModel, HasNone, IsSpent, IsFound, IsSwept}
 use Rattle.pst_outcome.specs.Outcome.{IsOwed, IsUsage, EndsAtFiles, EndsAtSources, IsServed, HasFront, bytes_of}
 use Rattle.pst_shared_answers.proofs.PassedOn.{all_made}
 use Rattle.pst_front.specs.declared.front.LineFront.{LineFront}
@@ -79,13 +79,14 @@ module _ (l : Lane) (others : List Lane) (none : AreUncalled others) where
   scenario_beside names m s plan trace _ _ _ fits (IsSolved calm) = IsSolved (beside calm)
   scenario_beside names m s plan trace _ _ _ fits (IsJudged a calm h) = IsJudged a (beside calm) h
   scenario_beside names m s plan trace _ _ _ fits (IsPlacing space a t calm h) = IsPlacing space a t (beside calm) h
+  scenario_beside names m s plan trace _ _ _ fits (IsProgrammed over a t calm h) = IsProgrammed over a t (beside calm) h
 
   model_beside : (names : List (List ℕ)) (m : ModelTree) (root : ℕ) (task : Task) (trace : List ℕ) (a : Answer) (t : List ℕ) → FitsLanes 1 task.work
       → OfModel names m root task trace (l ∷ []) a t → OfModel names m root task trace (l ∷ others) a t
   model_beside names m root task trace _ _ fits (HasNone sought calm h) = HasNone sought (beside calm) h
   model_beside names m root task trace _ _ fits (IsSpent level sought calm low h) = IsSpent level sought (beside calm) low h
   model_beside names m root task trace _ _ fits (IsFound s plan a t first planned h) = IsFound s plan a t first planned (scenario_beside names m s plan trace task.work a t fits h)
-  model_beside names m root task trace _ _ fits (IsUnbuilt is calm) = IsUnbuilt is (beside calm)
+  model_beside names m root task trace _ _ fits (IsSwept first count rows found t is calm h shown) = IsSwept first count rows found t is (beside calm) h shown
 
 -- what is answered on the first of some lanes, once it has been called
 pub first_done : {T : Type 0} (calls : T → Option (List Answered)) (faults : T → ℕ) (lanes : List T) (was now : T) (names : List (List ℕ)) (m : ModelTree) (root : ℕ) (task : Task) (trace : List ℕ) (r : Result Reply NoMemory)
@@ -141,9 +142,9 @@ at_line P Q (Err e) to h = tt
 
 -- ---- no line
 
-says_servable : (word have : ℕ) (r : Request) → SaysUsage word r → IsServable have r
-says_servable word have (request.Answered reply) says = tt
-says_servable word have (request.Asked q) says = absurd says
+says_servable : (lines : Lines) (word have : ℕ) (r : Request) → SaysUsage word r → IsServable lines have r
+says_servable lines word have (request.Answered reply) says = tt
+says_servable lines word have (request.Asked q) says = absurd says
 
 says_is : (files : Option Files) (count : ℕ) (lines : Lines) (have : ℕ) (words : List (List ℕ)) (word : ℕ) (r : Request) → IsWrongWord lines have words word → SaysUsage word r
     → IsRequest lines have words files count count r
@@ -158,8 +159,8 @@ says_is files count lines have words word (request.Answered reply) wrong says = 
     says_text q text is = subst (λ (t : List ℕ). text ≡ t) says.text_is is
 says_is files count lines have words word (request.Asked q) wrong says = absurd says
 
-pub unlined_servable : (word have : ℕ) (r : Result Request NoMemory) → IfOk r (SaysUsage word) → IfOk r (IsServable have)
-unlined_servable word have r h = at_line (SaysUsage word) (IsServable have) r (says_servable word have) h
+pub unlined_servable : (lines : Lines) (word have : ℕ) (r : Result Request NoMemory) → IfOk r (SaysUsage word) → IfOk r (IsServable lines have)
+unlined_servable lines word have r h = at_line (SaysUsage word) (IsServable lines have) r (says_servable lines word have) h
 
 pub unlined_is : (files : Option Files) (count : ℕ) (lines : Lines) (have : ℕ) (words : List (List ℕ)) (word : ℕ) (r : Result Request NoMemory) → IsWrongWord lines have words word → IfOk r (SaysUsage word)
     → IfOk r (IsRequest lines have words files count count)

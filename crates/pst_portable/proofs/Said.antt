@@ -14,6 +14,8 @@ use Rattle.pst_scenario_answers.specs.declared.check.CheckAnswer.{CheckAnswer}
 use Rattle.pst_scenario_answers.specs.declared.check.CheckAnswer.TheVariants as checked
 use Rattle.pst_place_answers.specs.declared.answer.PlaceAnswer.{PlaceAnswer}
 use Rattle.pst_place_answers.specs.declared.answer.PlaceAnswer.TheVariants as place
+use Rattle.pst_static_answers.specs.declared.answer.StaticAnswer.{StaticAnswer}
+use Rattle.pst_static_answers.specs.declared.answer.StaticAnswer.TheVariants as programs
 use Rattle.pst_run_alone.specs.declared.answer.RunAnswer.{RunAnswer}
 use Rattle.pst_run_alone.specs.declared.answer.RunAnswer.TheVariants as ran
 use Rattle.pst_run_alone.specs.Lanes.{Lane, HasMade, AreUncalled, HaveMade}
@@ -26,7 +28,7 @@ use Rattle.pst_outcome.specs.declared.task.Task.{Task}
 use Rattle.pst_outcome.specs.declared.task.Work.{Work}
 use Rattle.pst_outcome.specs.Sources.{Front, Ends, HasModel, OfUnits, BreaksRule, HasManyInstances, AreElaborated, OfTokens, IsSyntaxFault, HasUnits, OfTexts, IsLexicalFault, HasManyTokens, HasTokens}
 use Rattle.pst_outcome.specs.SharedRuns.{Break, HasRun, HasBroken, AtCall, InTrap, HasStopped, BetweenBodies, InBody, AreUncalledFrom, HaveRun, HaveStopped, ShowsSharedRun, IsTooWide as AreTooWide, EndsWhole, EndsEarly}
-use Rattle.pst_outcome.specs.Models.{answer_of_run, answer_of_check, answer_of_places, ShowsCounts, HasEnded as HasEndedWhole, EndsElse, ShowsSharedCounts, HaveEnded, EndElse, OfScenario, IsRun, IsSharedRun, IsGenerated, IsSharedGenerated, IsSolved, IsJudged, IsPlacing, OfModel, HasNone, IsSpent, IsFound, IsUnbuilt}
+use Rattle.pst_outcome.specs.Models.{answer_of_run, answer_of_check, answer_of_places, answer_of_programs, ShowsCounts, HasEnded as HasEndedWhole, EndsElse, ShowsSharedCounts, HaveEnded, EndElse, OfScenario, IsRun, IsSharedRun, IsGenerated, IsSharedGenerated, IsSolved, IsJudged, IsPlacing, IsProgrammed, OfModel, HasNone, IsSpent, IsFound, IsSwept}
 use Rattle.pst_outcome.specs.Outcome.{OfFiles, IsNoFile, IsUnread, HasManyBytes, HasLongTrace, IsOwed, IsUsage, EndsAtFiles, EndsAtSources, IsServed, bytes_of}
 use Rattle.pst_outcome.specs.Delivered.{Answers, Writing}
 use Rattle.pst_portable.specs.Replies.{Delivers}
@@ -56,6 +58,10 @@ places_said : (a : PlaceAnswer) → IsSaid (answer_of_places a)
 places_said (place.Placed asks) = tt
 places_said (place.NoRoom action) = tt
 
+programs_said : (a : StaticAnswer) → IsSaid (answer_of_programs a)
+programs_said (programs.Static instructions) = tt
+programs_said (programs.Narrow need have) = tt
+
 scenario_said : (names : List (List ℕ)) (m : ModelTree) (s : Scenario) (plan : Entries) (trace : List ℕ) (told : List Lane) (work : Work) (a : Answer) (t : List ℕ) → OfScenario names m s plan trace told work a t → IsSaid a
 scenario_said names m s plan trace told _ _ _ (IsRun n l ls a text one is calm h) = run_said a
 scenario_said names m s plan trace told _ _ _ (IsSharedRun n a text several h) = run_said a
@@ -64,12 +70,13 @@ scenario_said names m s plan trace told _ _ _ (IsSharedGenerated size n a text s
 scenario_said names m s plan trace told _ _ _ (IsSolved none) = tt
 scenario_said names m s plan trace told _ _ _ (IsJudged a none h) = check_said a
 scenario_said names m s plan trace told _ _ _ (IsPlacing space a text none h) = places_said a
+scenario_said names m s plan trace told _ _ _ (IsProgrammed over a text none h) = programs_said a
 
 model_said : (names : List (List ℕ)) (m : ModelTree) (root : ℕ) (task : Task) (trace : List ℕ) (told : List Lane) (a : Answer) (t : List ℕ) → OfModel names m root task trace told a t → IsSaid a
 model_said names m root task trace told _ _ (HasNone sought none h) = tt
 model_said names m root task trace told _ _ (IsSpent level sought none low h) = tt
 model_said names m root task trace told _ _ (IsFound s plan a t first planned h) = scenario_said names m s plan trace told task.work a t h
-model_said names m root task trace told _ _ (IsUnbuilt is none) = tt
+model_said names m root task trace told _ _ (IsSwept first count rows found t is none h shown) = tt
 
 -- the same of what sources come to
 abbrev IsFrontSaid : Front → Type 0
@@ -166,12 +173,13 @@ scenario_made names m s plan trace told _ _ _ (IsSharedGenerated size n a t seve
 scenario_made names m s plan trace told _ _ _ (IsSolved none) = all_made told none
 scenario_made names m s plan trace told _ _ _ (IsJudged a none h) = all_made told none
 scenario_made names m s plan trace told _ _ _ (IsPlacing space a text none h) = all_made told none
+scenario_made names m s plan trace told _ _ _ (IsProgrammed over a text none h) = all_made told none
 
 model_made : (names : List (List ℕ)) (m : ModelTree) (root : ℕ) (task : Task) (trace : List ℕ) (told : List Lane) (a : Answer) (t : List ℕ) → OfModel names m root task trace told a t → HaveMade told
 model_made names m root task trace told _ _ (HasNone sought none h) = all_made told none
 model_made names m root task trace told _ _ (IsSpent level sought none low h) = all_made told none
 model_made names m root task trace told _ _ (IsFound s plan a t first planned h) = scenario_made names m s plan trace told task.work a t h
-model_made names m root task trace told _ _ (IsUnbuilt is none) = all_made told none
+model_made names m root task trace told _ _ (IsSwept first count rows found t is none h shown) = all_made told none
 
 owed_made : (lines : Lines) (have : ℕ) (words : List (List ℕ)) (files : Option Files) (old new : ℕ) (told : List Lane) (a : Answer) (t : List ℕ) → IsOwed lines have words files old new told a t → HaveMade told
 owed_made lines have words files old new told _ _ (IsUsage _ none _ _) = all_made told none
@@ -198,6 +206,8 @@ answered lines have words files old new told w reply result owed (inl d) = subst
     by_answer (answer.Syntax deep place) o = record { text = string_bytes reply.text; owed = o; writes = d.1 }
     by_answer (answer.Rule place rule) o = record { text = string_bytes reply.text; owed = o; writes = d.1 }
     by_answer (answer.Placed asks) o = record { text = string_bytes reply.text; owed = o; writes = d.1 }
+    by_answer (answer.Static instructions) o = record { text = string_bytes reply.text; owed = o; writes = d.1 }
+    by_answer (answer.Swept found) o = record { text = string_bytes reply.text; owed = o; writes = d.1 }
     by_answer (answer.NoRoom action) o = record { text = string_bytes reply.text; owed = o; writes = d.1 }
     by_answer answer.NoScenario o = record { text = string_bytes reply.text; owed = o; writes = d.1 }
     by_answer (answer.Budget level) o = record { text = string_bytes reply.text; owed = o; writes = d.1 }
@@ -206,7 +216,6 @@ answered lines have words files old new told w reply result owed (inl d) = subst
     by_answer (answer.BodyTrap number action kind) o = record { text = string_bytes reply.text; owed = o; writes = d.1 }
     by_answer (answer.BadTrace number) o = record { text = string_bytes reply.text; owed = o; writes = d.1 }
     by_answer (answer.Illegal number rule) o = record { text = string_bytes reply.text; owed = o; writes = d.1 }
-    by_answer answer.Unbuilt o = record { text = string_bytes reply.text; owed = o; writes = d.1 }
     by_answer answer.WriteFault o = absurd (owed_said lines have words files old new told answer.WriteFault (string_bytes reply.text) o)
     by_answer answer.NoMemory o = absurd (owed_said lines have words files old new told answer.NoMemory (string_bytes reply.text) o)
 answered lines have words files old new told w reply result owed (inr (inl d)) =

@@ -6,7 +6,7 @@ use Rattle.pst_words.specs.declared.command.Command.TheVariants.{Run, Solve, Che
 use Rattle.pst_words.specs.declared.key.Key.TheVariants.{Infer, Budget}
 use Rattle.pst_outcome.specs.declared.task.Work.{Work}
 use Rattle.pst_outcome.specs.declared.task.Work.TheVariants as work
-use Rattle.pst_outcome.specs.Tasks.{IsNumberGiven, FitsLanes, IsSeveral, AreLimits}
+use Rattle.pst_outcome.specs.Tasks.{IsNumberGiven, FitsLanes, IsSeveral, IsSweep, AreLimits}
 
 pub are_limits : (command : Command) (arguments : List (List ℕ)) (infer budget : ℕ) → (command ≡ Gen → ⊥) → IsNumberGiven Infer arguments 2 infer → IsNumberGiven Budget arguments 100000 budget
     → AreLimits command arguments infer budget
@@ -25,7 +25,8 @@ fits_more work.Solve a b more fits = tt
 fits_more work.Check a b more fits = tt
 fits_more (work.Generate size lanes) a b more (low, high) = (low, omega (arith, more, high))
 fits_more (work.Place space) a b more fits = fits
-fits_more work.Unbuilt a b more fits = tt
+fits_more (work.Sweep first count) a b more fits = fits
+fits_more (work.Static over) a b more fits = fits
 
 at_most : (n : ℕ) → (1 < n → ⊥) → (1 < n) ⊎ (n ≤ 1) → n ≤ 1
 at_most n few (inl many) = absurd (few many)
@@ -38,4 +39,15 @@ fits_one work.Solve have fits alone = tt
 fits_one work.Check have fits alone = tt
 fits_one (work.Generate size lanes) have (low, high) alone = (low, at_most lanes alone (cases_lt 1 lanes))
 fits_one (work.Place space) have fits alone = fits
-fits_one work.Unbuilt have fits alone = tt
+fits_one (work.Sweep first count) have fits alone = fits
+fits_one (work.Static over) have fits alone = fits
+
+-- the seeds of a sweep need no lanes
+pub fits_swept : (w : Work) (have : ℕ) → FitsLanes have w → IsSweep w → FitsLanes 1 w
+fits_swept (work.Run lanes) have fits sweep = absurd sweep
+fits_swept work.Solve have fits sweep = tt
+fits_swept work.Check have fits sweep = tt
+fits_swept (work.Generate size lanes) have fits sweep = absurd sweep
+fits_swept (work.Place space) have fits sweep = fits
+fits_swept (work.Sweep first count) have fits sweep = fits
+fits_swept (work.Static over) have fits sweep = fits

@@ -10,7 +10,7 @@ use Rattle.pst_files_read.specs.Limits.{most_trace}
 use Rattle.pst_outcome.specs.declared.answer.Answer.{Answer}
 use Rattle.pst_outcome.specs.declared.answer.Answer.TheVariants.{Usage}
 use Rattle.pst_outcome.specs.Texts.{usage_text}
-use Rattle.pst_outcome.specs.Tasks.{FitsLanes}
+use Rattle.pst_outcome.specs.Tasks.{FitsLanes, IsAskedBy}
 use Rattle.pst_outcome.specs.Models.{OfModel}
 use Rattle.pst_outcome.specs.Outcome.{IsOwed, bytes_of}
 use Rattle.pst_portable.specs.Replies.{Says}
@@ -18,18 +18,19 @@ use Rattle.pst_portable.specs.declared.request.Question.{Question}
 use Rattle.pst_portable.specs.declared.request.Request.{Request}
 use Rattle.pst_portable.specs.declared.request.Request.TheVariants.{Answered, Asked}
 
--- the calls that answer a question may be made, where so many lanes are there
-pub record IsReady (have : ℕ) (q : Question) : Type 0 where
+-- the calls that answer a question may be made, where these lines are served and so many lanes are there
+pub record IsReady (lines : Lines) (have : ℕ) (q : Question) : Type 0 where
   pub sound : IsSound (view_model q.model)
   pub concrete : IsConcreteRoot (view_model q.model) q.root
   pub small : length (bytes_of q.trace) ≤ most_trace
   pub some : 0 < have
   pub few : have ≤ 16
   pub fits : FitsLanes have q.task.work
+  pub asked : IsAskedBy lines q.task.work
 
-abbrev pub IsServable : ℕ → Request → Type 0
-IsServable have (Answered reply) = Unit {0}
-IsServable have (Asked q) = IsReady have q
+abbrev pub IsServable : Lines → ℕ → Request → Type 0
+IsServable lines have (Answered reply) = Unit {0}
+IsServable lines have (Asked q) = IsReady lines have q
 
 -- the request answers that the word is wrong
 abbrev pub SaysUsage : ℕ → Request → Type 0

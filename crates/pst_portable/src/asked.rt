@@ -1,8 +1,9 @@
 //! Replies to requests.
-ghost use Rattle.std.specs.Prelude.{◌≡◌, ◌↔◌, [], ◌∷◌, min, drop, length, string_bytes, vec_len, IfOk, IfErr, IsTrue};
+ghost use Rattle.std.specs.Prelude.{◌≡◌, List, ◌↔◌, [], ◌∷◌, min, drop, length, string_bytes, vec_len, IfOk, IfErr, IsTrue};
+ghost use Rattle.pst_words.specs.declared.command.Lines.TheVariants as lines;
 ghost use Rattle.pst_model.specs.ModelView.{view_model};
-ghost use Rattle.pst_run_alone.specs.Lanes.{lane as lane_of, HasMade, HaveMade, lanes_told};
-ghost use Rattle.pst_outcome.specs.Tasks.{IsSeveral};
+ghost use Rattle.pst_run_alone.specs.Lanes.{lane as lane_of, Lane, AreUncalled, HasMade, HaveMade, lanes_told};
+ghost use Rattle.pst_outcome.specs.Tasks.{IsSeveral, IsSweep};
 ghost use Rattle.pst_outcome.specs.Models.{OfModel};
 ghost use Rattle.pst_outcome.specs.Outcome.{bytes_of};
 ghost use Rattle.pst_portable.specs.Requests.{IsReady, IsServable, IsAnswered};
@@ -12,6 +13,7 @@ use pst_base::NoMemory;
 use pst_front::trace_of;
 use pst_outcome::{Reply, Work};
 use pst_shared_answers::{answer_model, answer_shared};
+use pst_sweep_replies::answer_sweep;
 use pst_target::{Gate, Target};
 use std::alloc::Global;
 use std::sync::Wait;
@@ -23,7 +25,7 @@ fn answer_alone<T: Target>(
     question: &Question,
     lane: &mut T,
 ) -> Result<Reply, NoMemory>
-    requires { IsReady 1 question.now }
+    requires { IsReady lines.WithoutSweep 1 question.now }
     ensures done { IfOk result (λ reply. OfModel question.now.names (view_model question.now.model) question.now.root question.now.task (bytes_of question.now.trace)
         (lane_of (T.calls lane.old) (T.calls lane.new) (T.faults lane.old) (T.faults lane.new) ∷ []) reply.answer (string_bytes reply.text)) }
     ensures memory { IfErr result (λ e. HasMade (lane_of (T.calls lane.old) (T.calls lane.new) (T.faults lane.old) (T.faults lane.new))) }
@@ -45,7 +47,7 @@ pub(crate) fn reply_alone<T: Target>(
     request: Request,
     lane: &mut T,
 ) -> Result<Reply, NoMemory>
-    requires { IsServable 1 request }
+    requires { IsServable lines.WithoutSweep 1 request }
     ensures done { IfOk result (λ reply. IsAnswered request (lane_of (T.calls lane.old) (T.calls lane.new) (T.faults lane.old) (T.faults lane.new) ∷ []) reply.answer (string_bytes reply.text)) }
     ensures memory { IfErr result (λ e. HasMade (lane_of (T.calls lane.old) (T.calls lane.new) (T.faults lane.old) (T.faults lane.new))) }
 {
@@ -61,7 +63,7 @@ fn answer_on_first<T: Target>(
     question: &Question,
     lanes: &mut Vec<T>,
 ) -> Result<Reply, NoMemory>
-    requires ready { IsReady (min (vec_len lanes.old) 16) question.now }
+    requires ready { IsReady lines.WithoutSweep (min (vec_len lanes.old) 16) question.now }
     requires one { IsSeveral question.now.task.work → ⊥ }
     ensures done { IfOk result (λ reply. OfModel question.now.names (view_model question.now.model) question.now.root question.now.task (bytes_of question.now.trace)
         (lanes_told T.calls T.faults lanes.old.items lanes.new.items) reply.answer (string_bytes reply.text)) }
@@ -85,19 +87,69 @@ fn is_several(work: Work) -> bool
         Work::Solve => false,
         Work::Check => false,
         Work::Place { space: _ } => false,
-        Work::Unbuilt => false,
+        Work::Sweep { first: _, count: _ } => false,
+        Work::Static { over: _ } => false,
     }
 }
 
-// The reply to a question that is answered on some lanes.
-fn answer_on_lanes<R: Threads + Wait + Sync, T: Target + Send, G: Gate + Sync>(
+// Whether many seeds are to be searched.
+fn is_sweep(work: Work) -> bool
+    ensures { IsTrue result ↔ IsSweep work }
+{
+    match work {
+        Work::Sweep { first: _, count: _ } => true,
+        Work::Run { lanes: _ } => false,
+        Work::Solve => false,
+        Work::Check => false,
+        Work::Place { space: _ } => false,
+        Work::Generate { size: _, lanes: _ } => false,
+        Work::Static { over: _ } => false,
+    }
+}
+
+// The reply to a question that asks for a sweep. No lane is called.
+fn answer_swept(
+    rt: &(impl Threads + Sync),
+    alloc: Global,
+    question: &Question,
+) -> Result<Reply, NoMemory>
+    requires { IsReady lines.SweepAlone 1 question.now }
+    ensures { (told : List Lane) → AreUncalled told → IfOk result (λ reply. OfModel question.now.names (view_model question.now.model) question.now.root question.now.task (bytes_of question.now.trace) told reply.answer (string_bytes reply.text)) }
+{
+    let Question {
+        names,
+        model,
+        root,
+        task,
+        trace: _,
+    } = question;
+    answer_sweep(rt, alloc, names, model, *root, *task)
+}
+
+/// The reply to a request that may ask for a sweep alone. No lane is called.
+pub(crate) fn reply_swept(
+    rt: &(impl Threads + Sync),
+    alloc: Global,
+    request: Request,
+) -> Result<Reply, NoMemory>
+    requires { IsServable lines.SweepAlone 1 request }
+    ensures { IfOk result (λ reply. IsAnswered request [] reply.answer (string_bytes reply.text)) }
+{
+    match request {
+        Request::Answered(reply) => Ok(reply),
+        Request::Asked(question) => answer_swept(rt, alloc, &question),
+    }
+}
+
+// The reply to a question that asks for a scenario, on some lanes.
+fn answer_with_lanes<R: Threads + Wait + Sync, T: Target + Send, G: Gate + Sync>(
     rt: &R,
     alloc: Global,
     question: &Question,
     lanes: &mut Vec<T>,
     gate: &G,
 ) -> Result<Reply, NoMemory>
-    requires ready { IsReady (min (vec_len lanes.old) 16) question.now }
+    requires ready { IsReady lines.WithoutSweep (min (vec_len lanes.old) 16) question.now }
     ensures done { IfOk result (λ reply. OfModel question.now.names (view_model question.now.model) question.now.root question.now.task (bytes_of question.now.trace)
         (lanes_told T.calls T.faults lanes.old.items lanes.new.items) reply.answer (string_bytes reply.text)) }
     ensures memory { IfErr result (λ e. HaveMade (lanes_told T.calls T.faults lanes.old.items lanes.new.items)) }
@@ -117,6 +169,28 @@ fn answer_on_lanes<R: Threads + Wait + Sync, T: Target + Send, G: Gate + Sync>(
     answer_shared(rt, alloc, names, model, *root, *task, lanes, gate)
 }
 
+// The reply to a question that is answered on some lanes, or without any.
+fn answer_on_lanes<R: Threads + Wait + Sync, T: Target + Send, G: Gate + Sync>(
+    rt: &R,
+    alloc: Global,
+    question: &Question,
+    lanes: &mut Vec<T>,
+    gate: &G,
+) -> Result<Reply, NoMemory>
+    requires ready { IsReady lines.All (min (vec_len lanes.old) 16) question.now }
+    ensures done { IfOk result (λ reply. OfModel question.now.names (view_model question.now.model) question.now.root question.now.task (bytes_of question.now.trace)
+        (lanes_told T.calls T.faults lanes.old.items lanes.new.items) reply.answer (string_bytes reply.text)) }
+    ensures memory { IfErr result (λ e. HaveMade (lanes_told T.calls T.faults lanes.old.items lanes.new.items)) }
+    ensures others { drop 16 lanes.new.items ≡ drop 16 lanes.old.items }
+    ensures as_many { length lanes.new.items ≡ length lanes.old.items }
+{
+    if is_sweep(question.task.work) {
+        answer_swept(rt, alloc, question)
+    } else {
+        answer_with_lanes(rt, alloc, question, lanes, gate)
+    }
+}
+
 /// The reply to a request on some lanes, of which as many of the first are used as it asks for.
 pub(crate) fn reply_on_lanes<R: Threads + Wait + Sync, T: Target + Send, G: Gate + Sync>(
     rt: &R,
@@ -125,7 +199,7 @@ pub(crate) fn reply_on_lanes<R: Threads + Wait + Sync, T: Target + Send, G: Gate
     lanes: &mut Vec<T>,
     gate: &G,
 ) -> Result<Reply, NoMemory>
-    requires servable { IsServable (min (vec_len lanes.old) 16) request }
+    requires servable { IsServable lines.All (min (vec_len lanes.old) 16) request }
     ensures done { IfOk result (λ reply. IsAnswered request (lanes_told T.calls T.faults lanes.old.items lanes.new.items) reply.answer (string_bytes reply.text)) }
     ensures memory { IfErr result (λ e. HaveMade (lanes_told T.calls T.faults lanes.old.items lanes.new.items)) }
     ensures others { drop 16 lanes.new.items ≡ drop 16 lanes.old.items }

@@ -9,4 +9,4 @@ mod task;
 mod top;
 mod words;
 
-pub use top::{portable_alone, portable_stimulus};
+pub use top::{portable_alone, portable_stimulus, portable_sweep};

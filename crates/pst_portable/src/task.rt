@@ -3,7 +3,7 @@ ghost use Rattle.std.specs.Prelude.{◌≡◌, map, string_bytes};
 ghost use Rattle.pst_line_parts.specs.Lines.{AreBehind};
 ghost use Rattle.pst_outcome.specs.Tasks.{IsWork, AreLimits, IsTask};
 
-use pst_line_parts::{infer_given, lanes_given, size_given, space_given};
+use pst_line_parts::{infer_given, lanes_given, over_given, seeds_given, size_given, space_given};
 use pst_outcome::{Task, Work};
 use pst_words::{Command, Key, Line};
 
@@ -27,12 +27,18 @@ fn work_of(line: &Line<'_>) -> Work
             let lanes = lanes_given(line);
             Work::Generate { size, lanes }
         }
-        Command::Static => Work::Unbuilt,
+        Command::Static => {
+            let over = over_given(line);
+            Work::Static { over }
+        }
         Command::Place => {
             let space = space_given(line);
             Work::Place { space }
         }
-        Command::Sweep => Work::Unbuilt,
+        Command::Sweep => {
+            let (first, count) = seeds_given(line);
+            Work::Sweep { first, count }
+        }
     }
 }
 

@@ -8,7 +8,7 @@ ghost use Rattle.pst_outcome.specs.Outcome.{IsOwed};
 ghost use Rattle.pst_outcome.specs.Delivered.{Answers, writing};
 ghost use Rattle.pst_portable.specs.Replies.{Delivers};
 
-use crate::asked::{reply_alone, reply_on_lanes};
+use crate::asked::{reply_alone, reply_on_lanes, reply_swept};
 use crate::words::request_of_words;
 use pst_base::NoMemory;
 use pst_io::{Shelf, Sink, write_all};
@@ -76,6 +76,45 @@ pub fn portable_alone<S: Shelf, K: Sink, T: Target>(
     }
 }
 
+// The reply to words that ask for a sweep.
+fn reply_to_sweep<S: Shelf>(
+    rt: &(impl Threads + Sync),
+    alloc: Global,
+    words: &[String],
+    shelf: &mut S,
+) -> Result<Reply, NoMemory>
+    ensures same_files { S.files shelf.new ≡ S.files shelf.old }
+    ensures owed { IfOk result (λ reply. IsOwed lines.SweepAlone 1 (map string_bytes words.now) (S.files shelf.old) (S.faults shelf.old) (S.faults shelf.new) [] reply.answer (string_bytes reply.text)) }
+    ensures unopened { ((command : Command) (arguments : List (List ℕ)) → IsLine lines.SweepAlone 1 (map string_bytes words.now) command arguments → ⊥) → S.rest shelf.new ≡ S.rest shelf.old }
+{
+    let request = request_of_words(alloc, Lines::SweepAlone, 1, words, shelf)?;
+    reply_swept(rt, alloc, request)
+}
+
+/// Answers words that ask for a sweep: it reads the words and the files of the line, makes the model of
+/// its sources, and seeks the first legal scenario of each of many seeds, in several threads where these
+/// can be started. Words with another command are no line. It returns.
+pub fn portable_sweep<S: Shelf, K: Sink>(
+    rt: &(impl Threads + Sync),
+    alloc: Global,
+    words: &[String],
+    shelf: &mut S,
+    sink: &mut K,
+) -> Answer
+    // Each answer comes only where it is right, and its text was written and nothing else.
+    ensures answer { Answers lines.SweepAlone 1 (map string_bytes words.now) (S.files shelf.old) (S.faults shelf.old) (S.faults shelf.new) []
+        (writing (K.written sink.old) (K.written sink.new) (K.faults sink.old) (K.faults sink.new)) result }
+    ensures same_files { S.files shelf.new ≡ S.files shelf.old }
+
+    // Words that are no line are refused before any file is opened.
+    ensures unopened { ((command : Command) (arguments : List (List ℕ)) → IsLine lines.SweepAlone 1 (map string_bytes words.now) command arguments → ⊥) → S.rest shelf.new ≡ S.rest shelf.old }
+{
+    match reply_to_sweep(rt, alloc, words, shelf) {
+        Ok(reply) => deliver(sink, reply),
+        Err(NoMemory) => Answer::NoMemory,
+    }
+}
+
 // How many lanes a line may have: those that are there, and at most 16.
 fn most_lanes(count: usize) -> u32
     ensures { result ≡ min count 16 }
@@ -105,10 +144,10 @@ fn reply_to_words_on<R: Threads + Wait + Sync, S: Shelf, T: Target + Send, G: Ga
     reply_on_lanes(rt, alloc, request, lanes, gate)
 }
 
-/// Answers words on the lanes, for every command: as `portable_alone` does, on the first of them, but
-/// that a scenario is run on as many of the first lanes as the line says, each with a worker that passes
-/// the gate before each body. `static`, `place` and `sweep` aren't built yet. Where no lane is handed in
-/// no words are a line. It promises nothing of its return.
+/// Answers words on the lanes, for every command: as `portable_alone` does, on the first of them, and as
+/// `portable_sweep` does where a sweep is asked for, but that a scenario is run on as many of the first
+/// lanes as the line says, each with a worker that passes the gate before each body. `static` isn't
+/// built yet. Where no lane is handed in no words are a line. It promises nothing of its return.
 pub fn portable_stimulus<
     R: Threads + Wait + Sync,
     S: Shelf,

@@ -26,7 +26,7 @@ fn request_of_front(line: &Line<'_>, front: LineFront) -> Request
     requires behind { AreBehind line.now.command (map string_bytes line.now.arguments.now) }
     requires sound { HasSoundModel front.stage }
     requires small { length (bytes_of front.trace) ≤ most_trace }
-    ensures servable { (lines : AnyLines) (have : ℕ) (words : List (List ℕ)) → have ≤ 16 → IsLine lines have words line.now.command (map string_bytes line.now.arguments.now) → IsServable have result }
+    ensures servable { (lines : AnyLines) (have : ℕ) (words : List (List ℕ)) → have ≤ 16 → IsLine lines have words line.now.command (map string_bytes line.now.arguments.now) → IsServable lines have result }
     ensures done { (lanes : List Lane) (answer : AnyAnswer) (text : List ℕ) → IsAnswered result lanes answer text
         → IsDone line.now.command (map string_bytes line.now.arguments.now) (bytes_of front.trace) lanes (front_of front.stage) answer text }
 {
@@ -51,7 +51,7 @@ fn request_of_line<S: Shelf>(
 ) -> Result<Request, NoMemory>
     requires { AreBehind line.now.command (map string_bytes line.now.arguments.now) }
     ensures same_files { S.files shelf.new ≡ S.files shelf.old }
-    ensures servable { IfOk result (λ request. (lines : AnyLines) (have : ℕ) (words : List (List ℕ)) → have ≤ 16 → IsLine lines have words line.now.command (map string_bytes line.now.arguments.now) → IsServable have request) }
+    ensures servable { IfOk result (λ request. (lines : AnyLines) (have : ℕ) (words : List (List ℕ)) → have ≤ 16 → IsLine lines have words line.now.command (map string_bytes line.now.arguments.now) → IsServable lines have request) }
     ensures is { IfOk result (λ request. (lines : AnyLines) (have : ℕ) (words : List (List ℕ)) → IsLine lines have words line.now.command (map string_bytes line.now.arguments.now)
         → IsRequest lines have words (S.files shelf.old) (S.faults shelf.old) (S.faults shelf.new) request) }
 {
@@ -79,7 +79,7 @@ pub(crate) fn request_of_words<S: Shelf>(
 ) -> Result<Request, NoMemory>
     requires { have ≤ 16 }
     ensures same_files { S.files shelf.new ≡ S.files shelf.old }
-    ensures servable { IfOk result (IsServable have) }
+    ensures servable { IfOk result (IsServable lines have) }
     ensures is { IfOk result (IsRequest lines have (map string_bytes words.now) (S.files shelf.old) (S.faults shelf.old) (S.faults shelf.new)) }
     ensures unopened { ((command : AnyCommand) (arguments : List (List ℕ)) → IsLine lines have (map string_bytes words.now) command arguments → ⊥) → S.rest shelf.new ≡ S.rest shelf.old }
 {

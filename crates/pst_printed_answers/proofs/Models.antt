@@ -17,7 +17,7 @@ use Rattle.pst_outcome.specs.declared.answer.Answer.{Answer}
 use Rattle.pst_outcome.specs.declared.task.Task.{Task}
 use Rattle.pst_outcome.specs.declared.task.Work.{Work}
 use Rattle.pst_outcome.specs.declared.task.Work.TheVariants as work
-use Rattle.pst_outcome.specs.Models.{OfScenario, OfModel, HasNone, IsSpent, IsFound, IsUnbuilt}
+use Rattle.pst_outcome.specs.Models.{OfScenario, OfModel, HasNone, IsSpent, IsFound, IsSwept}
 use Rattle.pst_outcome.specs.Laws.{IsSpentBudget}
 use Rattle.pst_printed_answers.specs.Names.{ArePrinted}
 use Rattle.pst_printed_answers.specs.Taken.{Takes, ScenariosAreTaken, ModelsAreTaken}
@@ -45,8 +45,8 @@ abbrev is_check : Work → Type 0
 is_check work.Check = Unit {0}
 is_check other = ⊥
 
-not_both : (w : Work) → w ≡ work.Unbuilt → w ≡ work.Check → ⊥
-not_both w one other = subst is_check (sym other ∙ one) tt
+not_swept : (w : Work) (start many : ℕ) → w ≡ work.Sweep start many → w ≡ work.Check → ⊥
+not_swept w start many one other = subst is_check (sym other ∙ one) tt
 
 module _ (scenarios : ScenariosAreTaken) (one_first : FirstIsOne) (built : WholeReadingsAreBuilt) (names : List (List ℕ)) (m : ModelTree) (root : ℕ) (task other : Task) (trace : List ℕ) (lanes told : List Lane) (count : ℕ)
     (printed : ArePrinted names) (few : count ≤ 16) (runs : task.work ≡ work.Run count) (checks : other.work ≡ work.Check) (seeds : other.seed ≡ task.seed) (enough : task.infer ≤ other.infer) where
@@ -68,11 +68,11 @@ module _ (scenarios : ScenariosAreTaken) (one_first : FirstIsOne) (built : Whole
   taken : (answer given : Answer) (text said : List ℕ) → OfModel names m root task trace lanes answer text → OfModel names m root other text told given said → IsSpentBudget given ⊎ Takes answer given
   taken _ given _ said (HasNone sought calm none) judged = inr tt
   taken _ given _ said (IsSpent level sought calm low spent) judged = inr tt
-  taken _ given _ said (IsUnbuilt unbuilt calm) judged = inr tt
+  taken _ given _ said (IsSwept start many rows found _ swept calm h shown) judged = inr tt
   taken answer _ text _ (IsFound s p _ _ first planned ran) (HasNone sought calm none) =
       let low = first.few in absurd (none s (omega (arith, low, enough)) first.reads.legal)
   taken answer _ text _ (IsFound s p _ _ first planned ran) (IsSpent level sought calm low spent) = inl tt
-  taken answer _ text _ (IsFound s p _ _ first planned ran) (IsUnbuilt unbuilt calm) = absurd (not_both other.work unbuilt checks)
+  taken answer _ text _ (IsFound s p _ _ first planned ran) (IsSwept start many rows found _ swept calm h shown) = absurd (not_swept other.work start many swept checks)
   taken answer given text said (IsFound s p _ _ first planned ran) (IsFound r q _ _ too later judged) =
       inr (of_found s r p q answer given text said (one_first m root other.seed other.infer r s too (first_too s first)) first planned ran judged)
 

@@ -127,7 +127,8 @@ sought work.Solve several = absurd several
 sought work.Check several = absurd several
 sought (work.Generate size lanes) several = tt
 sought (work.Place space) several = absurd several
-sought work.Unbuilt several = absurd several
+sought (work.Static over) several = absurd several
+sought (work.Sweep first count) several = absurd several
 
 module _ (names : List (List ℕ)) (m : ModelTree) (root : ℕ) (task : Task) (told : List Lane) where
   pub found_owed : (s : Scenario) (plan : Entries) (r : Result Reply NoMemory) → Searches m root task.seed task.infer task.budget (Ok (s, plan)) → ((trace : List ℕ) → RepliesOn names m s plan trace told task.work r)

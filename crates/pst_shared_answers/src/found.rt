@@ -45,6 +45,7 @@ pub(crate) fn reply_to_found<R: Threads + Wait + Sync, T: Target + Send, G: Gate
         Work::Solve => unreachable!(),
         Work::Check => unreachable!(),
         Work::Place { space: _ } => unreachable!(),
-        Work::Unbuilt => unreachable!(),
+        Work::Static { .. } => unreachable!(),
+        Work::Sweep { .. } => unreachable!(),
     }
 }

@@ -2,7 +2,9 @@
 #![tactic(auto)]
 
 mod answer;
+mod laws;
 mod show;
 
 pub use answer::{ShownStatic, StaticAnswer};
+pub use laws::static_answers_are_one;
 pub use show::show_static;

@@ -1,5 +1,5 @@
 //! The programs of a scenario's plan with their text.
-ghost use Rattle.std.specs.Prelude.{◌≡◌, ◌*◌, ◌+◌, ◌<◌, ◌≤◌, ◌^◌, length, string_bytes, IfOk};
+ghost use Rattle.std.specs.Prelude.{◌≡◌, ◌≤◌, length, string_bytes, IfOk};
 ghost use Rattle.pst_model.specs.ModelView.{view_model};
 ghost use Rattle.pst_scen.specs.Plan.{widest};
 ghost use Rattle.pst_scen.specs.Plans.{IsPlanOf};
@@ -12,7 +12,7 @@ use pst_model::Model;
 use pst_program_texts::{count_instructions, write_programs};
 use pst_programs::Program;
 use pst_scen::{Plan, Scenario};
-use pst_static::{lane_programs, programs_are_few};
+use pst_static::lane_programs;
 use pst_trace_writer::header;
 use std::alloc::Global;
 
@@ -44,13 +44,17 @@ fn text_of(
     }
 }
 
-/// How many instructions the programs of 16 lanes at most have, where they are few.
-fn instructions_of(programs: &[Program]) -> u32
-    requires lanes { length programs.now ≤ 16 }
-    requires few { instructions programs.now < 2 ^ 32 }
-    ensures { result ≡ instructions programs.now }
+/// How many instructions the programs of 16 lanes at most have. A legal scenario has few actions, so
+/// their number is below 2^32; of any other it may not be, and then it finds no room.
+fn instructions_of(programs: &[Program]) -> Result<u32, NoMemory>
+    requires { length programs.now ≤ 16 }
+    ensures { IfOk result (λ count. count ≡ instructions programs.now) }
 {
-    count_instructions(programs) as u32
+    let count = count_instructions(programs);
+    if count > 0xFFFF_FFFF {
+        return Err(NoMemory);
+    }
+    Ok(count as u32)
 }
 
 /// The programs for so many lanes, which are enough, with their text.
@@ -63,15 +67,13 @@ fn show_programs(
     over: u32,
 ) -> Result<ShownStatic, NoMemory>
     requires planned { IsPlanOf scenario.now plan.now }
-    requires small { length scenario.now.actions ≤ 16384 }
     requires some { 1 ≤ over }
     requires few { over ≤ 16 }
     requires wide { widest plan.now.groups ≤ over }
     ensures { IfOk result (λ shown. ShowsStatic names.now (view_model model.now) scenario.now plan.now over shown.answer (string_bytes shown.text)) }
 {
-    programs_are_few();
     let programs = lane_programs(alloc, plan, over)?;
-    let instructions = instructions_of(&programs);
+    let instructions = instructions_of(&programs)?;
     let text = text_of(alloc, names, model, scenario, &programs)?;
     Ok(ShownStatic {
         answer: StaticAnswer::Static { instructions },
@@ -90,7 +92,6 @@ pub fn show_static(
     over: u32,
 ) -> Result<ShownStatic, NoMemory>
     requires planned { IsPlanOf scenario.now plan.now }
-    requires small { length scenario.now.actions ≤ 16384 }
     requires some { 1 ≤ over }
     requires few { over ≤ 16 }
     ensures { IfOk result (λ shown. ShowsStatic names.now (view_model model.now) scenario.now plan.now over shown.answer (string_bytes shown.text)) }

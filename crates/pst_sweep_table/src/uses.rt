@@ -83,11 +83,19 @@ impl Uses {
         Ok(Uses { types, used })
     }
 
+    /// How many actions are of the type of that number in a list of types.
+    pub fn count_at(&self, number: usize) -> u32
+        requires { number < length self.now }
+        ensures { result ≡ get_or self.now number 0 }
+    {
+        count_in(&self.used, number)
+    }
+
     /// How many actions are of the type of that number.
     pub fn count(&self, action: u32) -> u32
         requires { action < length self.now }
         ensures { result ≡ get_or self.now action 0 }
     {
-        count_in(&self.used, action as usize)
+        self.count_at(action as usize)
     }
 }

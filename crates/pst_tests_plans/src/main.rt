@@ -9,6 +9,7 @@
 mod alone;
 mod gates;
 mod judge;
+mod machines;
 mod plans;
 mod runs;
 mod several;
@@ -45,6 +46,9 @@ fn answer<R: Threads + Wait + Sync>(
     match call {
         "alone" | "twice" => alone::answer(alloc, scenario, &plan, call, number, commands),
         "run" | "events" | "book" => runs::answer(alloc, scenario, &plan, call, number, commands),
+        "programs" | "machine" | "driven" => {
+            machines::answer(alloc, scenario, &plan, call, number, commands)
+        }
         "many" | "every" | "fails" | "meets" => {
             let found = several::answer(rt, alloc, scenario, &plan, call, number, commands)?;
             String::from_str(alloc, found)

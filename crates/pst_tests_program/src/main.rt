@@ -22,6 +22,9 @@
 //! - `judged`: what `check` answers to the text.
 //! - `writes`: the status, and for how many writes of the text, where that one fails, the status isn't
 //!   7, or something else was written than what stands before it.
+//! - `swept`: by the call that answers sweeps alone. `swept writes`: the same as `writes`, by that call.
+//! - `rows`: how many rows a sweep has, and how many of them say something else than `solve` does of
+//!   their seed.
 //! - `cuts`: how many fronts of a source have another status than 1, and the status of the source.
 //! - `model C::A`: the model of the sources and that root, in the form of `model_text` of
 //!   `pst_model_texts`; where they have none the rule that they break with its place, or how many
@@ -40,6 +43,7 @@ mod output;
 mod runs;
 mod shelves;
 mod sinks;
+mod sweeps;
 mod system;
 mod writes;
 
@@ -89,6 +93,9 @@ fn answer<R: Threads + Wait + Sync + AllocGlobal>(
         "judged" => calls::judged(alloc, text),
         "writes" => writes::breaks(alloc, text),
         "cuts" => cuts::answers(alloc, text),
+        "swept" => sweeps::swept(rt, alloc, text),
+        "swept writes" => sweeps::breaks(rt, alloc, text),
+        "rows" => sweeps::rows(rt, alloc, text),
         "lanes" | "faulty" | "shared" | "each" | "behind" | "together" => {
             on_several(rt, heading, text)
         }

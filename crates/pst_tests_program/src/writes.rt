@@ -3,12 +3,11 @@ use crate::calls::written;
 use pst_tests_settings::{bytes_a_write, failing_of, setting_of};
 use std::alloc::{AllocError, Global};
 
-// Whether the status is 7 where that write fails, and all that was written is what stands before it.
-fn breaks_there(alloc: Global, text: &str, write: usize, whole: &[u8]) -> Result<bool, AllocError> {
-    let (status, bytes) = written(alloc, failing_of(alloc, text, write as u64)?)?;
+/// Whether the status is 7 where that write fails, and all that was written is what stands before it.
+pub fn is_broken_at(text: &str, write: usize, whole: &[u8], status: u8, bytes: &[u8]) -> bool {
     let before = write.saturating_sub(1).saturating_mul(bytes_a_write(text));
     let (front, _behind) = whole.split_at(before.min(whole.len()));
-    Ok(status == 7 && bytes.as_slice() == front)
+    status == 7 && bytes == front
 }
 
 /// The status, and for how many writes of the text, where that one fails, the status isn't 7, or
@@ -19,7 +18,8 @@ pub fn breaks(alloc: Global, text: &str) -> Result<String, AllocError> {
     let count = whole.len().div_ceil(most);
     let mut wrong = 0u32;
     for write in 1..=count {
-        if !breaks_there(alloc, text, write, whole.as_slice())? {
+        let (broken, bytes) = written(alloc, failing_of(alloc, text, write as u64)?)?;
+        if !is_broken_at(text, write, whole.as_slice(), broken, bytes.as_slice()) {
             wrong = wrong.wrapping_add(1);
         }
     }

@@ -19,6 +19,9 @@ answer_model-requires-clause-few g c = few_lines c.trace_of-trace.result.now (su
 pub answer_model-requires-clause-alone : goal.answer_model-requires-clause-alone
 answer_model-requires-clause-alone g c = c.requires.fits
 
+pub answer_model-requires-clause-unswept : goal.answer_model-requires-clause-unswept
+answer_model-requires-clause-unswept g c = c.requires.asked
+
 pub returns-clause-done : goal.returns-clause-done
 returns-clause-done g c =
     let l = lane (g.T.Target.calls c.args.lane.now) (g.T.Target.calls c.answer_model.new.lane) (g.T.Target.faults c.args.lane.now) (g.T.Target.faults c.answer_model.new.lane) in

@@ -14,6 +14,7 @@ answer_alone-requires g c =
       some = omega arith;
       few = omega arith;
       fits = fits_one c.args.question.now.task.work (min c.args.lanes.now.len 16) ready.fits c.requires.one;
+      asked = ready.asked;
     }
 
 pub returns-clause-done : goal.returns-clause-done

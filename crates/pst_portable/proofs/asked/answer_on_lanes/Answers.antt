@@ -1,26 +1,40 @@
-use Rattle.std.proofs.Common.{min, length, arith}
-use Rattle.pst_outcome.specs.Outcome.{bytes_of}
-use Rattle.pst_portable.proofs.Tasks.{fits_more}
-use Rattle.pst_portable.proofs.Done.{behind_first}
+use Rattle.std.proofs.Common.{min, arith}
+use Rattle.std.specs.Prelude.{IfErr}
+use Rattle.pst_run_alone.specs.Lanes.{lanes_told, HaveMade}
+use Rattle.pst_shared_answers.proofs.PassedOn.{all_made}
+use Rattle.pst_portable.proofs.Tasks.{fits_swept}
+use Rattle.pst_portable.proofs.Done.{none_called, on_memory}
 use Rattle.pst_portable.proofs.asked.answer_on_lanes.Goals as goal
 
-pub answer_on_first-requires-clause-ready : goal.answer_on_first-requires-clause-ready
-answer_on_first-requires-clause-ready g c = c.requires.ready
+pub answer_swept-requires : goal.answer_swept-requires
+answer_swept-requires g c =
+    let ready = c.requires.ready in λ names lives. record {
+      sound = ready.sound;
+      concrete = ready.concrete;
+      small = ready.small;
+      some = omega arith;
+      few = omega arith;
+      fits = fits_swept c.args.question.now.task.work (min c.args.lanes.now.len 16) ready.fits (c.if-is_sweep.ensures);
+      asked = c.if-is_sweep.ensures;
+    }
 
-pub returns-then-not-is_several-clause-others : goal.returns-then-not-is_several-clause-others
-returns-then-not-is_several-clause-others g c = behind_first c.args.lanes.now.items c.answer_on_first.new.lanes.items c.answer_on_first.ensures.others
+pub answer_with_lanes-requires-clause-ready : goal.answer_with_lanes-requires-clause-ready
+answer_with_lanes-requires-clause-ready g c =
+    let ready = c.requires.ready in λ names lives. record {
+      sound = ready.sound;
+      concrete = ready.concrete;
+      small = ready.small;
+      some = ready.some;
+      few = ready.few;
+      fits = ready.fits;
+      asked = c.if-is_sweep.ensures;
+    }
 
-pub answer_shared-requires-clause-sound : goal.answer_shared-requires-clause-sound
-answer_shared-requires-clause-sound g c = λ names lives. c.requires.ready.sound
+pub returns-then-is_sweep-clause-done : goal.returns-then-is_sweep-clause-done
+returns-then-is_sweep-clause-done g c =
+    c.answer_swept.ensures (lanes_told g.T.Target.calls g.T.Target.faults c.args.lanes.now.items c.args.lanes.now.items) (none_called g.T.Target.calls g.T.Target.faults c.args.lanes.now.items)
 
-pub answer_shared-requires-clause-concrete : goal.answer_shared-requires-clause-concrete
-answer_shared-requires-clause-concrete g c = λ names lives. c.requires.ready.concrete
-
-pub answer_shared-requires-clause-fits : goal.answer_shared-requires-clause-fits
-answer_shared-requires-clause-fits g c = λ names lives. (
-  fits_more c.args.question.now.task.work (min c.args.lanes.now.len 16) 16 c.requires.ready.few c.requires.ready.fits,
-  fits_more c.args.question.now.task.work (min c.args.lanes.now.len 16) (length c.args.lanes.now.items) (let same = c.args.lanes.now.ok.0 in omega (arith, same)) c.requires.ready.fits,
-)
-
-pub returns-clause-done : goal.returns-clause-done
-returns-clause-done g c = c.answer_shared.ensures.owed (bytes_of c.args.question.now.trace)
+pub returns-then-is_sweep-clause-memory : goal.returns-then-is_sweep-clause-memory
+returns-then-is_sweep-clause-memory g c =
+    let told = lanes_told g.T.Target.calls g.T.Target.faults c.args.lanes.now.items c.args.lanes.now.items in
+    on_memory (HaveMade told) c.answer_swept.result (all_made told (none_called g.T.Target.calls g.T.Target.faults c.args.lanes.now.items))

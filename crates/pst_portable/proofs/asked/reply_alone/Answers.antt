@@ -2,12 +2,13 @@ use Rattle.std.proofs.Common.{[], ◌∷◌, string_bytes, refl, sym, subst}
 use Rattle.std.specs.Prelude.{IfOk}
 use Rattle.pst_run_alone.specs.Lanes.{lane}
 use Rattle.pst_shared_answers.proofs.PassedOn.{one_uncalled}
+use Rattle.pst_words.specs.declared.command.Lines.TheVariants.{WithoutSweep}
 use Rattle.pst_portable.specs.declared.request.Request.{Request}
 use Rattle.pst_portable.specs.Requests.{IsServable, IsAnswered}
 use Rattle.pst_portable.proofs.asked.reply_alone.Goals as goal
 
 pub answer_alone-requires : goal.answer_alone-requires
-answer_alone-requires g c = subst (IsServable 1) c.in-Asked.is c.requires
+answer_alone-requires g c = subst (IsServable WithoutSweep 1) c.in-Asked.is c.requires
 
 pub returns-in-Answered-clause-done : goal.returns-in-Answered-clause-done
 returns-in-Answered-clause-done g c =

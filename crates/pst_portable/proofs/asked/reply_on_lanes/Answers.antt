@@ -1,13 +1,14 @@
 use Rattle.std.proofs.Common.{string_bytes, refl, sym, subst}
 use Rattle.std.specs.Prelude.{IfOk, min}
 use Rattle.pst_run_alone.specs.Lanes.{lanes_told}
+use Rattle.pst_words.specs.declared.command.Lines.TheVariants.{All}
 use Rattle.pst_portable.specs.declared.request.Request.{Request}
 use Rattle.pst_portable.specs.Requests.{IsServable, IsAnswered}
 use Rattle.pst_portable.proofs.Done.{none_called}
 use Rattle.pst_portable.proofs.asked.reply_on_lanes.Goals as goal
 
 pub answer_on_lanes-requires-clause-ready : goal.answer_on_lanes-requires-clause-ready
-answer_on_lanes-requires-clause-ready g c = λ names lives. subst (IsServable (min c.args.lanes.now.len 16)) c.in-Asked.is c.requires.servable
+answer_on_lanes-requires-clause-ready g c = λ names lives. subst (IsServable All (min c.args.lanes.now.len 16)) c.in-Asked.is c.requires.servable
 
 pub returns-in-Answered-clause-done : goal.returns-in-Answered-clause-done
 returns-in-Answered-clause-done g c =

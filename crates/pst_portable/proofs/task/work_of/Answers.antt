@@ -13,7 +13,16 @@ returns-in-Gen c =
     subst (λ (k : Command). IsWork k (map string_bytes c.args.line.now.arguments.now) (work.Generate c.size_given-size.result c.lanes_given-lanes-in-Gen.result)) (sym c.in-Gen.is)
     (c.size_given-size.result, c.lanes_given-lanes-in-Gen.result, c.size_given-size.ensures, c.lanes_given-lanes-in-Gen.ensures, refl)
 
+pub returns-in-Sweep : goal.returns-in-Sweep
+returns-in-Sweep c =
+    subst (λ (k : Command). IsWork k (map string_bytes c.args.line.now.arguments.now) (work.Sweep c.seeds_given.result.0 c.seeds_given.result.1)) (sym c.in-Sweep.is)
+    (c.seeds_given.result.0, c.seeds_given.result.1, c.seeds_given.ensures.first, c.seeds_given.ensures.count, refl)
+
 pub returns-in-Place : goal.returns-in-Place
 returns-in-Place c =
     subst (λ (k : Command). IsWork k (map string_bytes c.args.line.now.arguments.now) (work.Place c.space_given-space.result)) (sym c.in-Place.is)
     (c.space_given-space.result.base, c.space_given-space.result.size, c.space_given-space.ensures.base, c.space_given-space.ensures.size, refl)
+
+pub returns-in-Static : goal.returns-in-Static
+returns-in-Static c =
+    subst (λ (k : Command). IsWork k (map string_bytes c.args.line.now.arguments.now) (work.Static c.over_given-over.result)) (sym c.in-Static.is) (c.over_given-over.result, c.over_given-over.ensures, refl)

@@ -11,7 +11,7 @@ request_of_line-requires g c = (c.args.have, c.in-Ok.ensures.whole)
 
 pub returns-in-Ok-clause-servable : goal.returns-in-Ok-clause-servable
 returns-in-Ok-clause-servable g c =
-    at_line (λ (x : Request). (ls : Lines) (n : ℕ) (ws : List (List ℕ)) → n ≤ 16 → IsLine ls n ws c.in-Ok.line.command (map string_bytes c.in-Ok.line.arguments.now) → IsServable n x) (IsServable c.args.have)
+    at_line (λ (x : Request). (ls : Lines) (n : ℕ) (ws : List (List ℕ)) → n ≤ 16 → IsLine ls n ws c.in-Ok.line.command (map string_bytes c.in-Ok.line.arguments.now) → IsServable ls n x) (IsServable c.args.lines c.args.have)
     c.request_of_line.result (λ x h. h c.args.lines c.args.have (map string_bytes c.args.words.now) c.requires c.in-Ok.ensures) c.request_of_line.ensures.servable
 
 pub returns-in-Ok-clause-is : goal.returns-in-Ok-clause-is
@@ -27,7 +27,7 @@ pub returns-in-Ok-clause-unopened : goal.returns-in-Ok-clause-unopened
 returns-in-Ok-clause-unopened g c = λ none. absurd (none c.in-Ok.line.command (map string_bytes c.in-Ok.line.arguments.now) c.in-Ok.ensures)
 
 pub returns-in-Err-clause-servable : goal.returns-in-Err-clause-servable
-returns-in-Err-clause-servable g c = unlined_servable c.in-Err.word c.args.have c.request_of_no_line.result c.request_of_no_line.ensures
+returns-in-Err-clause-servable g c = unlined_servable c.args.lines c.in-Err.word c.args.have c.request_of_no_line.result c.request_of_no_line.ensures
 
 pub returns-in-Err-clause-is : goal.returns-in-Err-clause-is
 returns-in-Err-clause-is g c =

@@ -42,3 +42,15 @@ returns-in-Generate-clause-others g c =
 
 pub unreachable-requires : goal.unreachable-requires
 unreachable-requires g c = subst IsSeveral c.in-Solve.is c.requires.several
+
+pub unreachable-requires-in-Check : goal.unreachable-requires-in-Check
+unreachable-requires-in-Check g c = subst IsSeveral c.in-Check.is c.requires.several
+
+pub unreachable-requires-in-Place : goal.unreachable-requires-in-Place
+unreachable-requires-in-Place g c = subst IsSeveral c.in-Place.is c.requires.several
+
+pub unreachable-requires-in-Static : goal.unreachable-requires-in-Static
+unreachable-requires-in-Static g c = subst IsSeveral c.in-Static.is c.requires.several
+
+pub unreachable-requires-in-Sweep : goal.unreachable-requires-in-Sweep
+unreachable-requires-in-Sweep g c = subst IsSeveral c.in-Sweep.is c.requires.several
