@@ -54,8 +54,9 @@ impl<'a> Model for Book<'a> {
 
 impl<'a> Book<'a> {
     /// The book of a run in which nothing has started. It reserves the whole trace, so no later
-    /// call takes memory. The scenario has fewer than 2^31 actions, and the lanes, from 1 to 16, are
-    /// enough for the widest group.
+    /// call takes memory. The plan is the scenario's, which has fewer than 2^31 actions, and the lanes,
+    /// from 1 to 16, are enough for the widest group. Links of state references lead to outputs of the
+    /// same pool, and no two outputs to one pool have the same link.
     pub fn new(
         alloc: Global,
         scenario: &'a Scenario,

@@ -83,9 +83,12 @@ fn check_marked(
     completed(plan, &all)
 }
 
-/// Judges a trace, on any number of lanes. The events are whole blocks, and the plan is the
-/// scenario's. It takes no memory. The first blocks that keep the core's rule are followed with counts;
-/// those behind them are judged one by one.
+/// Judges a trace, on any number of lanes. It takes no memory. The first blocks that keep the core's
+/// rule are followed with counts; those behind them are judged one by one.
+///
+/// The events are whole blocks, and the plan is the scenario's, which has fewer than 2^31 actions.
+/// Links of state references lead to outputs of the same pool, and no two outputs to one pool have the same
+/// link. The nodes stand in preorder, and each action has one leaf at most.
 pub fn check(scenario: &Scenario, plan: &Plan, events: &[Event]) -> Verdict
     requires links { LinksStates scenario.now }
     requires planned { IsPlanOf scenario.now plan.now }

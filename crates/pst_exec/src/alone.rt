@@ -90,7 +90,8 @@ fn run_rest<T: Target>(
 /// Runs a scenario on one lane, one action after another, in the order in which the book starts them.
 ///
 /// The model is sound, each action of the scenario is of a type that there is, and the plan is the scenario's, which has fewer
-/// than 2^31 actions. `Narrow` comes exactly where the widest group has more than one member, before any call. Where all
+/// than 2^31 actions. Links of state references lead to outputs of the same pool, and no two outputs to one pool have the same link.
+/// `Narrow` comes exactly where the widest group has more than one member, before any call. Where all
 /// bodies end, the book holds the whole trace. Where a lane fails or a body traps, it holds the trace up to the start of that
 /// action. The calls made stay in the lane's list, behind those before.
 pub fn run_one<'a, T: Target>(

@@ -51,8 +51,8 @@ fn reply_to_words<S: Shelf, T: Target>(
 
 /// Answers words on one lane, for every command but `sweep`: it reads the words and the files of the
 /// line, makes the model of its sources, seeks its first legal scenario, and runs it on the lane, prints
-/// its header, judges a trace against it, or places what its actions ask for. `static` isn't built yet.
-/// It returns.
+/// its header, judges a trace against it, makes the programs of lanes without an executive, or places
+/// what its actions ask for. It returns.
 pub fn portable_alone<S: Shelf, K: Sink, T: Target>(
     alloc: Global,
     words: &[String],
@@ -146,8 +146,8 @@ fn reply_to_words_on<R: Threads + Wait + Sync, S: Shelf, T: Target + Send, G: Ga
 
 /// Answers words on the lanes, for every command: as `portable_alone` does, on the first of them, and as
 /// `portable_sweep` does where a sweep is asked for, but that a scenario is run on as many of the first
-/// lanes as the line says, each with a worker that passes the gate before each body. `static` isn't
-/// built yet. Where no lane is handed in no words are a line. It promises nothing of its return.
+/// lanes as the line says, each with a worker that passes the gate before each body. Where no lane is
+/// handed in no words are a line. It promises nothing of its return.
 pub fn portable_stimulus<
     R: Threads + Wait + Sync,
     S: Shelf,

@@ -112,8 +112,9 @@ pub fn show_end(
 /// Runs a scenario on one lane, and makes the text of what that came to.
 ///
 /// The model is sound, each action of the scenario is of a type that there is, and the plan is the
-/// scenario's, which has fewer than 2^31 actions. The answer is `Narrow` exactly where the widest
-/// group has more than one member. Where memory runs out, the calls made stay in the lane's list.
+/// scenario's, which has fewer than 2^31 actions. Links of state references lead to outputs of the same
+/// pool, and no two outputs to one pool have the same link. The answer is `Narrow` exactly where the widest group
+/// has more than one member. Where memory runs out, the calls made stay in the lane's list.
 pub fn show_run<T: Target>(
     alloc: Global,
     names: &Names,

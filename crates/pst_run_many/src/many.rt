@@ -219,7 +219,8 @@ fn run_on<'a, N: Name + Send + Sync, T: Target + Send, G: Gate + Sync, R: Thread
 /// Runs a scenario on the first lanes of a list, as many as `count` says, each with a worker of its own.
 ///
 /// The model is sound, each action of the scenario is of a type that there is, and the plan is the scenario's, which has fewer
-/// than 2^31 actions. `Narrow` comes exactly where the widest group has more members than `count`, before any call. Where all
+/// than 2^31 actions. Links of state references lead to outputs of the same pool, and no two outputs to one pool have the same link.
+/// `Narrow` comes exactly where the widest group has more members than `count`, before any call. Where all
 /// bodies end, the book holds a whole trace, and the new calls of each lane are the runs of the actions that started there, in that
 /// order. Where a lane fails or a body traps no group starts any more, and bodies that run go on to their end: the least lane on
 /// which a body broke is told, with its action, and the book holds the trace up to there. The calls made stay in the lanes' lists,

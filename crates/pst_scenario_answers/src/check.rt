@@ -70,6 +70,10 @@ fn answer_of(verdict: TraceVerdict) -> CheckAnswer
 
 /// Judges a trace file against a scenario, whose plan is given: its first bad line, or the first line
 /// that breaks a rule, or whether it is whole. The file has fewer than 2^32 - 2 line feeds.
+///
+/// The scenario has fewer than 2^31 actions. Links of state references lead to outputs of the same pool,
+/// and no two outputs to one pool have the same link. The nodes stand in preorder, and each
+/// action has one leaf at most.
 pub fn checked(
     alloc: Global,
     names: &Names,

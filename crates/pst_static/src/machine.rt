@@ -49,6 +49,8 @@ fn first_places(alloc: Global, count: usize) -> Result<Vec<usize>, NoMemory>
 impl<'a> Machine<'a> {
     /// The machine whose lanes all stand at the beginning. The programs are those of a scenario's
     /// plan for as many lanes as there are programs, from 1 to 16 and enough for the widest group.
+    /// Links of the scenario's state references lead to outputs of the same pool, and no two outputs to
+    /// one pool have the same link.
     /// It reserves the whole trace, so no later call takes memory.
     pub fn new(
         alloc: Global,

@@ -77,7 +77,11 @@ fn judge_events(
 /// Judges the text of a trace: the first line that breaks a rule, with the least rule that it
 /// breaks, or whether the trace is whole.
 ///
-/// The scenario's plan is given, and the events are whole blocks. A line of the header breaks rule 1
+/// The scenario's plan is given, and the events are whole blocks. It has fewer than 2^31 actions, links
+/// of state references lead to outputs of the same pool, and no two outputs to one pool have the same link; its
+/// nodes stand in preorder, and each action has one leaf at most.
+///
+/// A line of the header breaks rule 1
 /// where it isn't that of the scenario's header in the format of the text, the first line where there
 /// is no such header; a block breaks the rules of blocks; the last line breaks rule 10 where it doesn't
 /// fit. Where memory runs out, or a line's number isn't below 2^32, the answer is `NoMemory`.
