@@ -14,3 +14,5 @@ pub mod Going
 pub mod Founding
 pub mod Parting
 pub mod Marking
+pub mod Waits
+pub mod Orderly

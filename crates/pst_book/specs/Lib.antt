@@ -4,3 +4,4 @@ pub mod Tables
 pub mod Tied
 pub mod Parts
 pub mod Ready
+pub mod Waiting

@@ -12,6 +12,7 @@ ghost use Rattle.pst_book.specs.Books.{with_trace, IsShut, DidOpen};
 use crate::open::{count_members, start};
 use crate::ready::{all_marked, candidate, mark_row};
 use crate::run::Run;
+use crate::waiting::waiting;
 use pst_base::NoMemory;
 use pst_order::{
     core_is_by_rule, core_is_one, groups_are_whole, members_are_those, rule_fits, rule_goes_on,
@@ -35,7 +36,9 @@ pub struct Opened {
 #[derive(Drop)]
 pub struct Book<'a> {
     scenario: &'a Scenario,
-    run: Run<'a>,
+    plan: &'a Plan,
+    /// The run, by a plan of fewer pairs that waits as long.
+    run: Run,
     /// For each 64 actions whether the number of a group that is ready may lie there.
     ready: Vec<bool>,
 }
@@ -71,10 +74,11 @@ impl<'a> Book<'a> {
         requires wide { widest plan.now.groups ≤ lanes }
         ensures { IfOk result (λ b. b ≡ record { scenario = scenario.now; plan = plan.now; lanes = lanes; trace = [] }) }
     {
-        let run = Run::new(alloc, plan, lanes)?;
+        let run = Run::new(alloc, waiting(alloc, plan)?, lanes)?;
         let ready = all_marked(alloc, plan.len())?;
         Ok(Book {
             scenario,
+            plan,
             run,
             ready,
         })

@@ -11,6 +11,7 @@ mod ready;
 mod rows;
 mod run;
 mod tables;
+mod waiting;
 
 pub use book::{Book, Opened};
 pub use rows::{lower, raise};

@@ -7,7 +7,7 @@ ghost use Rattle.pst_book.specs.Books.{MayJoin, AllMayJoin, AreSoMany, CanStart,
 use crate::run::Run;
 
 /// Whether each member of the group of that number may start.
-pub(crate) fn all_may_join(run: &Run<'_>, group: u32) -> bool
+pub(crate) fn all_may_join(run: &Run, group: u32) -> bool
     requires group_in { group < length run.now.plan.groups }
     requires number { get_or run.now.plan.groups group 0 ≡ group }
     ensures { IsTrue result ↔ AllMayJoin run.now.plan run.now.trace group }
@@ -24,7 +24,7 @@ pub(crate) fn all_may_join(run: &Run<'_>, group: u32) -> bool
 }
 
 /// The number of members of the group of that number.
-pub(crate) fn count_members(run: &Run<'_>, group: u32) -> u32
+pub(crate) fn count_members(run: &Run, group: u32) -> u32
     requires group_in { group < length run.now.plan.groups }
     requires number { get_or run.now.plan.groups group 0 ≡ group }
     ensures { result ≡ length (members run.now.plan.groups group) }
@@ -40,7 +40,7 @@ pub(crate) fn count_members(run: &Run<'_>, group: u32) -> u32
 }
 
 /// The number of idle lanes.
-pub(crate) fn count_idle(run: &Run<'_>) -> u32
+pub(crate) fn count_idle(run: &Run) -> u32
     ensures { AreSoMany run.now.trace run.now.lanes result }
 {
     let mut count = 0;
@@ -53,7 +53,7 @@ pub(crate) fn count_idle(run: &Run<'_>) -> u32
 }
 
 /// Whether the group of that number can start, where so many lanes are idle.
-pub(crate) fn can_start(run: &Run<'_>, group: u32, idle: u32) -> bool
+pub(crate) fn can_start(run: &Run, group: u32, idle: u32) -> bool
     requires group_in { group < length run.now.plan.groups }
     requires idle { AreSoMany run.now.trace run.now.lanes idle }
     ensures { IsTrue result ↔ CanStart run.now.plan run.now.lanes run.now.trace group }
@@ -68,7 +68,7 @@ pub(crate) fn can_start(run: &Run<'_>, group: u32, idle: u32) -> bool
 }
 
 /// The least idle lane from a number on, or the number of lanes.
-fn next_idle(run: &Run<'_>, from: u32, lanes: u32) -> u32
+fn next_idle(run: &Run, from: u32, lanes: u32) -> u32
     requires from { from ≤ lanes }
     requires lanes { lanes ≡ run.now.lanes }
     ensures inside { (from ≤ result) × (result ≤ run.now.lanes) }
@@ -85,7 +85,7 @@ fn next_idle(run: &Run<'_>, from: u32, lanes: u32) -> u32
 
 /// Starts the members of the group of that number, of which there are so many and none has
 /// started, on the least idle lanes.
-pub(crate) fn start(run: &mut Run<'_>, group: u32, count: u32)
+pub(crate) fn start(run: &mut Run, group: u32, count: u32)
     requires group_in { group < length run.old.plan.groups }
     requires number { get_or run.old.plan.groups group 0 ≡ group }
     requires many { count ≡ length (members run.old.plan.groups group) }

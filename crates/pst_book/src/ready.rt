@@ -24,7 +24,7 @@ pub(crate) fn all_marked(alloc: Global, count: u32) -> Result<Vec<bool>, NoMemor
 }
 
 /// Marks the block of the action's group, if the word's bit says so and the action may join.
-fn mark_one(run: &Run<'_>, marks: &mut [bool], word: u64, first: u32, other: u32)
+fn mark_one(run: &Run, marks: &mut [bool], word: u64, first: u32, other: u32)
     requires near { (first ≤ other) × (other < first + 64) }
     requires other_in { other < length run.now.plan.groups }
     requires many { length marks.old ≡ row_words (length run.now.plan.groups) }
@@ -40,7 +40,7 @@ fn mark_one(run: &Run<'_>, marks: &mut [bool], word: u64, first: u32, other: u32
     marks[group as usize / 64] = true;
 }
 
-fn mark_part(run: &Run<'_>, marks: &mut [bool], word: u64, first: u32, end: u32)
+fn mark_part(run: &Run, marks: &mut [bool], word: u64, first: u32, end: u32)
     requires short { end ≤ first + 64 }
     requires inside { (first ≤ end) × (end ≤ length run.now.plan.groups) }
     requires many { length marks.old ≡ row_words (length run.now.plan.groups) }
@@ -51,7 +51,7 @@ fn mark_part(run: &Run<'_>, marks: &mut [bool], word: u64, first: u32, end: u32)
     }
 }
 
-fn mark_word(run: &Run<'_>, marks: &mut [bool], word: u64, place: usize, size: u32)
+fn mark_word(run: &Run, marks: &mut [bool], word: u64, place: usize, size: u32)
     requires place_in { place * 64 < size }
     requires size { size ≡ length run.now.plan.groups }
     requires many { length marks.old ≡ row_words (length run.now.plan.groups) }
@@ -63,7 +63,7 @@ fn mark_word(run: &Run<'_>, marks: &mut [bool], word: u64, place: usize, size: u
 
 /// Marks the block of the group of each action that the square pairs with the given one, if it may
 /// join.
-pub(crate) fn mark_row(run: &Run<'_>, marks: &mut [bool], rows: &Rows, a: u32)
+pub(crate) fn mark_row(run: &Run, marks: &mut [bool], rows: &Rows, a: u32)
     requires square { IsSquare rows.now }
     requires size { rows.now.size ≡ length run.now.plan.groups }
     requires a_in { a < rows.now.size }
@@ -80,7 +80,7 @@ pub(crate) fn mark_row(run: &Run<'_>, marks: &mut [bool], rows: &Rows, a: u32)
 
 /// The least group from a number on, before another one, that can start, where so many lanes are
 /// idle.
-fn least_in(run: &Run<'_>, first: u32, end: u32, idle: u32) -> Option<u32>
+fn least_in(run: &Run, first: u32, end: u32, idle: u32) -> Option<u32>
     requires inside { (first ≤ end) × (end ≤ length run.now.plan.groups) }
     requires idle { AreSoMany run.now.trace run.now.lanes idle }
     ensures { MatchOption result (NoneIn run.now.plan run.now.lanes run.now.trace first end) (StartsIn run.now.plan run.now.lanes run.now.trace first end) }
@@ -94,7 +94,7 @@ fn least_in(run: &Run<'_>, first: u32, end: u32, idle: u32) -> Option<u32>
 }
 
 /// Whether the number is a group's, and its members may join.
-fn is_ready(run: &Run<'_>, group: u32) -> bool
+fn is_ready(run: &Run, group: u32) -> bool
     requires { group < length run.now.plan.groups }
     ensures { IsTrue result ↔ IsReadyGroup run.now.plan run.now.trace group }
 {
@@ -105,7 +105,7 @@ fn is_ready(run: &Run<'_>, group: u32) -> bool
 }
 
 /// Whether a group from a number on, before another one, is ready.
-fn is_any_ready(run: &Run<'_>, first: u32, end: u32) -> bool
+fn is_any_ready(run: &Run, first: u32, end: u32) -> bool
     requires inside { (first ≤ end) × (end ≤ length run.now.plan.groups) }
     ensures { result ≡ false → (group : ℕ) → first ≤ group → group < end → IsReadyGroup run.now.plan run.now.trace group → ⊥ }
 {
@@ -119,7 +119,7 @@ fn is_any_ready(run: &Run<'_>, first: u32, end: u32) -> bool
 
 /// The least group of a block that can start. Where none can, the block's mark stays only if a
 /// group of it is ready.
-fn look_at(run: &Run<'_>, marks: &mut [bool], place: usize, idle: u32) -> Option<u32>
+fn look_at(run: &Run, marks: &mut [bool], place: usize, idle: u32) -> Option<u32>
     requires ready { AreReady run.now.plan run.now.trace marks.old }
     requires place_in { place * 64 < length run.now.plan.groups }
     requires idle { AreSoMany run.now.trace run.now.lanes idle }
@@ -140,7 +140,7 @@ fn look_at(run: &Run<'_>, marks: &mut [bool], place: usize, idle: u32) -> Option
 }
 
 /// The least group that can start.
-pub(crate) fn candidate(run: &Run<'_>, marks: &mut [bool]) -> Option<u32>
+pub(crate) fn candidate(run: &Run, marks: &mut [bool]) -> Option<u32>
     requires ready { AreReady run.now.plan run.now.trace marks.old }
     ensures ready { AreReady run.now.plan run.now.trace marks.new }
     ensures found { MatchOption result (NoneStarts run.now.plan run.now.lanes run.now.trace) (StartsFirst run.now.plan run.now.lanes run.now.trace) }

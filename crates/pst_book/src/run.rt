@@ -14,8 +14,8 @@ use std::marker::Model;
 /// The trace of a run on some lanes, with what it says of each action and each lane. Contracts see
 /// it as its plan, number of lanes and trace, and the number of events that have room.
 #[derive(Drop)]
-pub(crate) struct Run<'a> {
-    plan: &'a Plan,
+pub(crate) struct Run {
+    plan: Plan,
     lanes: u32,
     trace: Vec<Event>,
     /// Whether the action has started.
@@ -36,7 +36,7 @@ pub(crate) struct Run<'a> {
     left: u32,
 }
 
-impl<'a> Model for Run<'a> {
+impl Model for Run {
     ghost use Rattle.pst_book.specs.Tables.{RunView};
 
     ghost Value = { RunView };
@@ -114,19 +114,20 @@ fn note(trace: &mut Vec<Event>, event: Event)
     let _pushed = trace.push(event);
 }
 
-impl<'a> Run<'a> {
+impl Run {
     /// The run in which nothing has started, with room for the whole trace.
-    pub(crate) fn new(alloc: Global, plan: &'a Plan, lanes: u32) -> Result<Run<'a>, NoMemory>
-        ensures { IfOk result (λ r. (r.plan ≡ plan.now) × (r.lanes ≡ lanes) × (r.trace ≡ []) × (2 * length plan.now.groups ≤ r.room)) }
+    pub(crate) fn new(alloc: Global, plan: Plan, lanes: u32) -> Result<Run, NoMemory>
+        ensures { IfOk result (λ r. (r.plan ≡ plan) × (r.lanes ≡ lanes) × (r.trace ≡ []) × (2 * length plan.groups ≤ r.room)) }
     {
         let count = plan.len() as usize;
         let trace = Vec::with_capacity(alloc, 2 * count)?;
         let started = marks(alloc, count)?;
         let ended = marks(alloc, count)?;
-        let awaited = all_awaited(alloc, plan)?;
+        let awaited = all_awaited(alloc, &plan)?;
         let in_the_way = numbers(alloc, 0, count)?;
-        let next = next_members(alloc, plan)?;
+        let next = next_members(alloc, &plan)?;
         let holders = free_lanes(alloc, lanes as usize)?;
+        let left = plan.len();
         Ok(Run {
             plan,
             lanes,
@@ -138,7 +139,7 @@ impl<'a> Run<'a> {
             next,
             holders,
             first: 0,
-            left: plan.len(),
+            left,
         })
     }
 
@@ -153,7 +154,7 @@ impl<'a> Run<'a> {
     pub(crate) fn plan(&self) -> &Plan
         ensures { result.now ≡ self.now.plan }
     {
-        self.plan
+        &self.plan
     }
 
     /// The number of lanes.

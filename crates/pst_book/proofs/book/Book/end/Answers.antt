@@ -2,7 +2,9 @@ use Rattle.std.proofs.Common.{◌≡◌, ◌∙◌, ◌++◌, List, Bool, true, 
 use Rattle.std.specs.Prelude.{IsTrue, ◌↔◌}
 use Rattle.pst_scen.specs.Trace.{Runs}
 use Rattle.pst_scen.specs.Plan.{Entries}
+use Rattle.pst_book.specs.Kept.{run_by}
 use Rattle.pst_book.specs.Ready.{AreReady}
+use Rattle.pst_book.specs.Waiting.{IsWaiting}
 use Rattle.pst_book.proofs.Ties.{put_back}
 use Rattle.pst_book.proofs.Marking.{marks_of, ready_after_end}
 use Rattle.pst_scen.specs.Core.{Close, Step, Idle}
@@ -13,7 +15,7 @@ use Rattle.pst_book.proofs.book.Book.end.Goals as goal
 
 pub end-requires-clause-room : goal.end-requires-clause-room
 end-requires-clause-room c =
-    end_room c.core_is_by_rule.ensures c.rule_fits.ensures.fits c.self.inside.scenario.now c.self.inside.run c.self.invariant.kept c.args.act (c.runs.ensures.is.0 c.if-not-runs.false)
+    end_room c.core_is_by_rule.ensures c.rule_fits.ensures.fits c.self.inside.scenario.now (run_by c.self.inside.plan.now c.self.inside.run) c.self.invariant.kept c.args.act (c.runs.ensures.is.0 c.if-not-runs.false)
 
 pub invariant_of-self : goal.invariant_of-self
 invariant_of-self c =
@@ -27,8 +29,9 @@ invariant_of-self c =
     let long : length between ≡ length c.mark_row.new.marks = ap (λ (xs : List Bool). length xs) one in
     let two = put_back b.ready.len c.mark_row-2.new.marks between (second.many ∙ sym long) (b.ready.ok.0 ∙ sym first.many ∙ sym long) in
     record {
-      kept = after_end c.core_is_by_rule.ensures c.rule_fits.ensures.fits b.scenario.now b.run c.self.invariant.kept run c.args.act (c.runs.ensures.is.0 c.if-not-runs.false)
-          (record { plan = e.plan; lanes = e.lanes; trace_is = e.trace; room = e.room });
+      kept = after_end c.core_is_by_rule.ensures c.rule_fits.ensures.fits b.scenario.now (run_by b.plan.now b.run) c.self.invariant.kept (run_by b.plan.now run) c.args.act (c.runs.ensures.is.0 c.if-not-runs.false)
+          (record { plan = refl; lanes = e.lanes; trace_is = e.trace; room = e.room });
+      waits = subst (IsWaiting b.plan.now) (sym e.plan) c.self.invariant.waits;
       ready = subst (λ (xs : List Bool). AreReady run.plan run.trace xs) (sym two)
           (ready_after_end b.run.plan run.plan b.run.trace run.trace c.args.act b.ready.items c.mark_row.new.marks c.mark_row-2.new.marks e.plan e.trace c.self.invariant.ready first second);
     }
@@ -54,11 +57,11 @@ pub returns-clause-core : goal.returns-clause-core
 returns-clause-core c =
     let e = c.end.ensures in
     subst (λ (v : View). Step v.scenario v.lanes v.trace (Close c.args.act) c.end.new.self.trace) c.self.view_is
-    (end_step c.core_is_by_rule.ensures c.rule_fits.ensures.fits c.self.inside.scenario.now c.self.inside.run c.self.invariant.kept c.end.new.self c.args.act (c.runs.ensures.is.0 c.if-not-runs.false)
-    (record { plan = e.plan; lanes = e.lanes; trace_is = e.trace; room = e.room }))
+    (end_step c.core_is_by_rule.ensures c.rule_fits.ensures.fits c.self.inside.scenario.now (run_by c.self.inside.plan.now c.self.inside.run) c.self.invariant.kept (run_by c.self.inside.plan.now c.end.new.self) c.args.act (c.runs.ensures.is.0 c.if-not-runs.false)
+    (record { plan = refl; lanes = e.lanes; trace_is = e.trace; room = e.room }))
 
 pub returns-clause-fits : goal.returns-clause-fits
-returns-clause-fits c = trace_fits c.core_is_by_rule.ensures c.rule_fits.ensures.fits c.self.inside.scenario.now c.end.new.self (invariant_of-self c).kept
+returns-clause-fits c = trace_fits c.core_is_by_rule.ensures c.rule_fits.ensures.fits c.self.inside.scenario.now (run_by c.self.inside.plan.now c.end.new.self) (invariant_of-self c).kept
 
 pub returns-then-not-runs-clause-core : goal.returns-then-not-runs-clause-core
 returns-then-not-runs-clause-core c =
@@ -67,4 +70,4 @@ returns-then-not-runs-clause-core c =
 
 pub returns-then-not-runs-clause-fits : goal.returns-then-not-runs-clause-fits
 returns-then-not-runs-clause-fits c =
-    subst (λ (v : View). length v.trace ≤ 2 * length v.scenario.actions) c.self.view_is (trace_fits c.core_is_by_rule.ensures c.rule_fits.ensures.fits c.self.inside.scenario.now c.self.inside.run c.self.invariant.kept)
+    subst (λ (v : View). length v.trace ≤ 2 * length v.scenario.actions) c.self.view_is (trace_fits c.core_is_by_rule.ensures c.rule_fits.ensures.fits c.self.inside.scenario.now (run_by c.self.inside.plan.now c.self.inside.run) c.self.invariant.kept)

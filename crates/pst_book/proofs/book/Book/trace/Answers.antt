@@ -17,7 +17,7 @@ returns c =
     record {
       value = c.trace.ensures.value ∙ ap (λ (v : View). v.trace) c.self.view_is;
       prefix = subst (λ (v : View). Prefix v.scenario v.lanes t) c.self.view_is
-          (subst (λ (u : List Event). Prefix s b.run.lanes u) e (c.rule_is_prefix.ensures s b.run.plan b.run.lanes b.run.trace kept.links kept.plan kept.wide r));
+          (subst (λ (u : List Event). Prefix s b.run.lanes u) e (c.rule_is_prefix.ensures s b.plan.now b.run.lanes b.run.trace kept.links kept.plan kept.wide r));
       fits = subst (λ (v : View). length t ≤ 2 * length v.scenario.actions) c.self.view_is
           (subst (λ (u : List Event). length u ≤ 2 * length s.actions) e (c.rule_fits.ensures.fits s b.run.lanes b.run.trace r));
       core = subst (λ (v : View). Core v.scenario v.lanes (commands_of t) t) c.self.view_is

@@ -11,7 +11,7 @@ use Rattle.pst_book.proofs.run.Run.may_join.Goals as goal
 pub returns-then-index : goal.returns-then-index
 returns-then-index c =
     let r = c.self.inside in
-    let l : c.args.act < length r.plan.now.groups = subst (λ (v : RunView). c.args.act < length v.plan.groups) (sym c.self.view_is) c.requires in
+    let l : c.args.act < length r.plan.groups = subst (λ (v : RunView). c.args.act < length v.plan.groups) (sym c.self.view_is) c.requires in
     let s : get_or r.started.items c.args.act false ≡ true = read r.started.items c.args.act c.index.result.now false (omega (arith, l, c.self.invariant.many_started)) c.index.ensures ∙ c.if-index.true in
     subst (λ (v : RunView). IsTrue false ↔ MayJoin v.plan v.trace c.args.act) c.self.view_is
     (λ t. cc, λ m. absurd (m.fresh ((c.self.invariant.started_is c.args.act l).0 s)))
@@ -19,7 +19,7 @@ returns-then-index c =
 pub returns-then-index-gt0 : goal.returns-then-index-gt0
 returns-then-index-gt0 c =
     let r = c.self.inside in
-    let l : c.args.act < length r.plan.now.groups = subst (λ (v : RunView). c.args.act < length v.plan.groups) (sym c.self.view_is) c.requires in
+    let l : c.args.act < length r.plan.groups = subst (λ (v : RunView). c.args.act < length v.plan.groups) (sym c.self.view_is) c.requires in
     let e : get_or r.awaited.items c.args.act 0 ≡ c.index-2.result.now = read r.awaited.items c.args.act c.index-2.result.now 0 (omega (arith, l, c.self.invariant.many_awaited)) c.index-2.ensures in
     subst (λ (v : RunView). IsTrue false ↔ MayJoin v.plan v.trace c.args.act) c.self.view_is
     (λ t. cc, λ m. let z = is_none (c.self.invariant.awaited_is c.args.act l) (λ b q. q.2 (m.awaited b q.0 q.1)) in let p = c.if-index-gt0.true in absurd (omega (arith, z, e, p)))
@@ -27,7 +27,7 @@ returns-then-index-gt0 c =
 pub returns : goal.returns
 returns c =
     let r = c.self.inside in
-    let l : c.args.act < length r.plan.now.groups = subst (λ (v : RunView). c.args.act < length v.plan.groups) (sym c.self.view_is) c.requires in
+    let l : c.args.act < length r.plan.groups = subst (λ (v : RunView). c.args.act < length v.plan.groups) (sym c.self.view_is) c.requires in
     let s : get_or r.started.items c.args.act false ≡ false = read r.started.items c.args.act c.index.result.now false (omega (arith, l, c.self.invariant.many_started)) c.index.ensures ∙ c.if-index.false in
     let e : get_or r.awaited.items c.args.act 0 ≡ c.index-2.result.now = read r.awaited.items c.args.act c.index-2.result.now 0 (omega (arith, l, c.self.invariant.many_awaited)) c.index-2.ensures in
     let f : get_or r.in_the_way.items c.args.act 0 ≡ c.index-3.result.now = read r.in_the_way.items c.args.act c.index-3.result.now 0 (omega (arith, l, c.self.invariant.many_in_the_way)) c.index-3.ensures in

@@ -20,7 +20,7 @@ pub returns-then-index-clause-is : goal.returns-then-index-clause-is
 returns-then-index-clause-is c =
     let r = c.self.inside in
     let x = c.index-then-index.result.now in
-    let l : c.args.act < length r.plan.now.groups = let a = c.if-act-len.false in omega (arith, a, c.len.ensures) in
+    let l : c.args.act < length r.plan.groups = let a = c.if-act-len.false in omega (arith, a, c.len.ensures) in
     let s : get_or r.started.items c.args.act false ≡ true = read r.started.items c.args.act c.index.result.now false (omega (arith, l, c.self.invariant.many_started)) c.index.ensures ∙ c.if-index.true in
     let e : get_or r.ended.items c.args.act false ≡ x = read r.ended.items c.args.act x false (omega (arith, l, c.self.invariant.many_ended)) c.index-then-index.ensures in
     let ended = c.self.invariant.ended_is c.args.act l in
