@@ -2,22 +2,31 @@
 ghost use Rattle.std.specs.Prelude.{◌≡◌, ◌↔◌, ◌+◌, ◌<◌, ◌≤◌, ℕ, length, get_or, slice_set, true, false, IsTrue, IfSome};
 ghost use Rattle.pst_scen.specs.Rows.{Has};
 ghost use Rattle.pst_book.specs.Tables.{AreRaised, AreLowered, AreFreed};
+ghost use Rattle.pst_tallies.specs.Tallies.{counts_in, IsTally};
 ghost use Rattle.pst_by_rule.specs.Counted.{StartsFreely};
 
 use pst_book::{free, lower, raise};
 use pst_scen::{Event, Plan};
+use pst_tallies::{awaits_none, lower_awaited};
 
 /// Whether the action may start, as to what started, ended and runs.
-pub(crate) fn may_join(started: &[bool], awaited: &[u32], in_the_way: &[u32], act: u32) -> bool
+pub(crate) fn may_join(
+    plan: &Plan,
+    started: &[bool],
+    awaited: &[u32],
+    in_the_way: &[u32],
+    act: u32,
+) -> bool
+    requires act_in { act < length plan.now.groups }
     requires started_in { act < length started.now }
-    requires awaited_in { act < length awaited.now }
+    requires tally { IsTally (length plan.now.groups) awaited.now }
     requires in_the_way_in { act < length in_the_way.now }
-    ensures { IsTrue result ↔ (get_or started.now act false ≡ false) × (get_or awaited.now act 0 ≡ 0) × (get_or in_the_way.now act 0 ≡ 0) }
+    ensures { IsTrue result ↔ (get_or started.now act false ≡ false) × (get_or (counts_in (length plan.now.groups) awaited.now) act 0 ≡ 0) × (get_or in_the_way.now act 0 ≡ 0) }
 {
     if started[act as usize] {
         return false;
     }
-    if awaited[act as usize] > 0 {
+    if !awaits_none(plan, awaited, act) {
         return false;
     }
     in_the_way[act as usize] == 0
@@ -89,16 +98,16 @@ pub(crate) fn note_end(
 )
     requires act_in { act < length plan.now.groups }
     requires many_ended { length ended.old ≡ length plan.now.groups }
-    requires many_awaited { length awaited.old ≡ length plan.now.groups }
+    requires tally { IsTally (length plan.now.groups) awaited.old }
     requires many_in_the_way { length in_the_way.old ≡ length plan.now.groups }
-    requires some_awaited { (m : ℕ) → m < length plan.now.groups → Has plan.now.must act m → 0 < get_or awaited.old m 0 }
+    requires some_awaited { (m : ℕ) → m < length plan.now.groups → Has plan.now.must act m → 0 < get_or (counts_in (length plan.now.groups) awaited.old) m 0 }
     requires some_in_the_way { (m : ℕ) → m < length plan.now.groups → Has plan.now.conflict act m → 0 < get_or in_the_way.old m 0 }
     ensures ended { ended.new ≡ slice_set ended.old act true }
-    ensures awaited { AreLowered plan.now.must act awaited.old awaited.new }
+    ensures awaited { AreLowered plan.now.must act (counts_in (length plan.now.groups) awaited.old) (counts_in (length plan.now.groups) awaited.new) }
     ensures in_the_way { AreLowered plan.now.conflict act in_the_way.old in_the_way.new }
     ensures holders { AreFreed act holders.old holders.new }
 {
-    lower(awaited, plan.must_rows(), act);
+    lower_awaited(plan, awaited, act);
     lower(in_the_way, plan.conflict_rows(), act);
     free(holders, act);
     ended[act as usize] = true;

@@ -1,5 +1,5 @@
 -- Parts of lists at which a value is written.
-use Rattle.std.proofs.Common.{◌≡◌, ◌≢◌, ◌↔◌, ℕ, ◌⊎◌, ◌+◌, ◌-◌, ◌*◌, ◌/◌, ◌%◌, ◌<◌, ◌≤◌, List, length, get_or, refl, sym, ◌∙◌, subst, inl, inr, ⊎_elim, arith}
+use Rattle.std.proofs.Common.{◌≡◌, ◌≢◌, ◌↔◌, ℕ, ◌⊎◌, ◌+◌, ◌-◌, ◌*◌, ◌/◌, ◌%◌, ◌^◌, ◌<◌, ◌≤◌, List, length, get_or, refl, sym, ◌∙◌, subst, inl, inr, ⊎_elim, arith}
 use Rattle.std.specs.Prelude.{IsBitSet}
 use Rattle.std.proofs.lemmas.Bool.{cases_eq, cases_lt}
 use Rattle.pst_scen.specs.declared.rows.Rows.{Rows}
@@ -8,6 +8,7 @@ use Rattle.pst_book.specs.Parts.{AreChanged, AreWordChanged, IsMarked}
 use Rattle.pst_book.proofs.Parting.{Bits, AreWordsChanged}
 use Rattle.pst_scen.specs.Plan.{Entries}
 use Rattle.pst_book.proofs.Ties.{has_or}
+use Rattle.pst_tallies.proofs.Moving.{all_set}
 use Rattle.pst_static.specs.Stamps.{IsStamped, AreStamped, AreStampedByPlan}
 
 -- a relation that asks for a property goes over to one that asks for another which is as true
@@ -31,6 +32,13 @@ module _ (value word first place end size : ℕ) (old new : List ℕ) (first_is 
   stamped_word c = record {
     inside = λ m l e. stamped_map value (IsMarked word first) (Bits word) m (get_or old m 0) (get_or new m 0) (subst (λ b. IsBitSet word b) (sym (bit_is m e))) (subst (λ b. IsBitSet word b) (bit_is m e))
         (c.inside m (low m e) (all m (omega (arith, l, many)) (high m e)));
+    outside = λ m n. c.outside m (aside m n);
+  }
+
+  -- a word of which each bit is set
+  pub stamped_whole : word ≡ 2 ^ 64 - 1 → AreChanged (λ m x y. y ≡ value) old new first end → AreWordChanged (IsStamped value (Bits word)) old new place
+  stamped_whole is c = record {
+    inside = λ m l e. record { stamped = λ set. c.inside m (low m e) (all m (omega (arith, l, many)) (high m e)); same = λ n. absurd (n (all_set word (m % 64) is (omega arith))) };
     outside = λ m n. c.outside m (aside m n);
   }
 

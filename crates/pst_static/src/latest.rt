@@ -8,8 +8,9 @@ ghost use Rattle.pst_scen.specs.Rows.{IsSquare};
 ghost use Rattle.pst_book.specs.Parts.{IsMarked, AreChanged, AreWordChanged};
 ghost use Rattle.pst_static.specs.Stamps.{IsStamped, AreStamped, AreStampedByPlan, IsChangedAt};
 
-use crate::rows::{is_marked, next_word, word_at, word_end};
+use crate::rows::next_word;
 use pst_scen::{Plan, Rows};
+use pst_tallies::{is_full, is_marked, word_at, word_end};
 
 fn stamp_one(places: &mut [u32], word: u64, first: u32, other: u32, value: u32)
     requires near { (first ≤ other) × (other < first + 64) }
@@ -32,13 +33,28 @@ fn stamp_part(places: &mut [u32], word: u64, first: u32, end: u32, value: u32)
     }
 }
 
+/// Writes the value at each action of a part.
+fn stamp_all(places: &mut [u32], first: u32, end: u32, value: u32)
+    requires { (first ≤ end) × (end ≤ length places.old) }
+    ensures { AreChanged (λ m x y. y ≡ value) places.old places.new first end }
+{
+    for other in first..end {
+        places[other as usize] = value;
+    }
+}
+
 fn stamp_word(places: &mut [u32], word: u64, place: usize, size: u32, value: u32)
     requires place_in { place * 64 < size }
     requires many { length places.old ≡ size }
     ensures { AreWordChanged (IsStamped value (λ m. IsBitSet word (m % 64))) places.old places.new place }
 {
     let first = place as u32 * 64;
-    stamp_part(places, word, first, word_end(first, size), value);
+    let end = word_end(first, size);
+    if is_full(word) {
+        stamp_all(places, first, end, value);
+        return;
+    }
+    stamp_part(places, word, first, end, value);
 }
 
 /// Writes a value at each action with which the square pairs the given one.

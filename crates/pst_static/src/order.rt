@@ -4,7 +4,7 @@
 //! no member waits for one that isn't. A plan orders whole groups, so a group's first member tells
 //! whether it waits: a table counts for each action those that must come before it and aren't taken.
 //!
-//! All rows of the square of `must` are counted up once and down once. For each block of 64 actions a
+//! All rows of the square of `must` are counted up once and down once, a whole word at once. For each block of 64 actions a
 //! mark tells where the number of a group may lie that can be taken: a row's words mark their blocks,
 //! and a block in which none was found loses its mark. So to look for the next group costs no more
 //! than to read a row.
@@ -14,15 +14,16 @@ ghost use Rattle.pst_scen.specs.Rows.{row_words};
 ghost use Rattle.pst_scen.specs.Plans.{IsPlanOf};
 ghost use Rattle.pst_book.specs.Tables.{AreNext};
 ghost use Rattle.pst_programs.specs.Serial.{IsSerial};
+ghost use Rattle.pst_tallies.specs.Tallies.{counts_in, IsTally};
 ghost use Rattle.pst_static.specs.Taking.{AreOwed, AreHinted, CanBeTaken, IsFirst, IsFirstFrom, IsTaken};
 
-use crate::rows::{mark_blocks, word_end};
+use crate::rows::mark_blocks;
 use crate::tables::{all_awaited, marks};
 use pst_base::NoMemory;
-use pst_book::lower;
 use pst_order::must_keeps_groups;
 use pst_programs::programs_are_safe;
 use pst_scen::Plan;
+use pst_tallies::{awaits_none, lower_awaited, word_end};
 use std::alloc::Global;
 
 /// A mark for each block of 64 actions, all of them set.
@@ -35,9 +36,9 @@ fn all_marked(alloc: Global, count: u32) -> Result<Vec<bool>, NoMemory>
 /// Whether the group of that number isn't taken, and its first member waits for nothing.
 fn can_be_taken(plan: &Plan, awaited: &[u32], taken: &[bool], group: u32) -> bool
     requires group_in { group < length plan.now.groups }
-    requires many_awaited { length awaited.now ≡ length plan.now.groups }
+    requires tally { IsTally (length plan.now.groups) awaited.now }
     requires many_taken { length taken.now ≡ length plan.now.groups }
-    ensures { IsTrue result ↔ CanBeTaken plan.now awaited.now taken.now group }
+    ensures { IsTrue result ↔ CanBeTaken plan.now (counts_in (length plan.now.groups) awaited.now) taken.now group }
 {
     if plan.group(group) != group {
         return false;
@@ -45,15 +46,15 @@ fn can_be_taken(plan: &Plan, awaited: &[u32], taken: &[bool], group: u32) -> boo
     if taken[group as usize] {
         return false;
     }
-    awaited[group as usize] == 0
+    awaits_none(plan, awaited, group)
 }
 
 /// The least number of such a group from a number on, before another one.
 fn least_in(plan: &Plan, awaited: &[u32], taken: &[bool], first: u32, end: u32) -> Option<u32>
     requires inside { (first ≤ end) × (end ≤ length plan.now.groups) }
-    requires many_awaited { length awaited.now ≡ length plan.now.groups }
+    requires tally { IsTally (length plan.now.groups) awaited.now }
     requires many_taken { length taken.now ≡ length plan.now.groups }
-    ensures { MatchOption result ((g : ℕ) → first ≤ g → g < end → CanBeTaken plan.now awaited.now taken.now g → ⊥) (IsFirstFrom plan.now awaited.now taken.now first) }
+    ensures { MatchOption result ((g : ℕ) → first ≤ g → g < end → CanBeTaken plan.now (counts_in (length plan.now.groups) awaited.now) taken.now g → ⊥) (IsFirstFrom plan.now (counts_in (length plan.now.groups) awaited.now) taken.now first) }
 {
     for group in first..end {
         if can_be_taken(plan, awaited, taken, group) {
@@ -71,12 +72,12 @@ fn look_at(
     hints: &mut [bool],
     place: usize,
 ) -> Option<u32>
-    requires many_awaited { length awaited.now ≡ length plan.now.groups }
+    requires tally { IsTally (length plan.now.groups) awaited.now }
     requires many_taken { length taken.now ≡ length plan.now.groups }
-    requires hinted { AreHinted plan.now awaited.now taken.now hints.old }
+    requires hinted { AreHinted plan.now (counts_in (length plan.now.groups) awaited.now) taken.now hints.old }
     requires place_in { place * 64 < length plan.now.groups }
-    ensures hinted { AreHinted plan.now awaited.now taken.now hints.new }
-    ensures found { MatchOption result ((g : ℕ) → g / 64 ≡ place → g < length plan.now.groups → CanBeTaken plan.now awaited.now taken.now g → ⊥) (IsFirstFrom plan.now awaited.now taken.now (place * 64)) }
+    ensures hinted { AreHinted plan.now (counts_in (length plan.now.groups) awaited.now) taken.now hints.new }
+    ensures found { MatchOption result ((g : ℕ) → g / 64 ≡ place → g < length plan.now.groups → CanBeTaken plan.now (counts_in (length plan.now.groups) awaited.now) taken.now g → ⊥) (IsFirstFrom plan.now (counts_in (length plan.now.groups) awaited.now) taken.now (place * 64)) }
 {
     if !hints[place] {
         return None;
@@ -93,11 +94,11 @@ fn look_at(
 
 /// The least number of such a group, or the number of actions.
 fn first_group(plan: &Plan, awaited: &[u32], taken: &[bool], hints: &mut [bool]) -> u32
-    requires many_awaited { length awaited.now ≡ length plan.now.groups }
+    requires tally { IsTally (length plan.now.groups) awaited.now }
     requires many_taken { length taken.now ≡ length plan.now.groups }
-    requires hinted { AreHinted plan.now awaited.now taken.now hints.old }
-    ensures hinted { AreHinted plan.now awaited.now taken.now hints.new }
-    ensures first { IsFirst plan.now awaited.now taken.now result }
+    requires hinted { AreHinted plan.now (counts_in (length plan.now.groups) awaited.now) taken.now hints.old }
+    ensures hinted { AreHinted plan.now (counts_in (length plan.now.groups) awaited.now) taken.now hints.new }
+    ensures first { IsFirst plan.now (counts_in (length plan.now.groups) awaited.now) taken.now result }
 {
     for place in 0..hints.len() {
         if let Some(group) = look_at(plan, awaited, taken, hints, place) {
@@ -110,17 +111,17 @@ fn first_group(plan: &Plan, awaited: &[u32], taken: &[bool], hints: &mut [bool])
 /// Takes an action.
 fn take_one(plan: &Plan, awaited: &mut [u32], taken: &mut [bool], hints: &mut [bool], act: u32)
     requires act_in { act < length plan.now.groups }
-    requires owed { AreOwed plan.now awaited.old taken.old }
-    requires hinted { AreHinted plan.now awaited.old taken.old hints.old }
+    requires tally { IsTally (length plan.now.groups) awaited.old }
+    requires owed { AreOwed plan.now (counts_in (length plan.now.groups) awaited.old) taken.old }
+    requires hinted { AreHinted plan.now (counts_in (length plan.now.groups) awaited.old) taken.old hints.old }
     requires fresh { get_or taken.old act false ≡ false }
-    ensures owed { AreOwed plan.now awaited.new taken.new }
-    ensures hinted { AreHinted plan.now awaited.new taken.new hints.new }
+    ensures owed { AreOwed plan.now (counts_in (length plan.now.groups) awaited.new) taken.new }
+    ensures hinted { AreHinted plan.now (counts_in (length plan.now.groups) awaited.new) taken.new hints.new }
     ensures here { get_or taken.new act false ≡ true }
     ensures others { (a : ℕ) → a ≢ act → get_or taken.new a false ≡ get_or taken.old a false }
 {
-    let must = plan.must_rows();
-    lower(awaited, must, act);
-    mark_blocks(hints, must, act);
+    lower_awaited(plan, awaited, act);
+    mark_blocks(hints, plan.must_rows(), act);
     taken[act as usize] = true;
 }
 
@@ -136,11 +137,12 @@ fn take_group(
     requires group_in { group < length plan.now.groups }
     requires number { get_or plan.now.groups group 0 ≡ group }
     requires next { AreNext plan.now.groups next.now }
-    requires owed { AreOwed plan.now awaited.old taken.old }
-    requires hinted { AreHinted plan.now awaited.old taken.old hints.old }
+    requires tally { IsTally (length plan.now.groups) awaited.old }
+    requires owed { AreOwed plan.now (counts_in (length plan.now.groups) awaited.old) taken.old }
+    requires hinted { AreHinted plan.now (counts_in (length plan.now.groups) awaited.old) taken.old hints.old }
     requires fresh { (a : ℕ) → a < length plan.now.groups → get_or plan.now.groups a 0 ≡ group → get_or taken.old a false ≡ false }
-    ensures owed { AreOwed plan.now awaited.new taken.new }
-    ensures hinted { AreHinted plan.now awaited.new taken.new hints.new }
+    ensures owed { AreOwed plan.now (counts_in (length plan.now.groups) awaited.new) taken.new }
+    ensures hinted { AreHinted plan.now (counts_in (length plan.now.groups) awaited.new) taken.new hints.new }
     ensures taken { IsTaken plan.now group taken.old taken.new }
 {
     let count = plan.len();
@@ -162,8 +164,9 @@ fn take_all(
 ) -> Result<Vec<u32>, NoMemory>
     requires planned { (s : Scenario) × IsPlanOf s plan.now }
     requires next { AreNext plan.now.groups next.now }
-    requires owed { AreOwed plan.now awaited.old taken.old }
-    requires hinted { AreHinted plan.now awaited.old taken.old hints.old }
+    requires tally { IsTally (length plan.now.groups) awaited.old }
+    requires owed { AreOwed plan.now (counts_in (length plan.now.groups) awaited.old) taken.old }
+    requires hinted { AreHinted plan.now (counts_in (length plan.now.groups) awaited.old) taken.old hints.old }
     requires none { (a : ℕ) → a < length plan.now.groups → get_or taken.old a false ≡ false }
     ensures { IfOk result (λ order. IsSerial plan.now order.items) }
 {

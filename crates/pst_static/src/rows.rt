@@ -6,17 +6,7 @@ ghost use Rattle.pst_scen.specs.Rows.{IsSquare, Has, row_words};
 ghost use Rattle.pst_book.specs.Parts.{IsMarked};
 
 use pst_scen::Rows;
-
-/// The word of that place in the row of an action.
-pub(crate) fn word_at(rows: &Rows, a: u32, place: usize) -> u64
-    requires square { IsSquare rows.now }
-    requires a_in { a < rows.now.size }
-    requires place_in { place < row_words rows.now.size }
-    ensures { (m : ℕ) → m / 64 ≡ place → IsBitSet result (m % 64) ↔ Has rows.now a m }
-{
-    let row = (rows.size as usize + 63) / 64;
-    rows.words.as_slice()[a as usize * row + place]
-}
+use pst_tallies::word_at;
 
 /// The place of the first word from a place on that isn't 0, or the number of words.
 pub(crate) fn next_word(rows: &Rows, a: u32, from: usize, words: usize) -> usize
@@ -33,24 +23,6 @@ pub(crate) fn next_word(rows: &Rows, a: u32, from: usize, words: usize) -> usize
         }
     }
     words
-}
-
-/// The first action behind the word that begins with the given one.
-pub(crate) fn word_end(first: u32, size: u32) -> u32
-    requires { first < size }
-    ensures inside { (first < result) × (result ≤ size) }
-    ensures short { result ≤ first + 64 }
-    ensures all { (m : ℕ) → m < size → m < first + 64 → m < result }
-{
-    if size - first > 64 { first + 64 } else { size }
-}
-
-/// Whether the bit of the action is set in the word that begins with the given one.
-pub(crate) fn is_marked(word: u64, first: u32, other: u32) -> bool
-    requires near { (first ≤ other) × (other < first + 64) }
-    ensures { IsTrue result ↔ IsMarked word first other }
-{
-    word >> (other - first) & 1 == 1
 }
 
 /// Marks a block of 64 actions whose word isn't 0.

@@ -1,10 +1,12 @@
 //! Tables of a plan, in memory.
-ghost use Rattle.std.specs.Prelude.{◌≡◌, IfOk, replicate, false};
+ghost use Rattle.std.specs.Prelude.{◌≡◌, IfOk, length, replicate, false};
 ghost use Rattle.pst_book.specs.Tables.{AreNext, AreAllAwaited};
+ghost use Rattle.pst_tallies.specs.Tallies.{counts_in, IsTally};
 
 use pst_base::NoMemory;
-use pst_book::{count_awaited, fill_next};
+use pst_book::fill_next;
 use pst_scen::Plan;
+use pst_tallies::count_awaited;
 use std::alloc::Global;
 
 /// So many numbers, each the given one.
@@ -34,10 +36,11 @@ pub(crate) fn next_members(alloc: Global, plan: &Plan) -> Result<Vec<u32>, NoMem
 
 /// How many actions must come before each action.
 pub(crate) fn all_awaited(alloc: Global, plan: &Plan) -> Result<Vec<u32>, NoMemory>
-    ensures { IfOk result (λ v. AreAllAwaited plan.now v.items) }
+    ensures many { IfOk result (λ v. IsTally (length plan.now.groups) v.items) }
+    ensures counted { IfOk result (λ v. AreAllAwaited plan.now (counts_in (length plan.now.groups) v.items)) }
 {
-    let count = plan.len();
-    let mut awaited = numbers(alloc, 0, count as usize)?;
+    let count = plan.len() as usize;
+    let mut awaited = numbers(alloc, 0, count + (count + 63) / 64)?;
     count_awaited(plan, &mut awaited);
     Ok(awaited)
 }

@@ -1,5 +1,6 @@
-use Rattle.std.proofs.Common.{◌≡◌, ◌≤◌, ◌∙◌, ℕ, replicate, take, false, ap, ap₂, arith}
+use Rattle.std.proofs.Common.{◌≡◌, ◌≤◌, ◌+◌, ◌/◌, ◌∙◌, ℕ, replicate, take, false, ap, ap₂, arith}
 use Rattle.std.proofs.lemmas.List.{take-replicate}
+use Rattle.pst_scen.specs.Rows.{row_words}
 use Rattle.pst_by_rule.proofs.Going.{followed_none}
 use Rattle.pst_by_rule.proofs.following.follow.Goals as goal
 
@@ -19,8 +20,11 @@ follow_with-requires-clause-started c = few c.len-count.result _ false (let l = 
 pub follow_with-requires-clause-ended : goal.follow_with-requires-clause-ended
 follow_with-requires-clause-ended c = few c.len-count.result _ false (let l = c.if-places-gt-COUNTED.false in omega (arith, l)) c.len-count.ensures.is
 
+few_tallied : (count many x : ℕ) → count ≤ 16384 → count ≡ many → take (count + (count + 63) / 64) (replicate 16640 x) ≡ replicate (many + row_words many) x
+few_tallied count many x l e = take-replicate (count + (count + 63) / 64) 16640 x (omega (arith, l)) ∙ ap (λ n. replicate (n + row_words n) x) e
+
 pub follow_with-requires-clause-awaited : goal.follow_with-requires-clause-awaited
-follow_with-requires-clause-awaited c = few c.len-count.result _ 0 (let l = c.if-places-gt-COUNTED.false in omega (arith, l)) c.len-count.ensures.is
+follow_with-requires-clause-awaited c = few_tallied c.len-count.result _ 0 (let l = c.if-places-gt-COUNTED.false in omega (arith, l)) c.len-count.ensures.is
 
 pub follow_with-requires-clause-in_the_way : goal.follow_with-requires-clause-in_the_way
 follow_with-requires-clause-in_the_way c = few c.len-count.result _ 0 (let l = c.if-places-gt-COUNTED.false in omega (arith, l)) c.len-count.ensures.is

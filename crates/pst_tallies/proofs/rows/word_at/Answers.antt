@@ -1,7 +1,7 @@
 use Rattle.std.proofs.Common.{◌≡◌, ◌+◌, ◌*◌, ◌/◌, ◌%◌, ◌∙◌, ℕ, List, get_or, sym, ap, subst}
 use Rattle.std.specs.Prelude.{IsBitSet}
 use Rattle.pst_scen.specs.Rows.{row_words}
-use Rattle.pst_static.proofs.rows.word_at.Goals as goal
+use Rattle.pst_tallies.proofs.rows.word_at.Goals as goal
 
 pub returns : goal.returns
 returns c =
