@@ -3,7 +3,7 @@
 #
 #   job.sh ROOT SEEDS SOURCE..
 #
-# The programs of the package (pstim, pstim-sarif, ..) are on the path. In the environment may stand KEPT (the folder of what is
+# The programs of the package (pstim, pstim-sarif, ..) are on the path. In the environment may be KEPT (the folder of what is
 # kept, kept/), LIMIT (seconds of a run, 300), LANES (4), and LOG with TABLE (a device's log of seed 1 and its regular expressions).
 set -u
 root=$1 seeds=$2
@@ -24,7 +24,7 @@ for seed in $(seq 1 "$seeds"); do
   status=$?
   case $status in
     0) rm "$trace"; continue ;;
-    1 | 2 | 6 | 9 | 10) echo "refused: $(head -n 1 "$trace")"; keep "$trace"; exit 1 ;; # no seed changes that
+    1 | 2 | 6 | 9) echo "refused: $(head -n 1 "$trace")"; keep "$trace"; exit 1 ;; # no seed changes that
     3) echo "seed $seed: no legal scenario" ;;
     4) echo "seed $seed: the budget was spent" ;;
     5) echo "seed $seed: $(tail -n 1 "$trace")" ;;
