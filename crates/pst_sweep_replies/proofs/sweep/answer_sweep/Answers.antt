@@ -7,8 +7,8 @@ use Rattle.pst_sweep_replies.proofs.sweep.answer_sweep.Goals as goal
 pub reply_to_sweep-requires-clause-room : goal.reply_to_sweep-requires-clause-room
 reply_to_sweep-requires-clause-room g c = λ names lives. seeds_fit c.args.task.work 1 c.in-Sweep.first c.in-Sweep.count c.in-Sweep.is c.requires.fits
 
-pub returns-in-Sweep : goal.returns-in-Sweep
-returns-in-Sweep g c = sweep_owed c.args.names.now (view_model c.args.model.now) c.args.root c.args.task c.in-Sweep.first c.in-Sweep.count c.reply_to_sweep.result c.in-Sweep.is c.reply_to_sweep.ensures
+pub returns : goal.returns
+returns g c = sweep_owed c.args.names.now (view_model c.args.model.now) c.args.root c.args.task c.in-Sweep.first c.in-Sweep.count c.reply_to_sweep.result c.in-Sweep.is c.reply_to_sweep.ensures
 
 pub unreachable-requires : goal.unreachable-requires
 unreachable-requires g c = subst IsSweep c.in-Run.is c.requires.swept
