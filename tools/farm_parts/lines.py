@@ -11,11 +11,12 @@ MOST_FILES = 16
 
 
 class Part:
-    """A call of the program: its words, and the seeds where it is a part of a sweep. `turn` counts how often it was tried."""
+    """A call of the program: its words, and the seeds where it is a part of a sweep. What came of it is its text and its status, what
+    it said on standard error, and why it is to be tried again."""
 
     def __init__(self, words, first=0, count=0):
         self.words, self.first, self.count = words, first, count
-        self.text, self.status, self.why, self.turn = b"", None, "", 0
+        self.text, self.status, self.said, self.why = b"", None, b"", ""
 
     def name(self):
         """How it is told of."""

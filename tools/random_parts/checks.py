@@ -57,9 +57,10 @@ class Case:
         self.words = [command, root or self.root, *[f"{key}={value}" for key, value in keys.items() if value is not None], *self.files]
         status, out, errors = called([self.program, *self.words], folder or self.folder)
         must(status >= 0, f"ended by signal {-status}: {errors[-300:]!r}")
-        must(errors == b"", f"printed to the other output: {errors[-300:]!r}")
+        must(status > 0 or errors == b"", f"printed to the other output: {errors[-300:]!r}")
+        must(errors == b"" or is_lines(errors.decode("utf-8", "replace")), f"no messages: {errors[-300:]!r}")
         answer = Answer(out.decode("latin-1"), status)
-        must(answer.text.endswith("\n") and not (set(answer.text) - set("\n" + "".join(map(chr, range(32, 127))))), f"no text: {answer.text[-300:]!r}")
+        must(answer.text.isascii() and is_lines(answer.text), f"no text: {answer.text[-300:]!r}")
         self.has_form(command, answer, keys)
         return answer
 
@@ -253,6 +254,11 @@ def called(words, folder):
     if process.returncode in (-signal.SIGXCPU, -signal.SIGKILL):
         raise Late(f"no end in {LATE} s")
     return process.returncode, out, errors
+
+
+def is_lines(text):
+    """Whether a text has whole lines of characters that can be shown."""
+    return text.endswith("\n") and text.replace("\n", "").isprintable()
 
 
 def differing(came, owed):
