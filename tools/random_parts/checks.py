@@ -46,8 +46,11 @@ class Case:
 
     def __init__(self, program, folder, files, root, choices):
         self.program, self.folder, self.files, self.root, self.choices = program, folder, files, root, choices
-        self.keys = {"seed": choices.choice([1, 1, choices.randrange(100), choices.randrange(2**64)]), "infer": choices.choice([0, 1, 2, 2, 3]), "budget": choices.choice([1, 20, 60, 60, 200, 200, 800])}
-        self.asked = {}
+        self.keys = {
+            "seed": choices.choice([1, 1, choices.randrange(100), choices.randrange(2**64)]),
+            "infer": choices.choice([0, 1, 2, 2, 3]),
+            "budget": choices.choice([1, 20, 60, 60, 200, 200, 800]),
+        }
         self.words = []
         write(folder, files)
 
@@ -110,7 +113,8 @@ class Case:
     def others_refuse(self, first):
         """Each command refuses what `solve` refuses."""
         trace = self.kept_trace("pst 2\nscenario 0 0\ndone 0\n")
-        for command, more in (("run", {"lanes": self.choices.choice([1, 4])}), ("place", {"space": 100}), ("static", {"over": 2}), ("check", {"trace": trace})):
+        lanes = self.choices.choice([1, 4])
+        for command, more in (("run", {"lanes": lanes}), ("place", {"space": 100}), ("static", {"over": 2}), ("check", {"trace": trace})):
             if first.status != 4 or command == "run":
                 other = self.ask(command, **more)
                 must(other.is_same(first), f"{command} answers {other.lines[0]}, solve {first.lines[0]}")

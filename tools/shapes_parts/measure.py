@@ -73,9 +73,16 @@ def measured(program, shape, size, folder):
         called([program, "run", *words], folder, shape, folder / "a.trace")
         words.append("trace=a.trace")
     status, seconds, megabytes = called([program, shape.command, *words], folder, shape, out)
-    said = last_line(out)
-    wrong = f"no end in {seconds:.0f} s" if status in (-signal.SIGXCPU, -signal.SIGKILL) else "" if re.match(shape.answer, said) else f"ended by signal {-status}" if status < 0 else f"answers {said[:60]!r}"
-    return Measure(size, seconds, megabytes, wrong)
+    return Measure(size, seconds, megabytes, wrong_with(shape, status, seconds, last_line(out)))
+
+
+def wrong_with(shape, status, seconds, said):
+    """What is wrong with a call that ended with this status and last line; nothing where it is as it should be."""
+    if status in (-signal.SIGXCPU, -signal.SIGKILL):
+        return f"no end in {seconds:.0f} s"
+    if status < 0:
+        return f"ended by signal {-status}"
+    return "" if re.match(shape.answer, said) else f"answers {said[:60]!r}"
 
 
 def growth_of(rows, floor):
