@@ -30,7 +30,7 @@ TRIO = """stream tone_s { rand bit[3] pitch; }
 import target function void play(bit[3] first, bit[3] second);
 import target function void hear(bit[3] pitch);
 component pss_top {
-  pool tone_s left, right;
+  pool tone_s left; pool tone_s right;
   bind left { band.left, first.tone }; bind right { band.right, second.tone };
   action band { output tone_s left; output tone_s right; exec body { play(left.pitch, right.pitch); } }
   action first { input tone_s tone; exec body { hear(tone.pitch); } }
@@ -189,7 +189,7 @@ def of_bodies(tests):
         ran = run([C_TEST, case.static, source])
         last = run([tests.program, "run", *case.words]).out.decode().splitlines()[-1]
         if owed == "syntax":
-            tests.is_true(f"the program refuses '{body}'", last.startswith("rule 3") and ran.status == 1, last)
+            tests.is_true(f"the program refuses '{body}'", last.startswith("syntax ") and ran.status == 1, last)
             continue
         if isinstance(owed, list):
             found = [f"{name} {values}".strip() for name, values in re.findall(r"^  (?:\(void\))?(\w+)\((.*)\);$", bodies_of(ran.out.decode()), re.M)]
@@ -207,11 +207,11 @@ def of_refusals(tests):
     case = Case(tests, "refused", "examples/dma.pss", 2)
     text = case.static.read_text()
     wrong = [
-        ("run 0\n", "run 1\n", "line 12 runs action 1 a second time"),
-        ("signal 2\n", "", "line 12 isn't the number of all instructions"),
-        ("signal 2\n", "signal 1\n", "line 13 comes, and no lane tells of action 2, which one awaits"),
-        ("lane 1\n", "lane 2\n", "line 10 isn't the next lane"),
-        ("await 2\n", "await 9\n", "line 8 is no instruction of a lane"),
+        ("run 0\n", "run 1\n", "line 13 runs action 1 a second time"),
+        ("signal 2\n", "", "line 13 isn't the number of all instructions"),
+        ("signal 2\n", "signal 1\n", "line 14 comes, and no lane tells of action 2, which one awaits"),
+        ("lane 1\n", "lane 2\n", "line 11 isn't the next lane"),
+        ("await 2\n", "await 9\n", "line 12 is no instruction of a lane"),
         ("action 0", "action x", "line 4 is no action line"),
         ("static 5\n", "", "line 13 isn't the number of all instructions"),
     ]
