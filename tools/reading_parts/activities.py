@@ -234,54 +234,57 @@ class Activities:
     def body(self):
         start = self.take().place
         self.need("body")
-        self.block(self.body_statement)
-        return self.made("body", start)
+        steps = self.block(self.body_statement)
+        part = self.made("body", start)
+        part.steps = steps
+        return part
 
     def body_statement(self):
-        kind = self.kind()
+        """A statement of a body: empty, block, if, repeat, local, assign or call."""
+        kind, place = self.kind(), self.here()
         if self.skip(";"):
-            return
+            return Step("empty", place)
         if kind == "{":
-            self.block(self.body_statement)
-        elif self.skip("if"):
-            self.bracketed()
-            self.nested(self.body_statement)
-            if self.skip("else"):
-                self.nested(self.body_statement)
-        elif self.skip("repeat"):
-            self.counted()
-            self.nested(self.body_statement)
-        elif kind in ("int", "bit", "bool"):
-            self.plain()
-            self.need("name")
-            if self.skip("="):
-                self.source()
-            self.need(";")
-        else:
-            self.assignment()
+            return Step("block", place, steps=self.block(self.body_statement))
+        if self.skip("if"):
+            condition, first = self.bracketed(), self.nested(self.body_statement)
+            other = self.nested(self.body_statement) if self.skip("else") else None
+            return Step("if", place, condition=condition, first=first, other=other)
+        if self.skip("repeat"):
+            index, count = self.counted()
+            return Step("repeat", place, index=index, count=count, inner=self.nested(self.body_statement))
+        return self.local(place) if kind in ("int", "bit", "bool") else self.assignment(place)
 
-    def assignment(self):
-        self.need("name")
+    def local(self, place):
+        kind, name = self.plain(), self.need("name").text
+        step = Step("local", place, type=kind, name=name, source=self.source() if self.skip("=") else None)
+        self.need(";")
+        return step
+
+    def assignment(self, place):
+        name = self.need("name").text
         if self.kind() == "(":
-            self.arguments()
+            step = Step("call", place, source=("call", name, self.arguments()))
         else:
             self.need("=")
-            self.source()
+            step = Step("assign", place, name=name, source=self.source())
         self.need(";")
+        return step
 
     def source(self):
+        """What gives a value: an expression, or ("call", the function's name, its arguments)."""
         if self.kind() == "name" and self.kind(1) == "(":
-            self.take()
-            self.arguments()
-        else:
-            self.expression()
+            return ("call", self.take().text, self.arguments())
+        return self.expression()
 
     def arguments(self):
         self.need("(")
+        found = []
         while self.kind() != ")":
-            self.expression()
+            found.append(self.expression())
             if self.kind() != ")":
                 self.need(",")
                 if self.kind() == ")":
                     raise Fault("syntax", self.here())
         self.take()
+        return found

@@ -64,14 +64,17 @@ class Model:
             self.known_lists[type_name, kinds] = [part for it in chain for part in it.of_kind(*kinds)]
         return self.known_lists[type_name, kinds]
 
-    def activity(self, type_name):
-        """The activity of an action type, its own or its nearest base's."""
+    def content(self, type_name, kind):
+        """The activity or the body of an action type, its own or its nearest base's."""
         component, action = type_name.split("::")[0], self.actions.get(type_name)
         for it in reversed(self.chain(component, action) if action else []):
             found = it.of_kind("activity", "body")
             if found:
-                return found[0] if found[0].kind == "activity" else None
+                return found[0] if found[0].kind == kind else None
         return None
+
+    def activity(self, type_name):
+        return self.content(type_name, "activity")
 
     def member(self, type_name, name, *kinds):
         return next((part for part in self.members(type_name, *kinds) if part.name == name), None)
@@ -157,6 +160,14 @@ class Model:
         """The enum of a field's type, or nothing."""
         return self.find(component, field.type[1], ("enum",)) if field.type[0] == "enum" else None
 
+    def plain_span(self, plain, component):
+        """The least and the greatest value of a type without ranges that is no enum."""
+        kind, width = plain
+        bits = {"bit": 1, "int": 32, "bool": 1}[kind]
+        if width:
+            bits = self.number(width[0], component, bits) + (1 if width[1] else 0)
+        return (-(2 ** (bits - 1)), 2 ** (bits - 1) - 1) if kind == "int" else (0, 2**bits - 1)
+
     def domain(self, field, component):
         """The values of a field's type: spans in ascending order."""
         kind, width, ranges = field.type
@@ -165,10 +176,7 @@ class Model:
             values = sorted(value for value in (self.items(enum) if enum else {}).values() if value is not None)
             spans = [(value, value) for value in values]
         else:
-            bits = {"bit": 1, "int": 32, "bool": 1}[kind]
-            if width:
-                bits = self.number(width[0], component, bits) + (1 if width[1] else 0)
-            spans = [(-(2 ** (bits - 1)), 2 ** (bits - 1) - 1) if kind == "int" else (0, 2**bits - 1)]
+            spans = [self.plain_span((kind, width), component)]
         if ranges is None:
             return joined(spans)
         allowed = joined([(self.number(first, component, 0), self.number(last, component, -1)) for first, last in ranges])
