@@ -1,5 +1,6 @@
 -- What a line asks for, by its command.
-use Rattle.std.proofs.Common.{◌≡◌, ◌≤◌, ◌<◌, ◌⊎◌, inl, inr, ℕ, List, refl, arith}
+use Rattle.std.proofs.Common.{◌≡◌, ◌≤◌, ◌<◌, ◌⊎◌, inl, inr, ℕ, List, Bool, true, false, refl, sym, ◌∙◌, arith}
+use Rattle.std.specs.Prelude.{IsTrue}
 use Rattle.std.proofs.lemmas.Bool.{cases_lt}
 use Rattle.pst_words.specs.declared.command.Command.{Command}
 use Rattle.pst_words.specs.declared.command.Command.TheVariants.{Run, Solve, Check, Gen, Static, Place, Sweep}
@@ -51,3 +52,7 @@ fits_swept (work.Generate size lanes) have fits sweep = absurd sweep
 fits_swept (work.Place space) have fits sweep = fits
 fits_swept (work.Sweep first count) have fits sweep = fits
 fits_swept (work.Static over) have fits sweep = fits
+
+-- what a test that answers no doesn't find
+pub not_found : {P : Type 0} → (P → IsTrue false) → P → ⊥
+not_found found p = let both : true ≡ false = sym (found p) in cc

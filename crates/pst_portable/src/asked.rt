@@ -113,7 +113,7 @@ fn answer_swept(
     alloc: Global,
     question: &Question,
 ) -> Result<Reply, NoMemory>
-    requires { IsReady lines.SweepAlone 1 question.now }
+    requires ready { IsReady lines.SweepAlone 1 question.now }
     ensures { (told : List Lane) → AreUncalled told → IfOk result (λ reply. OfModel question.now.names (view_model question.now.model) question.now.root question.now.task (bytes_of question.now.trace) told reply.answer (string_bytes reply.text)) }
 {
     let Question {
@@ -132,7 +132,7 @@ pub(crate) fn reply_swept(
     alloc: Global,
     request: Request,
 ) -> Result<Reply, NoMemory>
-    requires { IsServable lines.SweepAlone 1 request }
+    requires servable { IsServable lines.SweepAlone 1 request }
     ensures { IfOk result (λ reply. IsAnswered request [] reply.answer (string_bytes reply.text)) }
 {
     match request {

@@ -1,21 +1,21 @@
-use Rattle.std.proofs.Common.{min, arith}
+use Rattle.std.proofs.Common.{min, refl, arith}
 use Rattle.std.specs.Prelude.{IfErr}
 use Rattle.pst_run_alone.specs.Lanes.{lanes_told, HaveMade}
 use Rattle.pst_shared_answers.proofs.PassedOn.{all_made}
-use Rattle.pst_portable.proofs.Tasks.{fits_swept}
+use Rattle.pst_portable.proofs.Tasks.{fits_swept, not_found}
 use Rattle.pst_portable.proofs.Done.{none_called, on_memory}
 use Rattle.pst_portable.proofs.asked.answer_on_lanes.Goals as goal
 
-pub answer_swept-requires : goal.answer_swept-requires
-answer_swept-requires g c =
+pub answer_swept-requires-clause-ready : goal.answer_swept-requires-clause-ready
+answer_swept-requires-clause-ready g c =
     let ready = c.requires.ready in λ names lives. record {
       sound = ready.sound;
       concrete = ready.concrete;
       small = ready.small;
       some = omega arith;
       few = omega arith;
-      fits = fits_swept c.args.question.now.task.work (min c.args.lanes.now.len 16) ready.fits (c.if-is_sweep.ensures);
-      asked = c.if-is_sweep.ensures;
+      fits = fits_swept c.args.question.now.task.work (min c.args.lanes.now.len 16) ready.fits (c.if-is_sweep.ensures.0 refl);
+      asked = c.if-is_sweep.ensures.0 refl;
     }
 
 pub answer_with_lanes-requires-clause-ready : goal.answer_with_lanes-requires-clause-ready
@@ -27,7 +27,7 @@ answer_with_lanes-requires-clause-ready g c =
       some = ready.some;
       few = ready.few;
       fits = ready.fits;
-      asked = c.if-is_sweep.ensures;
+      asked = not_found c.if-is_sweep.ensures.1;
     }
 
 pub returns-then-is_sweep-clause-done : goal.returns-then-is_sweep-clause-done

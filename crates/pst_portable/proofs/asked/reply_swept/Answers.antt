@@ -7,8 +7,8 @@ use Rattle.pst_portable.specs.declared.request.Request.{Request}
 use Rattle.pst_portable.specs.Requests.{IsServable, IsAnswered}
 use Rattle.pst_portable.proofs.asked.reply_swept.Goals as goal
 
-pub answer_swept-requires : goal.answer_swept-requires
-answer_swept-requires g c = λ names lives. subst (IsServable SweepAlone 1) c.in-Asked.is c.requires
+pub answer_swept-requires-clause-ready : goal.answer_swept-requires-clause-ready
+answer_swept-requires-clause-ready g c = λ names lives. subst (IsServable SweepAlone 1) c.in-Asked.is c.requires.servable
 
 pub returns-in-Answered : goal.returns-in-Answered
 returns-in-Answered g c =

@@ -15,8 +15,8 @@ returns-in-Gen c =
 
 pub returns-in-Sweep : goal.returns-in-Sweep
 returns-in-Sweep c =
-    subst (λ (k : Command). IsWork k (map string_bytes c.args.line.now.arguments.now) (work.Sweep c.seeds_given.result.0 c.seeds_given.result.1)) (sym c.in-Sweep.is)
-    (c.seeds_given.result.0, c.seeds_given.result.1, c.seeds_given.ensures.first, c.seeds_given.ensures.count, refl)
+    subst (λ (k : Command). IsWork k (map string_bytes c.args.line.now.arguments.now) (work.Sweep c.seeds_given-first.result.0 c.seeds_given-first.result.1)) (sym c.in-Sweep.is)
+    (c.seeds_given-first.result.0, c.seeds_given-first.result.1, c.seeds_given-first.ensures.first, c.seeds_given-first.ensures.count, refl)
 
 pub returns-in-Place : goal.returns-in-Place
 returns-in-Place c =
