@@ -1,4 +1,7 @@
 mod Multiples
+mod Bits
+mod Marking
+mod Holding
 mod Passing
 mod OneMore
 mod Placed

@@ -1,6 +1,6 @@
--- The ranges of the asks that have a place, and one more of them.
+-- The ranges of asks that have a place, and one more of them.
 use Rattle.std.proofs.Common.{◌≡◌, ◌⊎◌, ℕ, ◌+◌, ◌<◌, ◌≤◌, List, [], ◌∷◌, ◌++◌, length, get_or, take, drop, Some, slice_get, refl, sym, ap, ◌∙◌, subst, ⊎_elim, arith, length-append}
-use Rattle.std.specs.Prelude.{All, Contains}
+use Rattle.std.specs.Prelude.{All, Contains, Bool, false}
 use Rattle.std.specs.List.{insert}
 use Rattle.std.proofs.lemmas.Bool.{cases_lt}
 use Rattle.std.proofs.lemmas.List.{get_or_append_left, get_or_push, take-append-le, take_at}
@@ -13,7 +13,8 @@ use Rattle.pst_addr.specs.declared.ask.Ask.{Ask}
 use Rattle.pst_addr.specs.declared.ask.Space.{Space}
 use Rattle.pst_addr.specs.declared.ask.Range.{Range}
 use Rattle.pst_addr.specs.Places.{Meet, Fits, IsLeast, IsPlaced, AreFirst, ArePlaced, HasNoRoom, IsAsk, AreAsks}
-use Rattle.pst_addr.specs.Ranges.{range_of, IsRangeOf, AreRangesOf, IsInsertion, FitsAmong}
+use Rattle.pst_addr.specs.Ranges.{range_of, IsRangeOf, IsMetLater, AreRangesOf, IsInsertion, FitsAmong}
+use Rattle.pst_addr.specs.Columns.{IsMetNoMore, IsAdded, Stands, IsLeft}
 
 -- ---- an inserted item
 
@@ -30,7 +31,7 @@ all_insert P xs at y all one = All-append P (take at xs) (y ∷ drop at xs) (All
 
 -- ---- an address fits the asks where it fits among the ranges of those that have a place
 
-module _ (p : Entries) (space : Space) (asks : List Ask) (places : List ℕ) (ranges : List Range) (are : AreRangesOf asks places ranges) (ask : Ask) where
+module _ (p : Entries) (space : Space) (asks : List Ask) (places : List ℕ) (ranges : List Range) (are : AreRangesOf p asks places ranges) (ask : Ask) (is_now : slice_get asks (length places) ≡ Some ask) where
   abbrev IsClearOf : ℕ → Range → Type 0
   IsClearOf address range = Meet p ask.action range.action → (address + ask.size ≤ range.low) ⊎ (range.high ≤ address)
 
@@ -47,7 +48,9 @@ module _ (p : Entries) (space : Space) (asks : List Ask) (places : List ℕ) (ra
     aligned = f.aligned;
     above = f.above;
     inside = f.inside;
-    clear = λ k earlier l is. All-contains (IsClearOf address) ranges (range_of earlier (get_or places k 0)) f.clear (are.each k earlier l is);
+    clear = λ k earlier l is meets.
+        let later : IsMetLater p asks places earlier.action = record { number = length places; behind = omega arith; ask = ask; is = is_now; meets = meets } in
+        All-contains (IsClearOf address) ranges (range_of earlier (get_or places k 0)) f.clear (are.each k earlier l is later) meets;
   }
 
   pub placed_among : (address : ℕ) → IsLeast (FitsAmong p space ranges ask) address → IsPlaced p space asks places ask address
@@ -56,7 +59,8 @@ module _ (p : Entries) (space : Space) (asks : List Ask) (places : List ℕ) (ra
   pub none_among : ((address : ℕ) → FitsAmong p space ranges ask address → ⊥) → (address : ℕ) → Fits p space asks places ask address → ⊥
   none_among none address f = none address (to_among address f)
 
-  -- their actions are those of asks
+-- their actions are those of asks
+module _ (p : Entries) (asks : List Ask) (places : List ℕ) (ranges : List Range) (are : AreRangesOf p asks places ranges) where
   pub ranges_in : AreAsks p asks → All (λ (range : Range). range.action < length p.groups) ranges
   ranges_in all k d l =
       let one = are.only k d l in
@@ -110,12 +114,16 @@ module _ (p : Entries) (space : Space) (asks : List Ask) (places : List ℕ) (as
   new_range : IsRangeOf asks more (range_of ask address)
   new_range = record { number = length places; below = omega (arith, many); ask = ask; is = is; range_is = ap (range_of ask) (sym new_place) }
 
-  pub ranges_more : (ranges : List Range) (at : ℕ) → AreRangesOf asks places ranges → IsInsertion ranges address at → AreRangesOf asks more (insert ranges at (range_of ask address))
-  ranges_more ranges at are goes = record {
-    each = λ k other h is_other.
+  -- what is met later now was so before
+  met_before : (action : ℕ) → IsMetLater p asks more action → IsMetLater p asks places action
+  met_before action met = record { number = met.number; behind = let b = met.behind in omega (arith, b, many); ask = met.ask; is = met.is; meets = met.meets }
+
+  ranges_with : (ranges : List Range) (at : ℕ) → AreRangesOf p asks places ranges → IsInsertion ranges address at → AreRangesOf p asks more (insert ranges at (range_of ask address))
+  ranges_with ranges at are goes = record {
+    each = λ k other h is_other met.
         ⊎_elim
         (λ b. subst (λ v. Contains (insert ranges at (range_of ask address)) (range_of other v)) (sym (old_place k b))
-        (old_in_insert ranges at (range_of ask address) (range_of other (get_or places k 0)) goes.inside (are.each k other b is_other)))
+        (old_in_insert ranges at (range_of ask address) (range_of other (get_or places k 0)) goes.inside (are.each k other b is_other (met_before other.action met))))
         (λ b. let e : length places ≡ k = omega (arith, b, h, many) in
         let same = same_ask other (subst (λ n. slice_get asks n ≡ Some other) (sym e) is_other) in
         subst (λ n. Contains (insert ranges at (range_of ask address)) (range_of other (get_or more n 0))) e
@@ -126,12 +134,31 @@ module _ (p : Entries) (space : Space) (asks : List Ask) (places : List ℕ) (as
     sorted = IsNonDecreasingBy-insert (λ (range : Range). range.low) ranges at (range_of ask address) are.sorted goes.inside goes.before goes.behind;
   }
 
+  ranges_without : (ranges : List Range) → AreRangesOf p asks places ranges → IsMetNoMore p asks (length places) → AreRangesOf p asks more ranges
+  ranges_without ranges are no_more = record {
+    each = λ k other h is_other met.
+        ⊎_elim
+        (λ b. subst (λ v. Contains ranges (range_of other v)) (sym (old_place k b)) (are.each k other b is_other (met_before other.action met)))
+        (λ b. let e : length places ≡ k = omega (arith, b, h, many) in
+        let here = subst (λ n. slice_get asks n ≡ Some other) (sym e) is_other in
+        let behind = met.behind in
+        absurd (no_more met.number other met.ask (omega (arith, behind, many)) here met.is met.meets))
+        (cases_lt k (length places));
+    only = All-weaker (IsRangeOf asks places) (IsRangeOf asks more) old_range ranges are.only;
+    sorted = are.sorted;
+  }
+
+  pub ranges_more : (needed : Bool) (ranges new_ranges : List Range) → AreRangesOf p asks places ranges → (needed ≡ false → IsMetNoMore p asks (length places)) → IsAdded needed ranges (range_of ask address) new_ranges
+      → AreRangesOf p asks more new_ranges
+  ranges_more needed ranges new_ranges are no_more (Stands at goes e) = subst (AreRangesOf p asks more) (sym e) (ranges_with ranges at are goes)
+  ranges_more needed ranges new_ranges are no_more (IsLeft none e) = subst (AreRangesOf p asks more) (sym e) (ranges_without ranges are (no_more none))
+
 -- ---- as the loop says it
 
 pub record AreSoFar (p : Entries) (space : Space) (asks : List Ask) (places : List ℕ) (ranges : List Range) (count : ℕ) : Type 0 where
   pub first : AreFirst p space asks places
   pub many : length places ≡ count
-  pub are : AreRangesOf asks places ranges
+  pub are : AreRangesOf p asks places ranges
 
 module _ (p : Entries) (space : Space) (asks : List Ask) (places : List ℕ) (ranges : List Range) (k : ℕ) (so_far : AreSoFar p space asks places ranges k) (d : Ask) (inside : k < length asks) where
   abbrev ask : Ask
@@ -140,19 +167,18 @@ module _ (p : Entries) (space : Space) (asks : List Ask) (places : List ℕ) (ra
   is_next : slice_get asks (length places) ≡ Some ask
   is_next = subst (λ n. slice_get asks n ≡ Some ask) (sym so_far.many) (slice_get-get_or asks k d inside)
 
-  pub placed_on : (address : ℕ) (new_places : List ℕ) (new_ranges : List Range) → IsLeast (FitsAmong p space ranges ask) address
-      → (at : ℕ) × IsInsertion ranges address at × (new_ranges ≡ insert ranges at (range_of ask address)) → new_places ≡ places ++ address ∷ [] → AreSoFar p space asks new_places new_ranges (k + 1)
-  placed_on address new_places new_ranges least (at, goes, ranges_are) places_are =
-      let placed = placed_among p space asks places ranges so_far.are ask address least in
-      let added = length-append places (address ∷ []) in
+  pub placed_on : (address : ℕ) (new_places : List ℕ) (needed : Bool) (new_ranges : List Range) → IsLeast (FitsAmong p space ranges ask) address
+      → (needed ≡ false → IsMetNoMore p asks k) → IsAdded needed ranges (range_of ask address) new_ranges → new_places ≡ places ++ address ∷ [] → AreSoFar p space asks new_places new_ranges (k + 1)
+  placed_on address new_places needed new_ranges least no_more added places_are =
+      let placed = placed_among p space asks places ranges so_far.are ask is_next address least in
+      let longer = length-append places (address ∷ []) in
       let count = so_far.many in
       subst (λ v. AreSoFar p space asks v new_ranges (k + 1)) (sym places_are)
-      (subst (λ v. AreSoFar p space asks (places ++ address ∷ []) v (k + 1)) (sym ranges_are)
       (record {
         first = first_more p space asks places ask address is_next so_far.first placed;
-        many = omega (arith, added, count);
-        are = ranges_more p space asks places ask address is_next ranges at so_far.are goes;
-      }))
+        many = omega (arith, longer, count);
+        are = ranges_more p space asks places ask address is_next needed ranges new_ranges so_far.are (λ none. subst (IsMetNoMore p asks) (sym count) (no_more none)) added;
+      })
 
   pub without : ((address : ℕ) → FitsAmong p space ranges ask address → ⊥) → HasNoRoom p space asks k
   without none = record {
@@ -161,7 +187,7 @@ module _ (p : Entries) (space : Space) (asks : List Ask) (places : List ℕ) (ra
     count = so_far.many;
     ask = ask;
     is = slice_get-get_or asks k d inside;
-    none = none_among p space asks places ranges so_far.are ask none;
+    none = none_among p space asks places ranges so_far.are ask is_next none;
   }
 
 -- none has a place at first
@@ -172,7 +198,7 @@ none_so_far p space asks places ranges places_are ranges_are =
     (record {
       first = record { few = omega arith; each = λ k ask l is. absurd (omega (arith, l)) };
       many = refl;
-      are = record { each = λ k ask l is. absurd (omega (arith, l)); only = λ k d l. absurd (omega (arith, l)); sorted = λ i j d l h. absurd (omega (arith, h)) };
+      are = record { each = λ k ask l is met. absurd (omega (arith, l)); only = λ k d l. absurd (omega (arith, l)); sorted = λ i j d l h. absurd (omega (arith, h)) };
     }))
 
 pub all_placed : (p : Entries) (space : Space) (asks : List Ask) (places : List ℕ) (ranges : List Range) (k : ℕ) → AreSoFar p space asks places ranges k → length asks ≤ k → ArePlaced p space asks places

@@ -29,9 +29,17 @@ pub record IsRangeOf (asks : List Ask) (places : List ℕ) (range : Range) : Typ
 abbrev pub AreSorted : List Range → Type 0
 AreSorted ranges = IsNonDecreasingBy (λ (range : Range). range.low) ranges
 
--- the bytes of all asks that have a place, in that order
-pub record AreRangesOf (asks : List Ask) (places : List ℕ) (ranges : List Range) : Type 0 where
-  pub each : (k : ℕ) (ask : Ask) → k < length places → slice_get asks k ≡ Some ask → Contains ranges (range_of ask (get_or places k 0))
+-- an ask that has no place meets the action
+pub record IsMetLater (p : Entries) (asks : List Ask) (places : List ℕ) (action : ℕ) : Type 0 where
+  pub number : ℕ
+  pub behind : length places ≤ number
+  pub ask : Ask
+  pub is : slice_get asks number ≡ Some ask
+  pub meets : Meet p ask.action action
+
+-- the bytes of asks that have a place, in that order: all that an ask without one meets
+pub record AreRangesOf (p : Entries) (asks : List Ask) (places : List ℕ) (ranges : List Range) : Type 0 where
+  pub each : (k : ℕ) (ask : Ask) → k < length places → slice_get asks k ≡ Some ask → IsMetLater p asks places ask.action → Contains ranges (range_of ask (get_or places k 0))
   pub only : All (IsRangeOf asks places) ranges
   pub sorted : AreSorted ranges
 

@@ -7,9 +7,11 @@
 
 mod ask;
 mod asks;
+mod columns;
 mod first_fit;
 mod laws;
 mod multiple;
+mod needed;
 mod placing;
 
 pub use ask::{Ask, PlaceEnd, Space};

@@ -1,11 +1,14 @@
 //! Places of asks.
-ghost use Rattle.std.specs.Prelude.{◌≡◌, ◌≤◌, ◌<◌, ◌+◌, ◌^◌, ◌∷◌, ◌++◌, [], ℕ, length, IfOk, MatchResult};
+ghost use Rattle.std.specs.Prelude.{◌≡◌, ◌≤◌, ◌<◌, ◌+◌, ◌^◌, ◌∷◌, ◌++◌, [], ℕ, length, IfOk, OnOk, MatchResult};
 ghost use Rattle.std.specs.List.{insert};
 ghost use Rattle.pst_addr.specs.Places.{AreAsks, ArePlaced, EndsPlacing};
 ghost use Rattle.pst_addr.specs.Ranges.{AreSorted, IsInsertion, range_of};
+ghost use Rattle.pst_addr.specs.Columns.{IsAdded};
 
 use crate::ask::{Ask, PlaceEnd, Range, Space};
+use crate::columns::bring;
 use crate::first_fit::first_fit;
+use crate::needed::needed_asks;
 use pst_base::NoMemory;
 use pst_scen::Plan;
 use std::alloc::Global;
@@ -26,6 +29,24 @@ fn add_range(ranges: &mut Vec<Range>, range: Range) -> Result<(), NoMemory>
     let at = count_before(ranges, range.low);
     ranges.insert(at, range)?;
     Ok(())
+}
+
+/// Adds it, if it is needed.
+fn keep_range(ranges: &mut Vec<Range>, range: Range, needed: bool) -> Result<(), NoMemory>
+    requires { AreSorted ranges.old.items }
+    ensures { OnOk result (IsAdded needed ranges.old.items range ranges.new.items) }
+{
+    if needed {
+        add_range(ranges, range)?;
+    }
+    Ok(())
+}
+
+/// So many words.
+fn words(alloc: Global, count: u32) -> Result<Vec<u64>, NoMemory>
+    ensures { IfOk result (λ words. length words.items ≡ count) }
+{
+    Ok(Vec::from_elem(alloc, 0u64, count as usize)?)
 }
 
 /// An empty list with room for so many items.
@@ -63,13 +84,19 @@ pub fn place(alloc: Global, plan: &Plan, asks: &[Ask], space: Space) -> Result<V
     requires space { space.base + space.size ≤ 2 ^ 63 }
     ensures { MatchResult result (λ places. ArePlaced plan.now space asks.now places.items) (EndsPlacing plan.now space asks.now) }
 {
+    let needed = needed_asks(alloc, plan, asks)?;
+    let mut column = words(alloc, plan.len())?;
+    let mut held = column.len();
     let mut places = room(alloc, asks.len())?;
     let mut ranges = room(alloc, asks.len())?;
     for k in 0..asks.len() {
-        let Some(address) = first_fit(plan, &ranges, asks[k], space) else {
+        let at = asks[k].action as usize / 64;
+        bring(&mut column, held, plan.must_rows(), at);
+        held = at;
+        let Some(address) = first_fit(plan, &column, &ranges, asks[k], space) else {
             return Err(PlaceEnd::NoRoom { ask: k as u32 });
         };
-        add_range(&mut ranges, range_at(asks[k], address))?;
+        keep_range(&mut ranges, range_at(asks[k], address), needed[k])?;
         add_place(&mut places, address)?;
     }
     Ok(places)
