@@ -6,11 +6,14 @@ use Rattle.pst_scen.specs.Trace.{IsHeld}
 use Rattle.pst_scen.specs.Plan.{Entries}
 use Rattle.pst_book.specs.Books.{MayJoin}
 use Rattle.pst_book.specs.Tables.{AreTied}
+use Rattle.pst_tallies.specs.Tallies.{counts_in, IsTally}
 
--- Each table says of the trace what its name says.
+-- Each table says of the trace what its name says. What is awaited and what is in the way is counted in tallies.
 pub record AreCounted (p : Entries) (trace : List Event) (started ended : List Bool) (awaited in_the_way next : List ℕ) (holders : List (Option ℕ)) : Type 0 where
   pub left : ℕ
-  pub tied : AreTied p 16 trace started ended awaited in_the_way next holders 0 left
+  pub awaited_are : IsTally (length p.groups) awaited
+  pub in_the_way_are : IsTally (length p.groups) in_the_way
+  pub tied : AreTied p 16 trace started ended (counts_in (length p.groups) awaited) (counts_in (length p.groups) in_the_way) next holders 0 left
 
 -- they do of some trace, with some other tables
 abbrev pub AreCountedStarts : Entries → List Bool → List ℕ → List ℕ → List (Option ℕ) → Type 0

@@ -4,7 +4,6 @@ ghost use Rattle.pst_scen.specs.declared.scenario.Scenario.{Scenario};
 ghost use Rattle.pst_scen.specs.Plans.{IsPlanOf};
 ghost use Rattle.pst_scen.specs.Rows.{row_words};
 ghost use Rattle.pst_scen.specs.Judging.{AreWholeBlocks};
-ghost use Rattle.pst_tallies.specs.Tallies.{counts_in, IsTally};
 ghost use Rattle.pst_by_rule.specs.Counted.{AreCounted};
 ghost use Rattle.pst_by_rule.specs.Followed.{AreFollowed};
 
@@ -17,7 +16,7 @@ use pst_tallies::count_awaited;
 /// The number of actions that have places in the tables.
 const COUNTED: usize = 16384;
 
-/// The number of their places in the table of what they await, of which each 64 have one more.
+/// The number of their places in a tally, where each 64 of them have one more.
 const TALLIED: usize = COUNTED + COUNTED / 64;
 
 /// The number of lanes that have places in the tables.
@@ -42,8 +41,7 @@ fn follow_counted(
     holders: &mut [Option<u32>],
 ) -> Followed
     requires blocks { AreWholeBlocks events.now }
-    requires tally { IsTally (length plan.now.groups) awaited.old }
-    requires counted { AreCounted plan.now [] started.old ended.old (counts_in (length plan.now.groups) awaited.old) in_the_way.old next.now holders.old }
+    requires counted { AreCounted plan.now [] started.old ended.old awaited.old in_the_way.old next.now holders.old }
     ensures { (s : Scenario) → IsPlanOf s plan.now → AreFollowed s events.now result.events result.blocks }
 {
     let mut first = 0;
@@ -85,7 +83,7 @@ fn follow_with(
     requires started { started.old ≡ replicate (length plan.now.groups) false }
     requires ended { ended.old ≡ replicate (length plan.now.groups) false }
     requires awaited { awaited.old ≡ replicate (length plan.now.groups + row_words (length plan.now.groups)) 0 }
-    requires in_the_way { in_the_way.old ≡ replicate (length plan.now.groups) 0 }
+    requires in_the_way { in_the_way.old ≡ replicate (length plan.now.groups + row_words (length plan.now.groups)) 0 }
     requires next { length next.old ≡ length plan.now.groups }
     requires seen { seen.old ≡ replicate (length plan.now.groups) (length plan.now.groups) }
     requires holders { holders.old ≡ replicate 16 None }
@@ -113,10 +111,11 @@ pub fn follow(plan: &Plan, events: &[Event]) -> Followed
             blocks: 0,
         };
     }
+    let tallied = places + (places + 63) / 64;
     let mut started = [false; COUNTED];
     let mut ended = [false; COUNTED];
     let mut awaited = [0u32; TALLIED];
-    let mut in_the_way = [0u32; COUNTED];
+    let mut in_the_way = [0u32; TALLIED];
     let mut next = [0u32; COUNTED];
     let mut seen = [count; COUNTED];
     let mut holders: [Option<u32>; LANES] = [None; LANES];
@@ -125,8 +124,8 @@ pub fn follow(plan: &Plan, events: &[Event]) -> Followed
         events,
         &mut started[..places],
         &mut ended[..places],
-        &mut awaited[..places + (places + 63) / 64],
-        &mut in_the_way[..places],
+        &mut awaited[..tallied],
+        &mut in_the_way[..tallied],
         &mut next[..places],
         &mut seen[..places],
         &mut holders,

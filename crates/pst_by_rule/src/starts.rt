@@ -7,7 +7,6 @@ ghost use Rattle.pst_scen.specs.Trace.{Runs};
 ghost use Rattle.pst_scen.specs.Plans.{IsPlanOf};
 ghost use Rattle.pst_order.specs.Rule.{FollowsRule};
 ghost use Rattle.pst_by_rule.specs.Blocks.{block_of, IsOneBlock};
-ghost use Rattle.pst_tallies.specs.Tallies.{counts_in, IsTally};
 ghost use Rattle.pst_by_rule.specs.Counted.{AreCounted, AreCountedStarts, AreCountedMembers, AreCountedEnds, AreCountedAll, DidStart};
 ghost use Rattle.pst_by_rule.specs.Followed.{AreStarts};
 
@@ -27,9 +26,8 @@ fn follow_start(
     holders: &mut [Option<u32>],
 ) -> bool
     requires act_in { act < length plan.now.groups }
-    requires tally { IsTally (length plan.now.groups) awaited.now }
-    requires counted { AreCountedStarts plan.now started.old (counts_in (length plan.now.groups) awaited.now) in_the_way.old holders.old }
-    ensures { (trace : List Event) (ended : List Bool) (next : List ℕ) → AreCounted plan.now trace started.old ended (counts_in (length plan.now.groups) awaited.now) in_the_way.old next holders.old → OnTrue result (DidStart plan.now trace event act started.new ended (counts_in (length plan.now.groups) awaited.now) in_the_way.new next holders.new) }
+    requires counted { AreCountedStarts plan.now started.old awaited.now in_the_way.old holders.old }
+    ensures { (trace : List Event) (ended : List Bool) (next : List ℕ) → AreCounted plan.now trace started.old ended awaited.now in_the_way.old next holders.old → OnTrue result (DidStart plan.now trace event act started.new ended awaited.now in_the_way.new next holders.new) }
 {
     if !may_join(plan, started, awaited, in_the_way, act) {
         return false;
@@ -53,9 +51,8 @@ fn follow_starts(
     holders: &mut [Option<u32>],
 ) -> bool
     requires some { 0 < length part.now }
-    requires tally { IsTally (length plan.now.groups) awaited.now }
-    requires counted { AreCountedMembers plan.now started.old (counts_in (length plan.now.groups) awaited.now) in_the_way.old next.now holders.old }
-    ensures { (trace : List Event) (ended : List Bool) → AreCounted plan.now trace started.old ended (counts_in (length plan.now.groups) awaited.now) in_the_way.old next.now holders.old → OnTrue result (AreStarts plan.now trace part.now × AreCounted plan.now (trace ++ part.now) started.new ended (counts_in (length plan.now.groups) awaited.now) in_the_way.new next.now holders.new) }
+    requires counted { AreCountedMembers plan.now started.old awaited.now in_the_way.old next.now holders.old }
+    ensures { (trace : List Event) (ended : List Bool) → AreCounted plan.now trace started.old ended awaited.now in_the_way.old next.now holders.old → OnTrue result (AreStarts plan.now trace part.now × AreCounted plan.now (trace ++ part.now) started.new ended awaited.now in_the_way.new next.now holders.new) }
 {
     let count = plan.len();
     let group = act_of(part[0]);
@@ -106,9 +103,8 @@ fn follow_end(
     in_the_way: &mut [u32],
     holders: &mut [Option<u32>],
 ) -> bool
-    requires tally { IsTally (length plan.now.groups) awaited.old }
-    requires counted { AreCountedEnds plan.now started.now ended.old (counts_in (length plan.now.groups) awaited.old) in_the_way.old holders.old }
-    ensures { (trace : List Event) (next : List ℕ) → AreCounted plan.now trace started.now ended.old (counts_in (length plan.now.groups) awaited.old) in_the_way.old next holders.old → OnTrue result (Runs trace act × AreCounted plan.now (trace ++ Event.End act ∷ []) started.now ended.new (counts_in (length plan.now.groups) awaited.new) in_the_way.new next holders.new) }
+    requires counted { AreCountedEnds plan.now started.now ended.old awaited.old in_the_way.old holders.old }
+    ensures { (trace : List Event) (next : List ℕ) → AreCounted plan.now trace started.now ended.old awaited.old in_the_way.old next holders.old → OnTrue result (Runs trace act × AreCounted plan.now (trace ++ Event.End act ∷ []) started.now ended.new awaited.new in_the_way.new next holders.new) }
 {
     if !runs(plan, started, ended, act) {
         return false;
@@ -130,9 +126,8 @@ pub(crate) fn follow_block(
 ) -> bool
     requires some { 0 < length part.now }
     requires one { IsOneBlock part.now }
-    requires tally { IsTally (length plan.now.groups) awaited.old }
-    requires counted { AreCountedAll plan.now started.old ended.old (counts_in (length plan.now.groups) awaited.old) in_the_way.old next.now holders.old }
-    ensures { (trace : List Event) → AreCounted plan.now trace started.old ended.old (counts_in (length plan.now.groups) awaited.old) in_the_way.old next.now holders.old → OnTrue result (((s : Scenario) → IsPlanOf s plan.now → FollowsRule s 16 trace (block_of part.now)) × AreCounted plan.now (trace ++ part.now) started.new ended.new (counts_in (length plan.now.groups) awaited.new) in_the_way.new next.now holders.new) }
+    requires counted { AreCountedAll plan.now started.old ended.old awaited.old in_the_way.old next.now holders.old }
+    ensures { (trace : List Event) → AreCounted plan.now trace started.old ended.old awaited.old in_the_way.old next.now holders.old → OnTrue result (((s : Scenario) → IsPlanOf s plan.now → FollowsRule s 16 trace (block_of part.now)) × AreCounted plan.now (trace ++ part.now) started.new ended.new awaited.new in_the_way.new next.now holders.new) }
 {
     groups_are_whole();
     whole_is_sound();

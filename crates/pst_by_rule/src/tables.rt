@@ -5,9 +5,9 @@ ghost use Rattle.pst_book.specs.Tables.{AreRaised, AreLowered, AreFreed};
 ghost use Rattle.pst_tallies.specs.Tallies.{counts_in, IsTally};
 ghost use Rattle.pst_by_rule.specs.Counted.{StartsFreely};
 
-use pst_book::{free, lower, raise};
+use pst_book::free;
 use pst_scen::{Event, Plan};
-use pst_tallies::{awaits_none, lower_awaited};
+use pst_tallies::{is_none, lower_awaited, lower_in_the_way, raise_in_the_way};
 
 /// Whether the action may start, as to what started, ended and runs.
 pub(crate) fn may_join(
@@ -19,17 +19,17 @@ pub(crate) fn may_join(
 ) -> bool
     requires act_in { act < length plan.now.groups }
     requires started_in { act < length started.now }
-    requires tally { IsTally (length plan.now.groups) awaited.now }
-    requires in_the_way_in { act < length in_the_way.now }
-    ensures { IsTrue result ↔ (get_or started.now act false ≡ false) × (get_or (counts_in (length plan.now.groups) awaited.now) act 0 ≡ 0) × (get_or in_the_way.now act 0 ≡ 0) }
+    requires awaited { IsTally (length plan.now.groups) awaited.now }
+    requires in_the_way { IsTally (length plan.now.groups) in_the_way.now }
+    ensures { IsTrue result ↔ (get_or started.now act false ≡ false) × (get_or (counts_in (length plan.now.groups) awaited.now) act 0 ≡ 0) × (get_or (counts_in (length plan.now.groups) in_the_way.now) act 0 ≡ 0) }
 {
     if started[act as usize] {
         return false;
     }
-    if !awaits_none(plan, awaited, act) {
+    if !is_none(plan, awaited, act) {
         return false;
     }
-    in_the_way[act as usize] == 0
+    is_none(plan, in_the_way, act)
 }
 
 /// Whether the lane is free.
@@ -74,15 +74,15 @@ pub(crate) fn note_start(
     requires act_in { act < length plan.now.groups }
     requires lane_in { lane < length holders.old }
     requires many_started { length started.old ≡ length plan.now.groups }
-    requires many_in_the_way { length in_the_way.old ≡ length plan.now.groups }
-    requires room { (m : ℕ) → m < length plan.now.groups → Has plan.now.conflict act m → get_or in_the_way.old m 0 + 1 ≤ length plan.now.groups }
+    requires in_the_way { IsTally (length plan.now.groups) in_the_way.old }
+    requires room { (m : ℕ) → m < length plan.now.groups → Has plan.now.conflict act m → get_or (counts_in (length plan.now.groups) in_the_way.old) m 0 + 1 ≤ length plan.now.groups }
     ensures started { started.new ≡ slice_set started.old act true }
-    ensures in_the_way { AreRaised plan.now.conflict act in_the_way.old in_the_way.new }
+    ensures in_the_way { AreRaised plan.now.conflict act (counts_in (length plan.now.groups) in_the_way.old) (counts_in (length plan.now.groups) in_the_way.new) }
     ensures holders { holders.new ≡ slice_set holders.old lane (Some act) }
 {
     let inside = act < plan.len();
     prove!(inside);
-    raise(in_the_way, plan.conflict_rows(), act);
+    raise_in_the_way(plan, in_the_way, act);
     started[act as usize] = true;
     holders[lane as usize] = Some(act);
 }
@@ -98,17 +98,17 @@ pub(crate) fn note_end(
 )
     requires act_in { act < length plan.now.groups }
     requires many_ended { length ended.old ≡ length plan.now.groups }
-    requires tally { IsTally (length plan.now.groups) awaited.old }
-    requires many_in_the_way { length in_the_way.old ≡ length plan.now.groups }
+    requires awaited { IsTally (length plan.now.groups) awaited.old }
+    requires in_the_way { IsTally (length plan.now.groups) in_the_way.old }
     requires some_awaited { (m : ℕ) → m < length plan.now.groups → Has plan.now.must act m → 0 < get_or (counts_in (length plan.now.groups) awaited.old) m 0 }
-    requires some_in_the_way { (m : ℕ) → m < length plan.now.groups → Has plan.now.conflict act m → 0 < get_or in_the_way.old m 0 }
+    requires some_in_the_way { (m : ℕ) → m < length plan.now.groups → Has plan.now.conflict act m → 0 < get_or (counts_in (length plan.now.groups) in_the_way.old) m 0 }
     ensures ended { ended.new ≡ slice_set ended.old act true }
     ensures awaited { AreLowered plan.now.must act (counts_in (length plan.now.groups) awaited.old) (counts_in (length plan.now.groups) awaited.new) }
-    ensures in_the_way { AreLowered plan.now.conflict act in_the_way.old in_the_way.new }
+    ensures in_the_way { AreLowered plan.now.conflict act (counts_in (length plan.now.groups) in_the_way.old) (counts_in (length plan.now.groups) in_the_way.new) }
     ensures holders { AreFreed act holders.old holders.new }
 {
     lower_awaited(plan, awaited, act);
-    lower(in_the_way, plan.conflict_rows(), act);
+    lower_in_the_way(plan, in_the_way, act);
     free(holders, act);
     ended[act as usize] = true;
 }

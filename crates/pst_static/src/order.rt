@@ -23,7 +23,7 @@ use pst_base::NoMemory;
 use pst_order::must_keeps_groups;
 use pst_programs::programs_are_safe;
 use pst_scen::Plan;
-use pst_tallies::{awaits_none, lower_awaited, word_end};
+use pst_tallies::{is_none, lower_awaited, word_end};
 use std::alloc::Global;
 
 /// A mark for each block of 64 actions, all of them set.
@@ -46,7 +46,7 @@ fn can_be_taken(plan: &Plan, awaited: &[u32], taken: &[bool], group: u32) -> boo
     if taken[group as usize] {
         return false;
     }
-    awaits_none(plan, awaited, group)
+    is_none(plan, awaited, group)
 }
 
 /// The least number of such a group from a number on, before another one.

@@ -74,3 +74,18 @@ pub same_anywhere : (n m x : ℕ) → get_or (replicate n x) m x ≡ x
 same_anywhere zero m x = refl
 same_anywhere (suc n) zero x = refl
 same_anywhere (suc n) (suc m) x = same_anywhere n m x
+
+replicate_push : (n x : ℕ) → replicate n x ++ x ∷ [] ≡ replicate (suc n) x
+replicate_push zero x = refl
+replicate_push (suc n) x = ap (λ xs. x ∷ xs) (replicate_push n x)
+
+zeros_first : (n size : ℕ) (tally : List ℕ) → ((m : ℕ) → get_or tally m 0 ≡ 0) → first_counts n size tally ≡ replicate n 0
+zeros_first zero size tally none = refl
+zeros_first (suc n) size tally none =
+    let x = none n in let y = none (size + n / 64) in
+    let zero_here : count_of size tally n ≡ 0 = omega (arith, x, y) in
+    ap (λ xs. xs ++ count_of size tally n ∷ []) (zeros_first n size tally none) ∙ ap (λ k. replicate n 0 ++ k ∷ []) zero_here ∙ replicate_push n 0
+
+-- nothing is counted anywhere in a table of zeros
+pub none_anywhere : (size : ℕ) (tally : List ℕ) → ((m : ℕ) → get_or tally m 0 ≡ 0) → counts_in size tally ≡ replicate size 0
+none_anywhere size tally none = zeros_first size size tally none

@@ -91,6 +91,26 @@ pub fn lower_awaited(plan: &Plan, tally: &mut [u32], a: u32)
     move_row(tally, plan.must_rows(), a, u32::MAX);
 }
 
+/// Raises the count of each action that conflicts with the given one.
+pub fn raise_in_the_way(plan: &Plan, tally: &mut [u32], a: u32)
+    requires a_in { a < length plan.now.groups }
+    requires tally { IsTally (length plan.now.groups) tally.old }
+    requires room { (m : ℕ) → m < length plan.now.groups → Has plan.now.conflict a m → get_or (counts_in (length plan.now.groups) tally.old) m 0 + 1 < 2 ^ 32 }
+    ensures { AreRaised plan.now.conflict a (counts_in (length plan.now.groups) tally.old) (counts_in (length plan.now.groups) tally.new) }
+{
+    move_row(tally, plan.conflict_rows(), a, 1);
+}
+
+/// Lowers the count of each action that conflicts with the given one.
+pub fn lower_in_the_way(plan: &Plan, tally: &mut [u32], a: u32)
+    requires a_in { a < length plan.now.groups }
+    requires tally { IsTally (length plan.now.groups) tally.old }
+    requires some { (m : ℕ) → m < length plan.now.groups → Has plan.now.conflict a m → 0 < get_or (counts_in (length plan.now.groups) tally.old) m 0 }
+    ensures { AreLowered plan.now.conflict a (counts_in (length plan.now.groups) tally.old) (counts_in (length plan.now.groups) tally.new) }
+{
+    move_row(tally, plan.conflict_rows(), a, u32::MAX);
+}
+
 /// Counts how many actions must come before each action, in a table of zeros.
 pub fn count_awaited(plan: &Plan, tally: &mut [u32])
     requires tally { IsTally (length plan.now.groups) tally.old }
@@ -104,7 +124,7 @@ pub fn count_awaited(plan: &Plan, tally: &mut [u32])
 }
 
 /// Whether nothing is counted for the action.
-pub fn awaits_none(plan: &Plan, tally: &[u32], act: u32) -> bool
+pub fn is_none(plan: &Plan, tally: &[u32], act: u32) -> bool
     requires tally { IsTally (length plan.now.groups) tally.now }
     requires act_in { act < length plan.now.groups }
     ensures { IsTrue result ↔ get_or (counts_in (length plan.now.groups) tally.now) act 0 ≡ 0 }

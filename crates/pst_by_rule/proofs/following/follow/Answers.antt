@@ -27,7 +27,7 @@ pub follow_with-requires-clause-awaited : goal.follow_with-requires-clause-await
 follow_with-requires-clause-awaited c = few_tallied c.len-count.result _ 0 (let l = c.if-places-gt-COUNTED.false in omega (arith, l)) c.len-count.ensures.is
 
 pub follow_with-requires-clause-in_the_way : goal.follow_with-requires-clause-in_the_way
-follow_with-requires-clause-in_the_way c = few c.len-count.result _ 0 (let l = c.if-places-gt-COUNTED.false in omega (arith, l)) c.len-count.ensures.is
+follow_with-requires-clause-in_the_way c = few_tallied c.len-count.result _ 0 (let l = c.if-places-gt-COUNTED.false in omega (arith, l)) c.len-count.ensures.is
 
 pub follow_with-requires-clause-seen : goal.follow_with-requires-clause-seen
 follow_with-requires-clause-seen c = few_counts c.len-count.result _ (let l = c.if-places-gt-COUNTED.false in omega (arith, l)) c.len-count.ensures.is

@@ -1,7 +1,6 @@
-use Rattle.std.proofs.Common.{List, subst, take, arith, length}
+use Rattle.std.proofs.Common.{List, subst, take, arith}
 use Rattle.std.proofs.lemmas.Bool.{OnTrue_at}
 use Rattle.pst_scen.specs.declared.event.Event.{Event}
-use Rattle.pst_tallies.specs.Tallies.{counts_in}
 use Rattle.pst_by_rule.specs.Counted.{AreCounted}
 use Rattle.pst_by_rule.proofs.Onward.{whole_onward}
 use Rattle.pst_by_rule.proofs.Going.{followed_none, one_block_at, rest_at, trace_at, inside_at, some_at, followed_more}
@@ -41,7 +40,7 @@ followed-preserved c =
     let did = OnTrue_at c.if-not-follow_block.false (c.follow_block.ensures (take first es) v.counted) in
     let some = f.some in
     record {
-      counted = subst (λ (t : List Event). AreCounted c.args.plan.now t c.follow_block.new.started c.follow_block.new.ended (counts_in (length c.args.plan.now.groups) c.follow_block.new.awaited) c.follow_block.new.in_the_way c.args.next.now c.follow_block.new.holders)
+      counted = subst (λ (t : List Event). AreCounted c.args.plan.now t c.follow_block.new.started c.follow_block.new.ended c.follow_block.new.awaited c.follow_block.new.in_the_way c.args.next.now c.follow_block.new.holders)
           (trace_at es first count rest part r q f) did.1;
       followed = λ s plan. followed_more es first count rest part r q f s c.followed.blocks (v.followed s plan) (did.0 s plan);
       rest = rest_at es first count rest part r q f;

@@ -1,8 +1,7 @@
-use Rattle.std.proofs.Common.{◌++◌, List, sym, subst, length}
+use Rattle.std.proofs.Common.{◌++◌, List, sym, subst}
 use Rattle.pst_scen.specs.declared.event.Event.{Event}
 use Rattle.pst_scen.specs.Trace.{Block}
 use Rattle.pst_order.specs.Rule.{FollowsRule}
-use Rattle.pst_tallies.specs.Tallies.{counts_in}
 use Rattle.pst_by_rule.specs.Counted.{AreCounted}
 use Rattle.pst_by_rule.proofs.Onward.{block_starts, block_ends}
 use Rattle.pst_by_rule.proofs.Ruled.{starts_follow, end_is, on_true}
@@ -12,7 +11,7 @@ pub follow_starts-requires-clause-counted : goal.follow_starts-requires-clause-c
 follow_starts-requires-clause-counted c = let k = c.requires.counted in (k.0, c.args.ended.now, k.1)
 
 pub follow_end-requires : goal.follow_end-requires
-follow_end-requires c = let k = c.requires.counted in record { tally = c.requires.tally; counted = (k.0, c.args.next.now, k.1) }
+follow_end-requires c = let k = c.requires.counted in record { counted = (k.0, c.args.next.now, k.1) }
 
 pub returns-in-Start : goal.returns-in-Start
 returns-in-Start c =
@@ -34,7 +33,7 @@ returns-in-End c =
     on_true c.follow_end.result
     (λ q. (
       λ s plan. subst (λ (b : Block). FollowsRule s 16 t b) (sym block) q.0,
-      subst (λ (xs : List Event). AreCounted c.args.plan.now (t ++ xs) c.args.started.now c.follow_end.new.ended (counts_in (length c.args.plan.now.groups) c.follow_end.new.awaited) c.follow_end.new.in_the_way c.args.next.now c.follow_end.new.holders)
+      subst (λ (xs : List Event). AreCounted c.args.plan.now (t ++ xs) c.args.started.now c.follow_end.new.ended c.follow_end.new.awaited c.follow_end.new.in_the_way c.args.next.now c.follow_end.new.holders)
           (sym (end_is part c.in-End.act c.requires.one block)) q.1,
     ))
     (c.follow_end.ensures t c.args.next.now k)

@@ -1,7 +1,6 @@
 use Rattle.std.proofs.Common.{◌≡◌, ◌++◌, [], ◌<◌, ◌≤◌, ◌∙◌, List, length, map, take, sym, subst, arith, append-nil, take_all}
 use Rattle.std.proofs.lemmas.Bool.{OnTrue_at}
 use Rattle.pst_scen.specs.declared.event.Event.{Event}
-use Rattle.pst_tallies.specs.Tallies.{counts_in}
 use Rattle.pst_by_rule.specs.Blocks.{act_of, lane_of}
 use Rattle.pst_by_rule.specs.Counted.{AreCounted}
 use Rattle.pst_by_rule.proofs.Begun.{Begun, begun_none}
@@ -12,7 +11,7 @@ pub loop-i-init : goal.loop-i-init
 loop-i-init c = record {
   begun = λ t ended k. subst (λ v. Begun c.args.plan.now t v c.act_of-group.result c.act_of-group.result [] []) (sym (append-nil t))
       (begun_none c.args.plan.now t c.act_of-group.result c.len-count.ensures.numbered (let a = c.if-group-count.false in omega (arith, a, c.len-count.ensures.is)) (sym c.group.ensures.is ∙ c.if-group.false));
-  counted = λ t ended k. subst (λ v. AreCounted c.args.plan.now v c.args.started.now ended (counts_in (length c.args.plan.now.groups) c.args.awaited.now) c.args.in_the_way.now c.args.next.now c.args.holders.now) (sym (append-nil t)) k;
+  counted = λ t ended k. subst (λ v. AreCounted c.args.plan.now v c.args.started.now ended c.args.awaited.now c.args.in_the_way.now c.args.next.now c.args.holders.now) (sym (append-nil t)) k;
 }
 
 pub follow_start-requires-clause-counted : goal.follow_start-requires-clause-counted
@@ -36,7 +35,7 @@ loop-i-preserved c =
       counted = λ t ended k.
           let n = v.counted t ended k in
           let did = OnTrue_at c.if-not-follow_start.false (c.follow_start.ensures (t ++ take i part) ended c.args.next.now n) in
-          counted_next p t part c.act_of-group.result c.loop-i.act _ i _ l act_in (n.tied.next_is c.loop-i.act act_in) c.loop-i.started _ ended _ (counts_in (length c.args.plan.now.groups) c.args.awaited.now) _ c.loop-i.in_the_way _ c.args.next.now _ c.loop-i.holders _ did;
+          counted_next p t part c.act_of-group.result c.loop-i.act _ i _ l act_in (n.tied.next_is c.loop-i.act act_in) c.loop-i.started _ ended _ c.args.awaited.now _ c.loop-i.in_the_way _ c.args.next.now _ c.loop-i.holders _ did;
     }
 
 pub returns : goal.returns
@@ -51,5 +50,5 @@ returns c =
     let past : length p.groups ≤ c.loop-i.act = let a = c.if-act-count-2.false in omega (arith, a, c.len-count.ensures.is) in (
       starts_all p t (t ++ take i part) part c.act_of-group.result c.loop-i.act group_in (sym c.group.ensures.is ∙ c.if-group.false) past
           (subst (λ (xs : List Event). Begun p t (t ++ take i part) c.act_of-group.result c.loop-i.act (map act_of xs) (map lane_of xs)) all (v.begun t ended k)),
-      subst (λ (xs : List Event). AreCounted p (t ++ xs) c.loop-i.started ended (counts_in (length c.args.plan.now.groups) c.args.awaited.now) c.loop-i.in_the_way c.args.next.now c.loop-i.holders) all (v.counted t ended k),
+      subst (λ (xs : List Event). AreCounted p (t ++ xs) c.loop-i.started ended c.args.awaited.now c.loop-i.in_the_way c.args.next.now c.loop-i.holders) all (v.counted t ended k),
     )

@@ -3,7 +3,7 @@ use Rattle.std.specs.Prelude.{IsTrue, nat_eq, ◌↔◌}
 use Rattle.std.proofs.lemmas.Bool.{eqb-true, eq-eqb}
 use Rattle.pst_tallies.specs.Tallies.{count_of, counts_in}
 use Rattle.pst_tallies.proofs.Counts.{count_at}
-use Rattle.pst_tallies.proofs.tallies.awaits_none.Goals as goal
+use Rattle.pst_tallies.proofs.tallies.is_none.Goals as goal
 
 pub returns : goal.returns
 returns c =
