@@ -7,6 +7,7 @@ import subprocess
 
 TOP = pathlib.Path(__file__).resolve().parent.parent.parent
 TOOLS = TOP / "tools"
+OTHERS = ("lanes=", "over=", "space=", "base=", "first=", "count=")
 LARGE = 16384
 LARGE_SOURCE = """// 16,384 actions: blocks are written and read by copies that lock channels of a pool.
 buffer block_b { rand bit[8] in [16..64] size; }
@@ -118,11 +119,11 @@ class Tests:
             self.is_true(f"the example {name} runs", ran.status in (0, 5), f"status {ran.status}")
 
     def words(self, name):
-        """The words of an example behind its command, from the top of the repository."""
+        """The words of an example with which it is run, from the top of the repository: those that other commands have aren't among them."""
         if name == "device":
             return ["root=pss_top::entry", "infer=6", str(self.source(name))]
         words = (TOP / "examples" / f"{name}.out").read_text().split("\n", 1)[0].split()[3:]
-        return [word for word in words if not word.startswith("lanes=")]
+        return [word for word in words if not word.startswith(OTHERS)]
 
     def source(self, name):
         """The source of an example; `device` has all that the examples have, in one."""
