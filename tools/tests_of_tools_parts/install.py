@@ -99,7 +99,7 @@ try 'pstim run ro'
 try 'pstim run examples/dma.pss root=dma'
 try 'pstim run examples/dma.pss root=dma_c::copy_o'
 try 'pstim check trace=examples/dma.o'
-try 'pstim run examples/dm'
+try 'pstim run examples/dma.'
 """
 ZSH = """
 fpath=(COMPLETIONS $fpath)
